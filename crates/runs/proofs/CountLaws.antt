@@ -1,0 +1,146 @@
+-- How many runs an edit leaves: an annotation or an insertion at most two more, a deletion at most one more.
+use Prim.Native.Nat.{ℕ, zero, suc, _+_, _-_, _≤_, _<_, min, max}
+use mathlib.Core.Path.{_≡_, refl, sym, ap, _∙_}
+use mathlib.Core.List.{List, [], _∷_}
+use native.Mathlib.Omega.{arith}
+use native.Mathlib.Decide.{decLe}
+use lib.ListN.{length}
+use Rattle.runs.specs.Runs.{Run, run, total, pushRun, clip, copyRuns, adding}
+use Rattle.runs.specs.Edits.{part, altered, deleted, inserted}
+use Rattle.runs.proofs.Laws.{push-by}
+
+-- 1 where there is one at least, else 0
+ind : ℕ → ℕ
+ind x = min 1 x
+
+-- how many runs of rs have a position in from .. to
+touched : ℕ → ℕ → List Run → ℕ
+touched from to [] = 0
+touched from to (r ∷ rs) = touched from to rs + ind (clip from to (total rs) (r .len))
+
+length-push′ : (rs : List Run) (l s : ℕ) → length (pushRun rs l s) ≤ length rs + ind l
+unfolding ind
+length-push′ rs l s =
+    push-by (λ a b. length b ≤ length a + min 1 l) l s (λ a z. omega arith) (λ r a nz e. omega arith) (λ a nz o. omega arith) rs
+
+copied-runs : (f : ℕ → ℕ) (base : List Run) (from to : ℕ) (rs : List Run) → length (copyRuns f base from to rs) ≤ length base + touched from to rs
+unfolding copyRuns touched
+copied-runs f base from to [] = omega arith
+copied-runs f base from to (r ∷ rs) =
+    omega (arith, copied-runs f base from to rs, length-push′ (copyRuns f base from to rs) (clip from to (total rs) (r .len)) (f (r .set)))
+
+touched-all : (from to : ℕ) (rs : List Run) → touched from to rs ≤ length rs
+unfolding touched ind
+touched-all from to [] = omega arith
+touched-all from to (r ∷ rs) = omega (arith, touched-all from to rs, one-at-most (clip from to (total rs) (r .len)))
+  where
+    one-at-most : (x : ℕ) → min 1 x ≤ 1
+    one-at-most x = omega arith
+
+-- a cut at mid of one run
+module _ (from mid to t l : ℕ) (up : from ≤ mid) (up′ : mid ≤ to) where
+  -- the run ends at mid or before, starts at mid or after, or has mid inside
+  cut-left : t + l ≤ mid → ind (clip from mid t l) + ind (clip mid to t l) + ind (t - mid) ≤ ind (clip from to t l) + ind (t + l - mid)
+  unfolding ind
+  cut-left h =
+      let a : min mid (t + l) ≡ min to (t + l) = omega arith in
+      let b : min to (t + l) - max mid t ≡ 0 = omega arith in
+      let z : t - mid ≡ 0 = omega arith in
+      rw (b, z, a) (go (min to (t + l) - max from t) (t + l - mid))
+    where
+      go : (x y : ℕ) → min 1 x + min 1 0 + min 1 0 ≤ min 1 x + min 1 y
+      go x y = omega arith
+
+  cut-right : mid ≤ t → ind (clip from mid t l) + ind (clip mid to t l) + ind (t - mid) ≤ ind (clip from to t l) + ind (t + l - mid)
+  unfolding ind
+  cut-right h =
+      let a : min mid (t + l) - max from t ≡ 0 = omega arith in
+      let b : max mid t ≡ max from t = omega arith in
+      rw (a, b) (go (min to (t + l) - max from t) (t - mid) (t + l - mid) (omega arith))
+    where
+      go : (x y z : ℕ) → y ≤ z → min 1 0 + min 1 x + min 1 y ≤ min 1 x + min 1 z
+      go x y z g = omega arith
+
+  cut-inside : t < mid → mid < t + l → ind (clip from mid t l) + ind (clip mid to t l) + ind (t - mid) ≤ ind (clip from to t l) + ind (t + l - mid)
+  unfolding ind
+  cut-inside g h =
+      go (min mid (t + l) - max from t) (min to (t + l) - max mid t) (t - mid) (min to (t + l) - max from t) (t + l - mid) (omega arith) (omega arith) (omega arith)
+    where
+      go : (x y z u v : ℕ) → x ≤ u → z ≡ 0 → 0 < v → min 1 x + min 1 y + min 1 z ≤ min 1 u + min 1 v
+      go x y z u v p q r = omega arith
+
+  cut : ind (clip from mid t l) + ind (clip mid to t l) + ind (t - mid) ≤ ind (clip from to t l) + ind (t + l - mid)
+  cut =
+      elim (decLe (t + l) mid) [
+        | yes h ↦ cut-left h
+        | no h ↦ elim (decLe mid t) [ yes g ↦ cut-right g | no g ↦ cut-inside (omega arith) (omega arith) ]
+      ]
+
+-- a cut divides one run at most
+touched-cut : (from mid to : ℕ) → from ≤ mid → mid ≤ to → (rs : List Run)
+    → touched from mid rs + touched mid to rs ≤ touched from to rs + ind (total rs - mid)
+unfolding touched total
+touched-cut from mid to up up′ [] = omega arith
+touched-cut from mid to up up′ (r ∷ rs) =
+    omega (arith, touched-cut from mid to up up′ rs, cut from mid to (total rs) (r .len) up up′)
+
+ind-mono : (x y : ℕ) → x ≤ y → ind x ≤ ind y
+unfolding ind
+ind-mono x y h = omega arith
+
+touched-later : (a b to : ℕ) → a ≤ b → (rs : List Run) → touched b to rs ≤ touched a to rs
+unfolding touched
+touched-later a b to up [] = omega arith
+touched-later a b to up (r ∷ rs) =
+    omega (arith, touched-later a b to up rs, ind-mono (clip b to (total rs) (r .len)) (clip a to (total rs) (r .len)) (omega arith))
+
+-- ---- the edits
+most-one : (x : ℕ) → ind x ≤ 1
+unfolding ind
+most-one x = omega arith
+
+module _ (rs : List Run) (a b : ℕ) (up : a ≤ b) (fits : b ≤ total rs) where
+  pub altered-runs : (f : ℕ → ℕ) → length (altered rs a b f) ≤ length rs + 2
+  unfolding altered
+  altered-runs f =
+      omega (
+        arith,
+        copied-runs (adding 0) (copyRuns f (part [] 0 a rs) a b rs) b (total rs) rs,
+        copied-runs f (part [] 0 a rs) a b rs,
+        copied-runs (adding 0) [] 0 a rs,
+        touched-cut 0 a (total rs) (omega arith) (omega arith) rs,
+        touched-cut a b (total rs) up fits rs,
+        touched-all 0 (total rs) rs,
+        most-one (total rs - a),
+        most-one (total rs - b),
+      )
+
+  -- a deletion
+  touched-less : touched 0 a rs + touched b (total rs) rs ≤ length rs + 1
+  touched-less =
+      omega (
+        arith,
+        touched-cut 0 a (total rs) (omega arith) (omega arith) rs,
+        touched-later a b (total rs) up rs,
+        touched-all 0 (total rs) rs,
+        most-one (total rs - a),
+      )
+
+  pub deleted-runs : length (deleted rs a b) ≤ length rs + 1
+  unfolding deleted
+  deleted-runs =
+      omega (arith, copied-runs (adding 0) (part [] 0 a rs) b (total rs) rs, copied-runs (adding 0) [] 0 a rs, touched-less)
+
+pub inserted-runs : (rs : List Run) (pos l s : ℕ) → pos ≤ total rs → length (inserted rs pos l s) ≤ length rs + 2
+unfolding inserted
+inserted-runs rs pos l s h =
+    omega (
+      arith,
+      copied-runs (adding 0) (pushRun (part [] 0 pos rs) l s) pos (total rs) rs,
+      length-push′ (part [] 0 pos rs) l s,
+      copied-runs (adding 0) [] 0 pos rs,
+      touched-cut 0 pos (total rs) (omega arith) h rs,
+      touched-all 0 (total rs) rs,
+      most-one (total rs - pos),
+      most-one l,
+    )

@@ -1,0 +1,185 @@
+-- The laws of `specs/Edits.antt`: how many positions an edit leaves, the set at each, the form, and the number of runs.
+use Prim.Native.Nat.{ℕ, zero, suc, _+_, _-_, _≤_, _<_, min, max}
+use mathlib.Core.Path.{_≡_, refl, sym, ap, _∙_, subst}
+use mathlib.Core.List.{List, [], _∷_}
+use native.Mathlib.Omega.{arith}
+use native.Mathlib.Decide.{decLt, decLe}
+use lib.ListN.{length}
+use lib.Bits.{bitOr, bitAnd, or-zero-r, and-zero-r}
+use native.Mathlib.Nat.{sub-zero}
+use Rattle.runs.specs.Runs.{Run, total, setAt, Canon, pushRun, clip, copyRuns, changing, adding, runs, CanCopy, CanPush}
+use Rattle.runs.specs.Edits.{part, altered, deleted, inserted, CanEdit}
+use Rattle.runs.proofs.Laws.{total-push, push-before, push-at, canon-push, push-longer, total-copy, copy-before, copy-at, canon-copy, length-runs}
+
+pub add-is : (bits s : ℕ) → adding bits s ≡ bitOr s bits
+unfolding changing
+add-is bits s = rw and-zero-r (sub-zero (bitOr s bits))
+
+pub add-none : (s : ℕ) → adding 0 s ≡ s
+add-none s = add-is 0 s ∙ or-zero-r s
+
+pub drop-is : (drop s : ℕ) → changing 0 drop s ≡ s - bitAnd s drop
+unfolding changing
+drop-is drop s = rw or-zero-r
+
+pub copy-longer : (f : ℕ → ℕ) (base : List Run) (from to : ℕ) (rs : List Run) → length base ≤ length (copyRuns f base from to rs)
+unfolding copyRuns
+copy-longer f base from to [] = omega arith
+copy-longer f base from to (r ∷ rs) =
+    omega (arith, copy-longer f base from to rs, push-longer (copyRuns f base from to rs) (clip from to (total rs) (r .len)) (f (r .set)))
+
+-- base is no longer than out, and holds no more
+pub record Inside (base out : List Run) : Type 0 where
+  pub longer : length base ≤ length out
+  pub holds : total base ≤ total out
+
+pub inside-self : (out : List Run) → Inside out out
+inside-self out = omega arith
+
+pub inside-copy : (f : ℕ → ℕ) {base out : List Run} (from to : ℕ) (rs : List Run) → Inside (copyRuns f base from to rs) out → Inside base out
+inside-copy f {base} from to rs h = omega (arith, copy-longer f base from to rs, total-copy f base from to rs)
+
+pub inside-push : {base out : List Run} (l s : ℕ) → Inside (pushRun base l s) out → Inside base out
+inside-push {base} l s h = omega (arith, push-longer base l s, total-push base l s)
+
+-- what an edit asks is enough for each of its copies and pushes
+module _ {out : List Run} {olens₀ osets₀ lens sets : List ℕ} {m all : ℕ} (can : CanEdit out olens₀ osets₀ lens sets m all)
+    (olens osets : List ℕ) (n : ℕ) (l : length olens ≡ length olens₀) (l′ : length osets ≡ length osets₀) (base : List Run) (e : runs olens osets n ≡ base) where
+  pub can-copy : (f : ℕ → ℕ) (from to : ℕ) → Inside (copyRuns f base from to (runs lens sets m)) out → CanCopy f olens osets n lens sets m from to
+  can-copy f from to h =
+      record {
+        even = omega arith;
+        lens-m = can .lens-m;
+        sets-m = can .sets-m;
+        source = omega arith;
+        room = rw e (omega arith);
+        sum = rw e (omega arith);
+      }
+
+  pub can-push : (k s : ℕ) → Inside (pushRun base k s) out → CanPush olens osets n k s
+  can-push k s h =
+      record {
+        even = omega arith;
+        count = omega (arith, push-longer base k s, ap length e, length-runs olens osets n);
+        room = rw e (omega arith);
+        sum = rw e (omega (arith, total-push base k s));
+      }
+
+-- position r of the source stands at position q of the copy
+pub copy-to : (f : ℕ → ℕ) (base : List Run) (from to : ℕ) (rs : List Run) (q r : ℕ) → q + from ≡ total base + r → from ≤ r → r < to → r < total rs
+    → setAt (copyRuns f base from to rs) q ≡ f (setAt rs r)
+copy-to f base from to rs q r e l g h =
+    let i : q ≡ total base + (r - from) = omega arith in
+    let j : from + (r - from) ≡ r = omega arith in
+    ap (setAt (copyRuns f base from to rs)) i ∙ copy-at f base from to rs (r - from) (omega arith) (omega arith) ∙ ap (λ (x : ℕ). f (setAt rs x)) j
+
+pub part-to : (base : List Run) (from to : ℕ) (rs : List Run) (q r : ℕ) → q + from ≡ total base + r → from ≤ r → r < to → r < total rs
+    → setAt (part base from to rs) q ≡ setAt rs r
+part-to base from to rs q r e l g h = copy-to (adding 0) base from to rs q r e l g h ∙ add-none (setAt rs r)
+
+-- the positions 0 .. a, alone
+pub total-front : (a : ℕ) (rs : List Run) → a ≤ total rs → total (part [] 0 a rs) ≡ a
+unfolding total
+total-front a rs h = omega (arith, total-copy (adding 0) [] 0 a rs)
+
+pub front-at : (a : ℕ) (rs : List Run) (p : ℕ) → p < a → a ≤ total rs → setAt (part [] 0 a rs) p ≡ setAt rs p
+unfolding total
+front-at a rs p h g = part-to [] 0 a rs p p (omega arith) (omega arith) h (omega arith)
+
+module _ (rs : List Run) (a b : ℕ) (f : ℕ → ℕ) (up : a ≤ b) (fits : b ≤ total rs) where
+  -- the parts before b
+  front : List Run
+  front = part [] 0 a rs
+
+  both : List Run
+  unfolding front
+  both = copyRuns f front a b rs
+
+  total-both : total both ≡ b
+  unfolding both front
+  total-both = omega (arith, total-copy f front a b rs, total-front a rs (omega arith))
+
+  pub total-altered : total (altered rs a b f) ≡ total rs
+  unfolding altered both front
+  total-altered = omega (arith, total-copy (adding 0) both b (total rs) rs, total-both)
+
+  pub altered-in : (p : ℕ) → a ≤ p → p < b → setAt (altered rs a b f) p ≡ f (setAt rs p)
+  unfolding altered both front
+  altered-in p g h =
+      copy-before (adding 0) both b (total rs) rs p (omega (arith, total-both))
+      ∙ copy-to f front a b rs p p (omega (arith, total-front a rs (omega arith))) g h (omega arith)
+
+  pub altered-out : (p : ℕ) → (a ≤ p → p < b → ⊥) → p < total rs → setAt (altered rs a b f) p ≡ setAt rs p
+  unfolding altered both front
+  altered-out p g h =
+      elim (decLt p a) [
+        | yes k ↦
+            copy-before (adding 0) both b (total rs) rs p (omega (arith, total-both))
+            ∙ copy-before f front a b rs p (omega (arith, total-front a rs (omega arith)))
+            ∙ front-at a rs p k (omega arith)
+        | no k ↦
+            elim (decLt p b) [
+              | yes l ↦ absurd (g (omega arith) l)
+              | no l ↦ part-to both b (total rs) rs p p (omega (arith, total-both)) (omega arith) h h
+            ]
+      ]
+
+pub canon-altered : (rs : List Run) (a b : ℕ) (f : ℕ → ℕ) → Canon (altered rs a b f)
+unfolding altered Canon
+canon-altered rs a b f =
+    canon-copy (adding 0) (copyRuns f (part [] 0 a rs) a b rs) b (total rs) rs
+    (canon-copy f (part [] 0 a rs) a b rs (canon-copy (adding 0) [] 0 a rs tt))
+
+-- ---- a deletion
+module _ (rs : List Run) (a b : ℕ) (up : a ≤ b) (fits : b ≤ total rs) where
+  pub total-deleted : total (deleted rs a b) ≡ total rs - (b - a)
+  unfolding deleted
+  total-deleted = omega (arith, total-copy (adding 0) (part [] 0 a rs) b (total rs) rs, total-front a rs (omega arith))
+
+  pub deleted-before : (p : ℕ) → p < a → setAt (deleted rs a b) p ≡ setAt rs p
+  unfolding deleted
+  deleted-before p h =
+      copy-before (adding 0) (part [] 0 a rs) b (total rs) rs p (omega (arith, total-front a rs (omega arith))) ∙ front-at a rs p h (omega arith)
+
+  pub deleted-after : (p : ℕ) → b ≤ p → p < total rs → setAt (deleted rs a b) (p - (b - a)) ≡ setAt rs p
+  unfolding deleted
+  deleted-after p h g = part-to (part [] 0 a rs) b (total rs) rs (p - (b - a)) p (omega (arith, total-front a rs (omega arith))) h g g
+
+-- ---- an insertion
+module _ (rs : List Run) (pos l s : ℕ) (fits : pos ≤ total rs) where
+  grown : List Run
+  grown = pushRun (part [] 0 pos rs) l s
+
+  total-grown : total grown ≡ pos + l
+  unfolding grown
+  total-grown = omega (arith, total-push (part [] 0 pos rs) l s, total-front pos rs fits)
+
+  pub total-inserted : total (inserted rs pos l s) ≡ total rs + l
+  unfolding inserted grown
+  total-inserted = omega (arith, total-copy (adding 0) grown pos (total rs) rs, total-grown)
+
+  pub inserted-before : (p : ℕ) → p < pos → setAt (inserted rs pos l s) p ≡ setAt rs p
+  unfolding inserted grown
+  inserted-before p h =
+      copy-before (adding 0) grown pos (total rs) rs p (omega (arith, total-grown))
+      ∙ push-before (part [] 0 pos rs) l s p (omega (arith, total-front pos rs fits))
+      ∙ front-at pos rs p h fits
+
+  pub inserted-in : (p : ℕ) → pos ≤ p → p < pos + l → setAt (inserted rs pos l s) p ≡ s
+  unfolding inserted grown
+  inserted-in p g h =
+      copy-before (adding 0) grown pos (total rs) rs p (omega (arith, total-grown))
+      ∙ push-at (part [] 0 pos rs) l s p (omega (arith, total-front pos rs fits)) (omega (arith, total-front pos rs fits))
+
+  pub inserted-after : (p : ℕ) → pos ≤ p → p < total rs → setAt (inserted rs pos l s) (p + l) ≡ setAt rs p
+  unfolding inserted grown
+  inserted-after p g h = part-to grown pos (total rs) rs (p + l) p (omega (arith, total-grown)) g h h
+
+pub canon-deleted : (rs : List Run) (a b : ℕ) → Canon (deleted rs a b)
+unfolding deleted Canon
+canon-deleted rs a b = canon-copy (adding 0) (part [] 0 a rs) b (total rs) rs (canon-copy (adding 0) [] 0 a rs tt)
+
+pub canon-inserted : (rs : List Run) (pos l s : ℕ) → Canon (inserted rs pos l s)
+unfolding inserted Canon
+canon-inserted rs pos l s =
+    canon-copy (adding 0) (pushRun (part [] 0 pos rs) l s) pos (total rs) rs (canon-push (part [] 0 pos rs) l s (canon-copy (adding 0) [] 0 pos rs tt))

@@ -1,0 +1,368 @@
+-- The laws of `specs/Runs.antt`.
+use Prim.Native.Nat.{ℕ, zero, suc, _+_, _-_, _≤_, _<_, _^_, min, max}
+use mathlib.Core.Path.{_≡_, refl, sym, ap, _∙_, subst}
+use mathlib.Core.Bool.{Bool, true, false, cond}
+use mathlib.Core.List.{List, [], _∷_}
+use native.Mathlib.Omega.{arith}
+use native.Mathlib.Decide.{decLt, decLe, ℕ-discrete}
+use native.Mathlib.Numerals.{add-one, sub-one}
+use lib.ListN.{length, getD, set}
+use lib.Seq.{getD-set-same, getD-set-other}
+use lib.Dec.{ltb, eqb}
+use borrow.Author.Tests.{lt-ltb, le-ltb, eq-eqb, ne-eqb, ltb-true, ltb-false, eqb-true, eqb-false}
+use Rattle.runs.specs.Runs.{Run, run, runs, total, setAt, Other, Canon, joinRun, pushRun, clip, copyRuns, sums, Found, Spare}
+
+-- ---- the three forms of a push
+pub push-none : (rs : List Run) (l s : ℕ) → l ≡ 0 → pushRun rs l s ≡ rs
+unfolding pushRun
+push-none rs l s e = simp (eq-eqb l 0 e)
+
+pub push-join : (r : Run) (rs : List Run) (l s : ℕ) → (l ≡ 0 → ⊥) → r .set ≡ s → pushRun (r ∷ rs) l s ≡ run (r .len + l) s ∷ rs
+unfolding pushRun joinRun
+push-join r rs l s h e = simp (ne-eqb l 0 h, eq-eqb (r .set) s e)
+
+pub push-new : (rs : List Run) (l s : ℕ) → (l ≡ 0 → ⊥) → Other s rs → pushRun rs l s ≡ run l s ∷ rs
+unfolding pushRun joinRun Other
+push-new [] l s h o = simp (ne-eqb l 0 h)
+push-new (r ∷ rs) l s h o = simp (ne-eqb l 0 h, ne-eqb (r .set) s o)
+
+-- what holds of each of the three forms holds of a push
+module _ (P : List Run → List Run → Type 0) (l s : ℕ) (none : (rs : List Run) → l ≡ 0 → P rs rs)
+    (join : (r : Run) (rs : List Run) → (l ≡ 0 → ⊥) → r .set ≡ s → P (r ∷ rs) (run (r .len + l) s ∷ rs))
+    (new : (rs : List Run) → (l ≡ 0 → ⊥) → Other s rs → P rs (run l s ∷ rs)) where
+  push-more : (rs : List Run) → (l ≡ 0 → ⊥) → P rs (pushRun rs l s)
+  unfolding Other
+  push-more [] nz = rw (push-new [] l s nz tt) (new [] nz tt)
+  push-more (r ∷ rs) nz =
+      elim (ℕ-discrete (r .set) s) [
+        | yes e ↦ rw (push-join r rs l s nz e) (join r rs nz e)
+        | no d ↦ rw (push-new (r ∷ rs) l s nz d) (new (r ∷ rs) nz d)
+      ]
+
+  pub push-by : (rs : List Run) → P rs (pushRun rs l s)
+  push-by rs = elim (ℕ-discrete l 0) [ yes z ↦ rw (push-none rs l s z) (none rs z) | no nz ↦ push-more rs nz ]
+
+-- ---- the set at a position, by where the position is
+pub at-in : (r : Run) (rs : List Run) (p : ℕ) → p < total rs → setAt (r ∷ rs) p ≡ setAt rs p
+unfolding setAt
+at-in r rs p h = simp (lt-ltb p (total rs) h)
+
+pub at-last : (r : Run) (rs : List Run) (p : ℕ) → total rs ≤ p → p < total rs + r .len → setAt (r ∷ rs) p ≡ r .set
+unfolding setAt
+at-last r rs p g h = simp (le-ltb p (total rs) g, lt-ltb p (total rs + r .len) h)
+
+pub at-past : (rs : List Run) (p : ℕ) → total rs ≤ p → setAt rs p ≡ 0
+unfolding setAt total
+at-past [] p h = refl
+at-past (r ∷ rs) p h = simp (le-ltb p (total rs) (omega arith), le-ltb p (total rs + r .len) h)
+
+-- ---- a push: how many positions, the set at each, the form, the number of runs
+pub total-push : (rs : List Run) (l s : ℕ) → total (pushRun rs l s) ≡ total rs + l
+unfolding total
+total-push rs l s =
+    push-by (λ a b. total b ≡ total a + l) l s (λ a z. omega arith) (λ r a nz e. omega arith) (λ a nz o. omega arith) rs
+
+pub push-before : (rs : List Run) (l s p : ℕ) → p < total rs → setAt (pushRun rs l s) p ≡ setAt rs p
+unfolding total
+push-before rs l s p h =
+    push-by (λ a b. p < total a → setAt b p ≡ setAt a p) l s (λ a z g. refl)
+    (λ r a nz e g.
+    elim (decLt p (total a)) [
+      | yes k ↦ at-in _ a p k ∙ sym (at-in r a p k)
+      | no k ↦ at-last (run (r .len + l) s) a p (omega arith) (omega arith) ∙ sym e ∙ sym (at-last r a p (omega arith) g)
+    ])
+    (λ a nz o g. at-in _ a p g)
+    rs
+    h
+
+pub push-at : (rs : List Run) (l s p : ℕ) → total rs ≤ p → p < total rs + l → setAt (pushRun rs l s) p ≡ s
+unfolding total
+push-at rs l s p g h =
+    push-by (λ a b. total a ≤ p → p < total a + l → setAt b p ≡ s) l s (λ a z x y. absurd (omega arith))
+    (λ r a nz e x y. at-last (run (r .len + l) s) a p (omega arith) (omega arith))
+    (λ a nz o x y. at-last (run l s) a p x y)
+    rs
+    g
+    h
+
+pub canon-push : (rs : List Run) (l s : ℕ) → Canon rs → Canon (pushRun rs l s)
+unfolding Canon
+canon-push rs l s h =
+    push-by (λ a b. Canon a → Canon b) l s (λ a z c. c)
+    (λ r a nz e c. (omega arith, subst (λ (x : ℕ). Other x a) e (c .1), c .2))
+    (λ a nz o c. (omega arith, o, c))
+    rs
+    h
+
+pub length-push : (rs : List Run) (l s : ℕ) → length (pushRun rs l s) ≤ length rs + 1
+length-push rs l s =
+    push-by (λ a b. length b ≤ length a + 1) l s (λ a z. omega arith) (λ r a nz e. omega arith) (λ a nz o. omega arith) rs
+
+pub push-longer : (rs : List Run) (l s : ℕ) → length rs ≤ length (pushRun rs l s)
+push-longer rs l s =
+    push-by (λ a b. length a ≤ length b) l s (λ a z. omega arith) (λ r a nz e. omega arith) (λ a nz o. omega arith) rs
+
+-- the set at each position after a push, in one equation
+pub at-push : (rs : List Run) (l s p : ℕ)
+    → setAt (pushRun rs l s) p ≡ cond (ltb p (total rs)) (setAt rs p) (cond (ltb p (total rs + l)) s 0)
+at-push rs l s p =
+    elim (decLt p (total rs)) [
+      | yes h ↦ simp (lt-ltb p (total rs) h) (push-before rs l s p h)
+      | no h ↦
+          elim (decLt p (total rs + l)) [
+            | yes k ↦ simp (le-ltb p (total rs) (omega arith), lt-ltb p (total rs + l) k) (push-at rs l s p (omega arith) k)
+            | no k ↦
+                simp (le-ltb p (total rs) (omega arith), le-ltb p (total rs + l) (omega arith))
+                (at-past (pushRun rs l s) p (omega (arith, total-push rs l s)))
+          ]
+    ]
+
+-- ---- the runs of two parallel lists
+pub length-runs : (lens sets : List ℕ) (n : ℕ) → length (runs lens sets n) ≡ n
+unfolding runs
+length-runs lens sets zero = refl
+length-runs lens sets (suc n) = ap suc (length-runs lens sets n)
+
+pub runs-last : (lens sets : List ℕ) (n : ℕ) → 0 < n
+    → runs lens sets n ≡ run (getD lens (n - 1) 0) (getD sets (n - 1) 0) ∷ runs lens sets (n - 1)
+unfolding runs
+runs-last lens sets zero h = absurd (omega arith)
+runs-last lens sets (suc n) h = rw sub-one refl
+
+-- an entry from n on is in none of the first n runs
+pub runs-set-len : (lens sets : List ℕ) (n i v : ℕ) → n ≤ i → runs (set lens i v) sets n ≡ runs lens sets n
+unfolding runs
+runs-set-len lens sets zero i v h = refl
+runs-set-len lens sets (suc n) i v h =
+    let e = runs-set-len lens sets n i v (omega arith) in
+    let g = getD-set-other lens i n v 0 (omega arith) in
+    cc
+
+pub runs-set-set : (lens sets : List ℕ) (n i v : ℕ) → n ≤ i → runs lens (set sets i v) n ≡ runs lens sets n
+unfolding runs
+runs-set-set lens sets zero i v h = refl
+runs-set-set lens sets (suc n) i v h =
+    let e = runs-set-set lens sets n i v (omega arith) in
+    let g = getD-set-other sets i n v 0 (omega arith) in
+    cc
+
+-- ---- a copy: how many positions, the set at each, the form, the number of runs
+module _ (f : ℕ → ℕ) (base : List Run) (from to : ℕ) where
+  pub total-copy : (src : List Run) → total (copyRuns f base from to src) ≡ total base + (min to (total src) - from)
+  unfolding copyRuns total
+  total-copy [] = omega arith
+  total-copy (r ∷ rs) =
+      omega
+      (arith, total-push (copyRuns f base from to rs) (clip from to (total rs) (r .len)) (f (r .set)), total-copy rs)
+
+  pub copy-before : (src : List Run) (p : ℕ) → p < total base → setAt (copyRuns f base from to src) p ≡ setAt base p
+  unfolding copyRuns
+  copy-before [] p h = refl
+  copy-before (r ∷ rs) p h =
+      push-before (copyRuns f base from to rs) (clip from to (total rs) (r .len)) (f (r .set)) p (omega (arith, total-copy rs)) ∙ copy-before rs p h
+
+  pub copy-at : (src : List Run) (p : ℕ) → from + p < to → from + p < total src
+      → setAt (copyRuns f base from to src) (total base + p) ≡ f (setAt src (from + p))
+  unfolding copyRuns total
+  copy-at [] p g h = absurd (omega arith)
+  copy-at (r ∷ rs) p g h =
+      let t = total-copy rs in
+      elim (decLt (from + p) (total rs)) [
+        | yes k ↦
+            push-before (copyRuns f base from to rs) (clip from to (total rs) (r .len)) (f (r .set)) (total base + p) (omega arith) ∙ copy-at rs p g k
+            ∙ ap f (sym (at-in r rs (from + p) k))
+        | no k ↦
+            push-at (copyRuns f base from to rs) (clip from to (total rs) (r .len)) (f (r .set)) (total base + p) (omega arith) (omega arith)
+            ∙ ap f (sym (at-last r rs (from + p) (omega arith) h))
+      ]
+
+  pub canon-copy : (src : List Run) → Canon base → Canon (copyRuns f base from to src)
+  unfolding copyRuns
+  canon-copy [] h = h
+  canon-copy (r ∷ rs) h = canon-push (copyRuns f base from to rs) (clip from to (total rs) (r .len)) (f (r .set)) (canon-copy rs h)
+
+  pub length-copy : (src : List Run) → length (copyRuns f base from to src) ≤ length base + length src
+  unfolding copyRuns
+  length-copy [] = omega arith
+  length-copy (r ∷ rs) =
+      omega (arith, length-push (copyRuns f base from to rs) (clip from to (total rs) (r .len)) (f (r .set)), length-copy rs)
+
+-- ---- a canonical list is determined by its meaning
+no-less : (x y : Run) (xs ys : List Run) → Canon (y ∷ ys) → total xs + x .len ≡ total ys + y .len → x .set ≡ y .set
+    → ((p : ℕ) → setAt (x ∷ xs) p ≡ setAt (y ∷ ys) p) → total xs < total ys → ⊥
+unfolding Canon Other total
+no-less x y xs [] c t e h k = omega arith
+no-less x y xs (z ∷ zs) c t e h k =
+    let p = total zs + z .len - 1 in
+    let pos = c .2 .0 in
+    c .1 (sym (at-last z zs p (omega arith) (omega arith)) ∙ sym (at-in y (z ∷ zs) p (omega arith)) ∙ sym (h p) ∙ at-last x xs p (omega arith) (omega arith) ∙ e)
+
+same-run : (x y : Run) (xs ys : List Run) → x .len ≡ y .len → x .set ≡ y .set → xs ≡ ys → x ∷ xs ≡ y ∷ ys
+same-run x y xs ys l s e = λ i. record { len = l i; set = s i } ∷ e i
+
+-- the runs before the last mean what the whole means below their total
+rest-at : (x y : Run) (xs ys : List Run) → total xs ≡ total ys → ((p : ℕ) → setAt (x ∷ xs) p ≡ setAt (y ∷ ys) p) → (p : ℕ) → setAt xs p ≡ setAt ys p
+rest-at x y xs ys t h p =
+    elim (decLt p (total xs)) [
+      | yes k ↦ sym (at-in x xs p k) ∙ h p ∙ at-in y ys p (omega arith)
+      | no k ↦ at-past xs p (omega arith) ∙ sym (at-past ys p (omega arith))
+    ]
+
+pub unique : (xs ys : List Run) → Canon xs → Canon ys → total xs ≡ total ys → ((p : ℕ) → setAt xs p ≡ setAt ys p) → xs ≡ ys
+unfolding Canon total
+unique [] [] c d t h = refl
+unique [] (y ∷ ys) c d t h = absurd (omega arith)
+unique (x ∷ xs) [] c d t h = absurd (omega arith)
+unique (x ∷ xs) (y ∷ ys) c d t h =
+    let q = total xs + x .len - 1 in
+    let e : x .set ≡ y .set = sym (at-last x xs q (omega arith) (omega arith)) ∙ h q ∙ at-last y ys q (omega arith) (omega arith) in
+    let n : total xs < total ys → ⊥ = no-less x y xs ys d t e h in
+    let m : total ys < total xs → ⊥ = no-less y x ys xs c (sym t) (sym e) (λ p. sym (h p)) in
+    same-run x y xs ys (omega arith) e (unique xs ys (c .2) (d .2) (omega arith) (rest-at x y xs ys (omega arith) h))
+
+-- ---- what the stores of a push do to the runs of two parallel lists
+module _ (lens sets : List ℕ) (n l s : ℕ) where
+  pub push-room : (length (pushRun (runs lens sets n) l s) ≤ length lens) → n ≤ length lens
+  push-room h = omega (arith, push-longer (runs lens sets n) l s, length-runs lens sets n)
+
+  pub new-room : (length (pushRun (runs lens sets n) l s) ≤ length lens) → (l ≡ 0 → ⊥) → Other s (runs lens sets n) → n < length lens
+  new-room h nz o = omega (arith, ap length (push-new (runs lens sets n) l s nz o), length-runs lens sets n)
+
+  pub last-le : 0 < n → getD lens (n - 1) 0 ≤ total (runs lens sets n)
+  unfolding total
+  last-le h = rw (runs-last lens sets n h) (omega arith)
+
+  pub other-runs : (0 < n → getD sets (n - 1) 0 ≡ s → ⊥) → Other s (runs lens sets n)
+  unfolding Other runs
+  other-runs d =
+      elim (decLt 0 n) [
+        | yes h ↦ rw (runs-last lens sets n h) (d h)
+        | no h ↦ let z : n ≡ 0 = omega arith in rw z tt
+      ]
+
+  pub store-join : 0 < n → n ≤ length lens → (l ≡ 0 → ⊥) → getD sets (n - 1) 0 ≡ s
+      → runs (set lens (n - 1) (getD lens (n - 1) 0 + l)) sets n ≡ pushRun (runs lens sets n) l s
+  store-join p h nz e =
+      let v = getD lens (n - 1) 0 + l in
+      let r = runs-last lens sets n p in
+      let r′ = runs-last (set lens (n - 1) v) sets n p in
+      let g = getD-set-same lens (n - 1) v 0 (omega arith) in
+      let k = runs-set-len lens sets (n - 1) (n - 1) v (omega arith) in
+      rw r (rw (push-join (run (getD lens (n - 1) 0) (getD sets (n - 1) 0)) (runs lens sets (n - 1)) l s nz e) (cc))
+
+  pub store-new : n < length lens → n < length sets → (l ≡ 0 → ⊥) → Other s (runs lens sets n)
+      → runs (set lens n l) (set sets n s) (n + 1) ≡ pushRun (runs lens sets n) l s
+  unfolding runs
+  store-new h h′ nz o =
+      let a = getD-set-same lens n l 0 h in
+      let b = getD-set-same sets n s 0 h′ in
+      let c = runs-set-len lens (set sets n s) n n l (omega arith) in
+      let d = runs-set-set lens sets n n s (omega arith) in
+      rw (add-one, push-new (runs lens sets n) l s nz o) (cc)
+
+-- ---- what they do to the places that hold no run
+pub spare-join : (lens sets : List ℕ) (n i v : ℕ) → i < n → Spare lens sets n → Spare (set lens i v) sets n
+unfolding Spare
+spare-join lens sets n i v h p j g = (getD-set-other lens i j v 0 (omega arith) ∙ p j g .0, p j g .1)
+
+pub spare-new : (lens sets : List ℕ) (n l s : ℕ) → Spare lens sets n → Spare (set lens n l) (set sets n s) (n + 1)
+unfolding Spare
+spare-new lens sets n l s p j g = (
+  getD-set-other lens n j l 0 (omega arith) ∙ p j (omega arith) .0,
+  getD-set-other sets n j s 0 (omega arith) ∙ p j (omega arith) .1,
+)
+
+-- ---- the runs of one entry more
+module _ (lens sets : List ℕ) where
+  pub total-more : (k : ℕ) → total (runs lens sets (k + 1)) ≡ total (runs lens sets k) + getD lens k 0
+  unfolding runs total
+  total-more k = rw add-one
+
+  pub total-mono : (k m : ℕ) → k ≤ m → total (runs lens sets k) ≤ total (runs lens sets m)
+  unfolding runs total
+  total-mono k zero h = let e : k ≡ 0 = omega arith in rw e (omega arith)
+  total-mono k (suc m) h =
+      elim (decLe k m) [
+        | yes g ↦ omega (arith, total-mono k m g)
+        | no g ↦ let e : k ≡ suc m = omega arith in rw e (omega arith)
+      ]
+
+  module _ (f : ℕ → ℕ) (base : List Run) (from to k : ℕ) where
+    pub copy-more : copyRuns f base from to (runs lens sets (k + 1))
+        ≡ pushRun (copyRuns f base from to (runs lens sets k)) (clip from to (total (runs lens sets k)) (getD lens k 0)) (f (getD sets k 0))
+    unfolding runs copyRuns
+    copy-more = rw add-one
+
+    pub copy-count : (olens osets : List ℕ) (at : ℕ) → runs olens osets at ≡ copyRuns f base from to (runs lens sets k)
+        → at ≡ length (copyRuns f base from to (runs lens sets k))
+    copy-count olens osets at e = sym (length-runs olens osets at) ∙ ap length e
+
+  -- the copy of more runs is as long at least, and holds as many positions at least
+  pub copy-grows : (f : ℕ → ℕ) (base : List Run) (from to k m : ℕ) → k ≤ m
+      → length (copyRuns f base from to (runs lens sets k)) ≤ length (copyRuns f base from to (runs lens sets m))
+  unfolding runs copyRuns
+  copy-grows f base from to k zero h = let e : k ≡ 0 = omega arith in rw e (omega arith)
+  copy-grows f base from to k (suc m) h =
+      elim (decLe k m) [
+        | yes g ↦ omega (arith, copy-grows f base from to k m g, push-longer (copyRuns f base from to (runs lens sets m)) (clip from to (total (runs lens sets m)) (getD lens m 0)) (f (getD sets m 0)))
+        | no g ↦ let e : k ≡ suc m = omega arith in rw e (omega arith)
+      ]
+
+  pub copy-holds : (f : ℕ → ℕ) (base : List Run) (from to k m : ℕ) → k ≤ m
+      → total (copyRuns f base from to (runs lens sets k)) ≤ total (copyRuns f base from to (runs lens sets m))
+  copy-holds f base from to k m h =
+      omega (arith, total-copy f base from to (runs lens sets k), total-copy f base from to (runs lens sets m), total-mono k m h)
+
+-- ---- where a run starts
+pub sums-more : (lens : List ℕ) (k : ℕ) → sums lens (k + 1) ≡ sums lens k + getD lens k 0
+unfolding sums
+sums-more lens k = rw add-one
+
+pub total-sums : (lens sets : List ℕ) (n : ℕ) → total (runs lens sets n) ≡ sums lens n
+unfolding runs total sums
+total-sums lens sets zero = refl
+total-sums lens sets (suc n) = ap (λ (x : ℕ). x + getD lens n 0) (total-sums lens sets n)
+
+pub sums-mono : (lens : List ℕ) (k m : ℕ) → k ≤ m → sums lens k ≤ sums lens m
+sums-mono lens k m h = omega (arith, total-mono lens lens k m h, total-sums lens lens k, total-sums lens lens m)
+
+-- both are determined
+found-le : (lens : List ℕ) (n pos i start j start′ : ℕ) → Found lens n pos i start → Found lens n pos j start′ → i < j → ⊥
+found-le lens n pos i start j start′ f g h =
+    let below = f .inside (omega arith) in
+    omega (arith, sums-more lens i, sums-mono lens (i + 1) j (omega arith))
+
+pub found-index : (lens : List ℕ) (n pos i start j start′ : ℕ) → Found lens n pos i start → Found lens n pos j start′ → i ≡ j
+found-index lens n pos i start j start′ f g =
+    let a : i < j → ⊥ = found-le lens n pos i start j start′ f g in
+    let b : j < i → ⊥ = found-le lens n pos j start′ i start g f in
+    omega arith
+
+-- the run that is found has the position's set
+pub found-set : (lens sets : List ℕ) (n pos i start : ℕ) → Found lens n pos i start → i < n → setAt (runs lens sets n) pos ≡ getD sets i 0
+unfolding runs
+found-set lens sets zero pos i start f h = absurd (omega arith)
+found-set lens sets (suc n) pos i start f h =
+    let below = f .inside h in
+    let s = total-sums lens sets n in
+    elim (decLt i n) [
+      | yes g ↦
+          at-in (run (getD lens n 0) (getD sets n 0)) (runs lens sets n) pos (omega (arith, sums-more lens i, sums-mono lens (i + 1) n (omega arith)))
+          ∙ found-set lens sets n pos i start (record { within = omega arith; starts = f .starts; reached = f .reached; inside = λ _. below }) g
+      | no g ↦
+          let e : i ≡ n = omega arith in
+          at-last (run (getD lens n 0) (getD sets n 0)) (runs lens sets n) pos (omega (arith, ap (sums lens) e)) (omega (arith, ap (sums lens) e, ap (λ (x : ℕ). getD lens x 0) e))
+          ∙ ap (λ (x : ℕ). getD sets x 0) (sym e)
+    ]
+
+-- so is its number of runs
+pub unique-count : (lens sets lens′ sets′ : List ℕ) (n m : ℕ) → Canon (runs lens sets n) → Canon (runs lens′ sets′ m)
+    → total (runs lens sets n) ≡ total (runs lens′ sets′ m) → ((p : ℕ) → setAt (runs lens sets n) p ≡ setAt (runs lens′ sets′ m) p) → n ≡ m
+unique-count lens sets lens′ sets′ n m c d t h =
+    sym (length-runs lens sets n) ∙ ap length (unique (runs lens sets n) (runs lens′ sets′ m) c d t h) ∙ length-runs lens′ sets′ m
+
+-- past the end there is no set
+pub found-none : (lens sets : List ℕ) (n pos i start : ℕ) → Found lens n pos i start → n ≤ i → setAt (runs lens sets n) pos ≡ 0
+found-none lens sets n pos i start f h =
+    let e : i ≡ n = omega arith in
+    at-past (runs lens sets n) pos (omega (arith, total-sums lens sets n, ap (sums lens) e))

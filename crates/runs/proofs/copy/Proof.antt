@@ -1,0 +1,125 @@
+-- `runs::copy` meets its contract. The invariant: the output's runs are the copy of the source's first k runs.
+use Prim.Native.Nat.{ℕ, _+_, _-_, _≤_, _<_, _^_}
+use mathlib.Core.Path.{_≡_, refl, sym, ap, _∙_}
+use mathlib.Core.List.{List}
+use native.Mathlib.Omega.{arith}
+use borrow.Author.Needs.{needs}
+use lib.ListN.{length, getD}
+use Rattle.runs.specs.Runs.{runs, total, pushRun, copyRuns, changing, clip, Spare, CanPush, CanCopy}
+use Rattle.runs.proofs.Laws.{total-more, total-mono, copy-more, copy-grows, copy-count, copy-holds, total-push, push-room}
+use Rattle.runs.proofs.copy.Statement.{statement}
+use Rattle.runs.proofs.copy.Tie as tie
+
+record Copied (olens₀ osets₀ : List ℕ) (n : ℕ) (lens sets : List ℕ) (m from to bits drop : ℕ) (olens osets : List ℕ) (k start at : ℕ) : Type 0 where
+  within : k ≤ m
+  begun : start ≡ total (runs lens sets k)
+  done : runs olens osets at ≡ copyRuns (changing bits drop) (runs olens₀ osets₀ n) from to (runs lens sets k)
+  kept : length olens ≡ length olens₀
+  kept′ : length osets ≡ length osets₀
+  spare : Spare olens₀ osets₀ n → Spare olens osets at
+
+-- a turn: what the calls ask, and the invariant after it
+module _ {olens₀ osets₀ : List ℕ} {n : ℕ} {lens sets : List ℕ} {m from to bits drop : ℕ} {olens osets : List ℕ} {k start at : ℕ}
+    (can : CanCopy (changing bits drop) olens₀ osets₀ n lens sets m from to) (inv : Copied olens₀ osets₀ n lens sets m from to bits drop olens osets k start at) (in-turn : k < m) where
+  turn-end : start + getD lens k 0 < 2 ^ 63
+  turn-end = omega (arith, total-more lens sets k, total-mono lens sets (k + 1) m (omega arith))
+
+  -- the push that the turn makes gives the copy of one run more
+  turn-push : pushRun (runs olens osets at) (clip from to start (getD lens k 0)) (changing bits drop (getD sets k 0))
+      ≡ copyRuns (changing bits drop) (runs olens₀ osets₀ n) from to (runs lens sets (k + 1))
+  turn-push = rw (inv .done, inv .begun) (sym (copy-more lens sets (changing bits drop) (runs olens₀ osets₀ n) from to k))
+
+  turn-can : CanPush olens osets at (clip from to start (getD lens k 0)) (changing bits drop (getD sets k 0))
+  turn-can =
+      let room : length (pushRun (runs olens osets at) (clip from to start (getD lens k 0)) (changing bits drop (getD sets k 0))) ≤ length olens =
+      rw turn-push (omega (arith, copy-grows lens sets (changing bits drop) (runs olens₀ osets₀ n) from to (k + 1) m (omega arith)))
+      in
+      record {
+        even = omega arith;
+        count = push-room olens osets at _ _ room;
+        room = room;
+        sum =
+            omega (
+              arith,
+              total-push (runs olens osets at) (clip from to start (getD lens k 0)) (changing bits drop (getD sets k 0)),
+              ap total turn-push,
+              copy-holds lens sets (changing bits drop) (runs olens₀ osets₀ n) from to (k + 1) m (omega arith),
+            );
+      }
+
+  turn : (olens′ osets′ : List ℕ) (at′ : ℕ)
+      → runs olens′ osets′ at′ ≡ pushRun (runs olens osets at) (clip from to start (getD lens k 0)) (changing bits drop (getD sets k 0))
+      → length olens′ ≡ length olens → length osets′ ≡ length osets → (Spare olens osets at → Spare olens′ osets′ at′)
+      → Copied olens₀ osets₀ n lens sets m from to bits drop olens′ osets′ (k + 1) (start + getD lens k 0) at′
+  turn olens′ osets′ at′ e l l′ sp =
+      record {
+        within = omega arith;
+        begun = omega (arith, total-more lens sets k);
+        done = e ∙ turn-push;
+        kept = omega arith;
+        kept′ = omega arith;
+        spare = λ p. sp (inv .spare p);
+      }
+
+abbrev Inv-loop : tie.InvT-loop
+Inv-loop olens₀ osets₀ n lens sets m from to bits drop k₀ start₀ at₀ olens osets k start at =
+    Copied olens₀ osets₀ n lens sets m from to bits drop olens osets k start at
+
+abbrev μ-loop : tie.MeasureT-loop
+μ-loop olens₀ osets₀ n lens sets m from to bits drop k₀ start₀ at₀ olens osets k start at = m - k
+
+loop-holds : tie.Need-loop-holds Inv-loop μ-loop
+unfolding runs total copyRuns
+loop-holds c = record { within = omega arith; begun = refl; done = refl; kept = refl; kept′ = refl; spare = λ p. p }
+
+add-end : tie.Need-add-end Inv-loop μ-loop
+add-end c = omega (arith, turn-end (c .before .before .before .before .before .before .before .pre) (c .before .before .loop .inv) (c .before .loop-test .taken))
+
+-- what the push of a turn is handed
+handed : (c : tie.After-change Inv-loop μ-loop) → let i = c .before .before .before .before .before .before in
+    let l = i .before .loop in
+    let a = i .before .before .before .before .before .before .args in
+    (c .before .before .before .before .clip .result ≡ clip (a .from) (a .to) (l .start) (getD (a .lens .now) (l .k) 0))
+    × (c .change .result ≡ changing (a .bits) (a .drop) (getD (a .sets .now) (l .k) 0))
+handed c = (c .before .before .before .before .clip .ensures, c .change .ensures)
+
+push-requires : tie.Need-push-requires Inv-loop μ-loop
+push-requires c κs =
+    let i = c .before .before .before .before .before .before in
+    rw (handed c .0, handed c .1)
+    (turn-can (i .before .before .before .before .before .before .pre) (i .before .loop .inv) (i .loop-test .taken))
+
+loop-again : tie.Need-loop-again Inv-loop μ-loop
+loop-again c =
+    let p = c .before .before .before .before in
+    let g = p .before in
+    let i = g .before .before .before .before .before .before in
+    turn (i .before .before .before .before .before .before .pre) (i .before .loop .inv) (i .loop-test .taken) _ _ _
+    (rw (← handed g .0, ← handed g .1) (p .push .ensures .0)) (omega arith) (omega arith) (p .push .ensures .1)
+
+returns : tie.Need-returns Inv-loop μ-loop
+returns c =
+    let e : c .before .loop .k ≡ c .before .before .before .before .before .before .args .m = omega arith in
+    (rw (← e) (c .before .loop .inv .done), c .before .loop .inv .spare)
+
+pub copy-spec : {M : Type 1} → statement M
+copy-spec =
+    tie.close
+    (tie.spec
+    Inv-loop
+    μ-loop
+    loop-holds
+    (λ c. omega arith)
+    (λ c. omega arith)
+    add-end
+    (λ c κs. search needs)
+    (λ c. omega arith)
+    (λ c. omega arith)
+    (λ c κs. search needs)
+    push-requires
+    (λ c. omega arith)
+    (λ c. omega arith)
+    loop-again
+    (λ c. search needs)
+    (λ c. search needs)
+    returns)

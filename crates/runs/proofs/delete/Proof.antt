@@ -1,0 +1,50 @@
+-- `runs::delete` meets its contract: the first copy makes the part before a, and the second adds the part from b on.
+use mathlib.Core.Path.{_≡_, refl, sym}
+use mathlib.Core.List.{[]}
+use borrow.Author.Needs.{needs}
+use Rattle.runs.specs.Runs.{runs, adding}
+use Rattle.runs.specs.Edits.{part, deleted}
+use Rattle.runs.proofs.EditLaws.{inside-self, inside-copy, can-copy}
+use Rattle.runs.proofs.delete.Statement.{statement}
+use Rattle.runs.proofs.delete.Tie as tie
+use Rattle.runs.proofs.delete.Reads as reads
+use Rattle.runs.proofs.delete.Lts as lts
+use Rattle.runs.proofs.copy.Reads as copy-reads
+
+copy-requires : tie.Need-copy-requires
+unfolding runs deleted
+copy-requires c κs =
+    let s = c .before .before .before .before .before .before in
+    can-copy (s .pre) (s .args .olens .now) (s .args .osets .now) 0 refl refl [] refl (adding 0) 0 (s .args .a)
+    (inside-copy (adding 0) (s .args .b) _ _ (inside-self _))
+
+-- after the first copy
+first : (c : tie.After-copy) → let s = c .before .before .before .before .before .before .before in
+    runs (c .copy .last .0) (c .copy .last .1 .0) (c .copy .result) ≡ part [] 0 (s .args .a) (runs (s .args .lens .now) (s .args .sets .now) (s .args .m))
+unfolding runs
+first c = c .copy .ensures .0
+
+copy-requires-2 : tie.Need-copy-requires-2
+unfolding deleted
+copy-requires-2 c κs =
+    let x = c .before .before .before .before .before .before in
+    let s = x .before .before .before .before .before .before .before in
+    can-copy (s .pre) (x .copy .last .0) (x .copy .last .1 .0) (x .copy .result) (x .copy .kept .0) (x .copy .kept .1 .0) _ (first x) (adding 0) (s .args .b) (s .args .all)
+    (rw (s .pre .all-is) (inside-self _))
+
+same-length : tie.Need-same-length
+same-length c = search needs
+
+same-length-2 : tie.Need-same-length-2
+same-length-2 c = search needs
+
+returns : tie.Need-returns
+unfolding deleted
+returns c =
+    let y = c .before .before .before .before in
+    let x = y .before .before .before .before .before .before .before in
+    let s = x .before .before .before .before .before .before .before in
+    (rw (first x, s .pre .all-is) at (y .copy2 .ensures .0), λ p. y .copy2 .ensures .1 (x .copy .ensures .1 p))
+
+pub delete-spec : {M : Type 1} → statement M
+delete-spec = tie.close (tie.spec copy-requires copy-requires-2 same-length same-length-2 returns)

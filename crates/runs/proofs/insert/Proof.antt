@@ -1,0 +1,65 @@
+-- `runs::insert` meets its contract: a copy of the part before pos, a push of the new positions, and a copy of the part from pos on.
+use mathlib.Core.Path.{_≡_, refl, _∙_}
+use mathlib.Core.List.{[]}
+use borrow.Author.Needs.{needs}
+use Rattle.runs.specs.Runs.{runs, adding, pushRun}
+use Rattle.runs.specs.Edits.{part, inserted}
+use Rattle.runs.proofs.EditLaws.{inside-self, inside-copy, inside-push, can-copy, can-push}
+use Rattle.runs.proofs.insert.Statement.{statement}
+use Rattle.runs.proofs.insert.Tie as tie
+use Rattle.runs.proofs.insert.Reads as reads
+use Rattle.runs.proofs.insert.Lts as lts
+use Rattle.runs.proofs.copy.Reads as copy-reads
+use Rattle.runs.proofs.push.Reads as push-reads
+
+copy-requires : tie.Need-copy-requires
+unfolding runs inserted
+copy-requires c κs =
+    let s = c .before .before .before .before .before .before in
+    can-copy (s .pre) (s .args .olens .now) (s .args .osets .now) 0 refl refl [] refl (adding 0) 0 (s .args .pos)
+    (inside-push (s .args .len) (s .args .set) (inside-copy (adding 0) (s .args .pos) _ _ (inside-self _)))
+
+-- after the first copy, and after the push
+first : (c : tie.After-copy) → let s = c .before .before .before .before .before .before .before in
+    runs (c .copy .last .0) (c .copy .last .1 .0) (c .copy .result) ≡ part [] 0 (s .args .pos) (runs (s .args .lens .now) (s .args .sets .now) (s .args .m))
+unfolding runs
+first c = c .copy .ensures .0
+
+second : (c : tie.After-push) → let s = c .before .before .before .before .before .before .before .before .before .before .before .before .before .before in
+    let rs = runs (s .args .lens .now) (s .args .sets .now) (s .args .m) in
+    runs (c .push .last .0) (c .push .last .1 .0) (c .push .result) ≡ pushRun (part [] 0 (s .args .pos) rs) (s .args .len) (s .args .set)
+second c = rw (first (c .before .before .before .before .before .before .before)) at (c .push .ensures .0)
+
+push-requires : tie.Need-push-requires
+unfolding inserted
+push-requires c κs =
+    let x = c .before .before .before .before .before .before in
+    let s = x .before .before .before .before .before .before .before in
+    can-push (s .pre) (x .copy .last .0) (x .copy .last .1 .0) (x .copy .result) (x .copy .kept .0) (x .copy .kept .1 .0) _ (first x)
+    (s .args .len) (s .args .set) (inside-copy (adding 0) (s .args .pos) _ _ (inside-self _))
+
+copy-requires-2 : tie.Need-copy-requires-2
+unfolding inserted
+copy-requires-2 c κs =
+    let y = c .before .before .before .before .before .before in
+    let x = y .before .before .before .before .before .before .before in
+    let s = x .before .before .before .before .before .before .before in
+    can-copy (s .pre) (y .push .last .0) (y .push .last .1 .0) (y .push .result) (y .push .kept .0 ∙ x .copy .kept .0) (y .push .kept .1 .0 ∙ x .copy .kept .1 .0)
+    _ (second y) (adding 0) (s .args .pos) (s .args .all) (rw (s .pre .all-is) (inside-self _))
+
+same-length : tie.Need-same-length
+same-length c = search needs
+
+same-length-2 : tie.Need-same-length-2
+same-length-2 c = search needs
+
+returns : tie.Need-returns
+unfolding inserted
+returns c =
+    let z = c .before .before .before .before in
+    let y = z .before .before .before .before .before .before .before in
+    let s = y .before .before .before .before .before .before .before .before .before .before .before .before .before .before in
+    (rw (second y, s .pre .all-is) at (z .copy2 .ensures .0), λ p. z .copy2 .ensures .1 (y .push .ensures .1 (y .before .before .before .before .before .before .before .copy .ensures .1 p)))
+
+pub insert-spec : {M : Type 1} → statement M
+insert-spec = tie.close (tie.spec copy-requires push-requires copy-requires-2 same-length same-length-2 returns)

@@ -1,0 +1,189 @@
+ghost use mathlib.Core.Path.{_≡_};
+ghost use Prim.Native.Nat.{_+_, _-_, _<_, _≤_, _^_, min, max};
+ghost use lib.ListN.{length};
+ghost use Rattle.runs.specs.Edits.{altered, deleted, inserted, CanEdit};
+ghost use Rattle.runs.specs.Runs.{runs, setAt, pushRun, copyRuns, CanPush, CanCopy, sums, Found, Spare, changing};
+
+// `len` positions more with the set `set`, after the runs of the first `n` entries. Returns how many runs there are then.
+pub fn push(lens: &mut [u64], sets: &mut [u64], n: usize, len: u64, set: u64) -> usize
+    requires { ⌜ CanPush (now lens) (now sets) n len set ⌝ }
+    ensures { λ r. ⌜ runs (now (lens .exit)) (now (sets .exit)) r ≡ pushRun (runs (now (lens .entry)) (now (sets .entry)) n) len set ⌝ }
+    ensures { λ r. ⌜ (Spare (now (lens .entry)) (now (sets .entry)) n → Spare (now (lens .exit)) (now (sets .exit)) r) ⌝ }
+{
+    if len == 0 {
+        return n;
+    }
+    if 0 < n {
+        let k = n - 1;
+        if sets[k] == set {
+            lens[k] = lens[k] + len;
+            return n;
+        }
+    }
+    lens[n] = len;
+    sets[n] = set;
+    n + 1
+}
+
+fn later(a: u64, b: u64) -> u64
+    ensures { λ r. ⌜ r ≡ max a b ⌝ }
+{
+    if a < b { b } else { a }
+}
+
+fn sooner(a: u64, b: u64) -> u64
+    ensures { λ r. ⌜ r ≡ min a b ⌝ }
+{
+    if a < b { a } else { b }
+}
+
+// How many of the positions start .. end lie in from .. to.
+fn clip(from: u64, to: u64, start: u64, end: u64) -> u64
+    ensures { λ r. ⌜ r ≡ min to end - max from start ⌝ }
+{
+    let lo = later(from, start);
+    let hi = sooner(to, end);
+    if lo < hi { hi - lo } else { 0 }
+}
+
+// The set `set` with `bits`, and without `drop`.
+fn change(set: u64, bits: u64, drop: u64) -> u64
+    ensures { λ r. ⌜ r ≡ changing bits drop set ⌝ }
+{
+    let more = set | bits;
+    more - (more & drop)
+}
+
+// Onto the runs of the first `n` entries, the positions from .. to of the source's first `m` runs, each with `bits` added to its set and `drop` taken away.
+// Returns how many runs there are then.
+pub fn copy(
+    olens: &mut [u64],
+    osets: &mut [u64],
+    n: usize,
+    lens: &[u64],
+    sets: &[u64],
+    m: usize,
+    from: u64,
+    to: u64,
+    bits: u64,
+    drop: u64,
+) -> usize
+    requires { ⌜ CanCopy (changing bits drop) (now olens) (now osets) n (now lens) (now sets) m from to ⌝ }
+    ensures { λ r. ⌜ runs (now (olens .exit)) (now (osets .exit)) r ≡ copyRuns (changing bits drop) (runs (now (olens .entry)) (now (osets .entry)) n) from to (runs (now (lens .entry)) (now (sets .entry)) m) ⌝ }
+    ensures { λ r. ⌜ (Spare (now (olens .entry)) (now (osets .entry)) n → Spare (now (olens .exit)) (now (osets .exit)) r) ⌝ }
+{
+    let mut k = 0;
+    let mut start: u64 = 0;
+    let mut at = n;
+    while k < m {
+        let end = start + lens[k];
+        let len = clip(from, to, start, end);
+        at = push(olens, osets, at, len, change(sets[k], bits, drop));
+        start = end;
+        k += 1;
+    }
+    at
+}
+
+pub struct Place {
+    pub index: usize,
+    pub start: u64,
+}
+
+// The run that holds the position `pos`, and where it starts; past the end, the number of runs and their sum.
+pub fn find(lens: &[u64], n: usize, pos: u64) -> Place
+    requires { ⌜ n ≤ length (now lens) ⌝ }
+    requires { ⌜ sums (now lens) n < 2 ^ 63 ⌝ }
+    ensures { λ r. ⌜ Found (now (lens .entry)) n pos (r .index) (r .start) ⌝ }
+{
+    let mut i = 0;
+    let mut start: u64 = 0;
+    while i < n {
+        let end = start + lens[i];
+        if pos < end {
+            return Place {
+                index: i,
+                start: start,
+            };
+        }
+        start = end;
+        i += 1;
+    }
+    Place {
+        index: i,
+        start: start,
+    }
+}
+
+// Adds `bits` to the sets of the positions a .. b, and takes `drop` away from them.
+pub fn alter(
+    olens: &mut [u64],
+    osets: &mut [u64],
+    lens: &[u64],
+    sets: &[u64],
+    m: usize,
+    all: u64,
+    a: u64,
+    b: u64,
+    bits: u64,
+    drop: u64,
+) -> usize
+    requires { ⌜ CanEdit (altered (runs (now lens) (now sets) m) a b (changing bits drop)) (now olens) (now osets) (now lens) (now sets) m all ⌝ }
+    ensures { λ r. ⌜ runs (now (olens .exit)) (now (osets .exit)) r ≡ altered (runs (now (lens .entry)) (now (sets .entry)) m) a b (changing bits drop) ⌝ }
+    ensures { λ r. ⌜ (Spare (now (olens .entry)) (now (osets .entry)) 0 → Spare (now (olens .exit)) (now (osets .exit)) r) ⌝ }
+{
+    let n = copy(olens, osets, 0, lens, sets, m, 0, a, 0, 0);
+    let k = copy(olens, osets, n, lens, sets, m, a, b, bits, drop);
+    copy(olens, osets, k, lens, sets, m, b, all, 0, 0)
+}
+
+// Takes the positions a .. b away.
+pub fn delete(
+    olens: &mut [u64],
+    osets: &mut [u64],
+    lens: &[u64],
+    sets: &[u64],
+    m: usize,
+    all: u64,
+    a: u64,
+    b: u64,
+) -> usize
+    requires { ⌜ CanEdit (deleted (runs (now lens) (now sets) m) a b) (now olens) (now osets) (now lens) (now sets) m all ⌝ }
+    ensures { λ r. ⌜ runs (now (olens .exit)) (now (osets .exit)) r ≡ deleted (runs (now (lens .entry)) (now (sets .entry)) m) a b ⌝ }
+    ensures { λ r. ⌜ (Spare (now (olens .entry)) (now (osets .entry)) 0 → Spare (now (olens .exit)) (now (osets .exit)) r) ⌝ }
+{
+    let n = copy(olens, osets, 0, lens, sets, m, 0, a, 0, 0);
+    copy(olens, osets, n, lens, sets, m, b, all, 0, 0)
+}
+
+// Puts `len` positions with the set `set` before position `pos`.
+pub fn insert(
+    olens: &mut [u64],
+    osets: &mut [u64],
+    lens: &[u64],
+    sets: &[u64],
+    m: usize,
+    all: u64,
+    pos: u64,
+    len: u64,
+    set: u64,
+) -> usize
+    requires { ⌜ CanEdit (inserted (runs (now lens) (now sets) m) pos len set) (now olens) (now osets) (now lens) (now sets) m all ⌝ }
+    ensures { λ r. ⌜ runs (now (olens .exit)) (now (osets .exit)) r ≡ inserted (runs (now (lens .entry)) (now (sets .entry)) m) pos len set ⌝ }
+    ensures { λ r. ⌜ (Spare (now (olens .entry)) (now (osets .entry)) 0 → Spare (now (olens .exit)) (now (osets .exit)) r) ⌝ }
+{
+    let n = copy(olens, osets, 0, lens, sets, m, 0, pos, 0, 0);
+    let k = push(olens, osets, n, len, set);
+    copy(olens, osets, k, lens, sets, m, pos, all, 0, 0)
+}
+
+// The set at a position, and 0 past the end.
+pub fn set_at(lens: &[u64], sets: &[u64], n: usize, pos: u64) -> u64
+    requires { ⌜ (n ≤ length (now lens)) × (n ≤ length (now sets)) ⌝ }
+    requires { ⌜ sums (now lens) n < 2 ^ 63 ⌝ }
+    ensures { λ r. ⌜ r ≡ setAt (runs (now (lens .entry)) (now (sets .entry)) n) pos ⌝ }
+{
+    let f = find(lens, n, pos);
+    let i = f.index;
+    if i < n { sets[i] } else { 0 }
+}

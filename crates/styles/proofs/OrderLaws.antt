@@ -1,0 +1,123 @@
+-- The order of identities is a strict total order. Later laws use `less-trans`, `less-flip`, `same-eq`, `same-self` and no field of an identity.
+use Prim.Native.Nat.{ℕ, _≤_, _<_}
+use mathlib.Core.Path.{_≡_, refl, sym, ap, _∙_, subst}
+use mathlib.Core.Bool.{Bool, true, false, cond}
+use native.Mathlib.Omega.{arith}
+use native.Mathlib.Decide.{decLt, ℕ-discrete}
+use lib.Dec.{ltb, eqb}
+use borrow.Author.Tests.{lt-ltb, le-ltb, eq-eqb, ne-eqb, ltb-true, ltb-false, eqb-true, eqb-false}
+use Rattle.styles.specs.declared.Identity.{Identity}
+use Rattle.styles.specs.declared.Stand.{Stand}
+use Rattle.styles.specs.declared.Stand.the-variants.{Before, Same, After}
+use Rattle.styles.specs.Order.{numbers, then, stands}
+
+-- two numbers
+num-less : (a b : ℕ) → a < b → numbers a b ≡ Before
+unfolding numbers
+num-less a b h = simp (lt-ltb a b h)
+
+pub num-same : (a b : ℕ) → a ≡ b → numbers a b ≡ Same
+unfolding numbers
+num-same a b h = simp (le-ltb a b (omega arith), eq-eqb a b h)
+
+num-more : (a b : ℕ) → b < a → numbers a b ≡ After
+unfolding numbers
+num-more a b h = simp (le-ltb a b (omega arith), ne-eqb a b (omega arith))
+
+-- what `before` means
+pub data Less (a b : Identity) : Type 0 where
+  by-key : a .key < b .key → Less a b
+  by-lamport : a .key ≡ b .key → a .lamport < b .lamport → Less a b
+  by-peer : a .key ≡ b .key → a .lamport ≡ b .lamport → a .peer < b .peer → Less a b
+
+chain : {a b c : Identity} → Less a b → Less b c → Less a c
+chain (by-key h) (by-key k) = by-key (omega arith)
+chain (by-key h) (by-lamport e k) = by-key (omega arith)
+chain (by-key h) (by-peer e f k) = by-key (omega arith)
+chain (by-lamport e h) (by-key k) = by-key (omega arith)
+chain (by-lamport e h) (by-lamport g k) = by-lamport (omega arith) (omega arith)
+chain (by-lamport e h) (by-peer g f k) = by-lamport (omega arith) (omega arith)
+chain (by-peer e d h) (by-key k) = by-key (omega arith)
+chain (by-peer e d h) (by-lamport g k) = by-lamport (omega arith) (omega arith)
+chain (by-peer e d h) (by-peer g f k) = by-peer (omega arith) (omega arith) (omega arith)
+
+pub of-less : {a b : Identity} → Less a b → stands a b ≡ Before
+unfolding stands
+of-less {a} {b} (by-key h) = simp (num-less (a .key) (b .key) h)
+of-less {a} {b} (by-lamport e h) = simp (num-same (a .key) (b .key) e, num-less (a .lamport) (b .lamport) h)
+of-less {a} {b} (by-peer e f h) =
+    simp (num-same (a .key) (b .key) e, num-same (a .lamport) (b .lamport) f, num-less (a .peer) (b .peer) h)
+
+pub of-more : {a b : Identity} → Less b a → stands a b ≡ After
+unfolding stands
+of-more {a} {b} (by-key h) = simp (num-more (a .key) (b .key) h)
+of-more {a} {b} (by-lamport e h) = simp (num-same (a .key) (b .key) (sym e), num-more (a .lamport) (b .lamport) h)
+of-more {a} {b} (by-peer e f h) =
+    simp (num-same (a .key) (b .key) (sym e), num-same (a .lamport) (b .lamport) (sym f), num-more (a .peer) (b .peer) h)
+
+pub same-self : (a : Identity) → stands a a ≡ Same
+unfolding stands
+same-self a = simp (num-same (a .key) (a .key) refl, num-same (a .lamport) (a .lamport) refl, num-same (a .peer) (a .peer) refl)
+
+-- the three cases
+data Cases (a b : Identity) : Type 0 where
+  is-less : Less a b → Cases a b
+  is-same : a ≡ b → Cases a b
+  is-more : Less b a → Cases a b
+
+pub identity-eq : (a b : Identity) → a .key ≡ b .key → a .lamport ≡ b .lamport → a .peer ≡ b .peer → a ≡ b
+identity-eq a b e f g = λ i. record { key = e i; lamport = f i; peer = g i }
+
+cases : (a b : Identity) → Cases a b
+cases a b =
+    elim (decLt (a .key) (b .key)) [
+      | yes h ↦ is-less (by-key h)
+      | no h ↦
+          elim (decLt (b .key) (a .key)) [
+            | yes k ↦ is-more (by-key k)
+            | no k ↦
+                elim (decLt (a .lamport) (b .lamport)) [
+                  | yes h′ ↦ is-less (by-lamport (omega arith) h′)
+                  | no h′ ↦
+                      elim (decLt (b .lamport) (a .lamport)) [
+                        | yes k′ ↦ is-more (by-lamport (omega arith) k′)
+                        | no k′ ↦
+                            elim (decLt (a .peer) (b .peer)) [
+                              | yes h″ ↦ is-less (by-peer (omega arith) (omega arith) h″)
+                              | no h″ ↦
+                                  elim (decLt (b .peer) (a .peer)) [
+                                    | yes k″ ↦ is-more (by-peer (omega arith) (omega arith) k″)
+                                    | no k″ ↦ is-same (identity-eq a b (omega arith) (omega arith) (omega arith))
+                                  ]
+                            ]
+                      ]
+                ]
+          ]
+    ]
+
+to-less : {a b : Identity} → stands a b ≡ Before → Cases a b → Less a b
+to-less e (is-less h) = h
+to-less {a} {b} e (is-same p) = absurd (let z : Same ≡ Before = sym (same-self b) ∙ (rw p at e) in let y : _≡_ {A = ℕ} 0 1 = cc in omega arith)
+to-less e (is-more h) = absurd (let z : After ≡ Before = sym (of-more h) ∙ e in let y : _≡_ {A = ℕ} 0 1 = cc in omega arith)
+
+to-more : {a b : Identity} → stands a b ≡ After → Cases a b → Less b a
+to-more e (is-less h) = absurd (let z : Before ≡ After = sym (of-less h) ∙ e in let y : _≡_ {A = ℕ} 0 1 = cc in omega arith)
+to-more {a} {b} e (is-same p) = absurd (let z : Same ≡ After = sym (same-self b) ∙ (rw p at e) in let y : _≡_ {A = ℕ} 0 1 = cc in omega arith)
+to-more e (is-more h) = h
+
+to-same : {a b : Identity} → stands a b ≡ Same → Cases a b → a ≡ b
+to-same e (is-less h) = absurd (let z : Before ≡ Same = sym (of-less h) ∙ e in let y : _≡_ {A = ℕ} 0 1 = cc in omega arith)
+to-same e (is-same p) = p
+to-same e (is-more h) = absurd (let z : After ≡ Same = sym (of-more h) ∙ e in let y : _≡_ {A = ℕ} 0 1 = cc in omega arith)
+
+pub less-trans : (a b c : Identity) → stands a b ≡ Before → stands b c ≡ Before → stands a c ≡ Before
+less-trans a b c h k = of-less (chain (to-less h (cases a b)) (to-less k (cases b c)))
+
+pub less-flip : (a b : Identity) → stands a b ≡ Before → stands b a ≡ After
+less-flip a b h = of-more (to-less h (cases a b))
+
+pub more-flip : (a b : Identity) → stands a b ≡ After → stands b a ≡ Before
+more-flip a b h = of-less (to-more h (cases a b))
+
+pub same-eq : (a b : Identity) → stands a b ≡ Same → a ≡ b
+same-eq a b h = to-same h (cases a b)

@@ -1,0 +1,169 @@
+-- What an edit of a bit set does to the marks that it picks.
+use Prim.Native.Nat.{ℕ, zero, suc, _+_, _*_, _/_, _%_, _^_, _≤_, _<_, min}
+use mathlib.Core.Path.{_≡_, refl, sym, ap, ap₂, _∙_, subst}
+use mathlib.Core.Bool.{Bool, true, false, cond}
+use mathlib.Core.List.{List, [], _∷_}
+use native.Mathlib.Omega.{arith}
+use native.Mathlib.Nat.{zero-min, min-zero, suc-min-suc}
+use lib.Bits.{bitAnd, and-step}
+use lib.ListN.{length, getD}
+use Rattle.styles.specs.declared.Identity.{Identity}
+use Rattle.styles.specs.declared.Mark.{Mark}
+use Rattle.styles.specs.declared.Stand.{Stand}
+use Rattle.styles.specs.declared.Stand.the-variants.{Before, Same, After}
+use Rattle.styles.specs.Order.{stands, idOf, less, sameId}
+use Rattle.styles.specs.Marks.{Above, Sorted, member, insertStep, insertMark, removeMark, common, insertAt, placeOf}
+use Rattle.styles.specs.Bits.{keepBit, pick, openBit, withBit, withoutBit, squeeze, squeezeStep}
+use Rattle.styles.proofs.OrderLaws.{less-trans, less-flip, more-flip, same-eq, same-self}
+
+-- the lowest bit decides on the first mark, the others on the rest
+pub pick-cons : (m : Mark) (ms : List Mark) (q b : ℕ) → b < 2 → pick (m ∷ ms) (q * 2 + b) ≡ keepBit b m (pick ms q)
+unfolding pick
+pick-cons m ms q b h =
+    let e : (q * 2 + b) % 2 ≡ b = omega arith in
+    let f : (q * 2 + b) / 2 ≡ q = omega arith in
+    rw (e, f)
+
+pub pick-even : (m : Mark) (ms : List Mark) (q : ℕ) → pick (m ∷ ms) (q * 2) ≡ pick ms q
+unfolding pick
+pick-even m ms q =
+    let e : q * 2 % 2 ≡ 0 = omega arith in
+    let f : q * 2 / 2 ≡ q = omega arith in
+    rw (e, f)
+
+low : (s : ℕ) → s % 2 < 2
+low s = omega arith
+
+-- ---- a mark new to the table
+pub pick-open : (i : ℕ) (m : Mark) (t : List Mark) (s : ℕ) → pick (insertAt i m t) (openBit i s) ≡ pick t s
+unfolding insertAt openBit pick
+pick-open zero m t s = pick-even m t s
+pick-open (suc i) m [] s = refl
+pick-open (suc i) m (x ∷ xs) s =
+    pick-cons x (insertAt i m xs) (openBit i (s / 2)) (s % 2) (low s) ∙ ap (keepBit (s % 2) x) (pick-open i m xs (s / 2))
+
+-- what comes before each mark of the table comes before each picked
+above-keep : (i : Identity) (m : Mark) (ms : List Mark) (b : ℕ) → stands i (idOf m) ≡ Before → Above i ms → Above i (keepBit b m ms)
+unfolding Above
+above-keep i m ms zero h k = k
+above-keep i m ms (suc b) h k = (h, k)
+
+pub above-pick : (i : Identity) (t : List Mark) (s : ℕ) → Above i t → Above i (pick t s)
+unfolding Above pick
+above-pick i [] s h = tt
+above-pick i (m ∷ ms) s h = above-keep i m (pick ms (s / 2)) (s % 2) (h .0) (above-pick i ms (s / 2) (h .1))
+
+-- ---- a set with one mark more
+pub insert-first : (m : Mark) (ms : List Mark) → Above (idOf m) ms → insertMark m ms ≡ m ∷ ms
+unfolding insertMark Above
+insert-first m [] h = refl
+insert-first m (x ∷ xs) h = rw (h .0)
+
+pub insert-past : (m x : Mark) (xs : List Mark) → stands (idOf x) (idOf m) ≡ Before → insertMark m (x ∷ xs) ≡ x ∷ insertMark m xs
+unfolding insertMark
+insert-past m x xs h = rw (less-flip (idOf x) (idOf m) h)
+
+insert-keep : (b : ℕ) (m x : Mark) (xs : List Mark) → stands (idOf x) (idOf m) ≡ Before → keepBit b x (insertMark m xs) ≡ insertMark m (keepBit b x xs)
+insert-keep zero m x xs h = refl
+insert-keep (suc b) m x xs h = sym (insert-past m x xs h)
+
+pub above-put : (j : Identity) (i : ℕ) (m : Mark) (t : List Mark) → i ≤ length t → Above j (insertAt i m t) → stands j (idOf m) ≡ Before
+unfolding Above insertAt
+above-put j zero m t h k = k .0
+above-put j (suc i) m [] h k = absurd (omega arith)
+above-put j (suc i) m (x ∷ xs) h k = above-put j i m xs (omega arith) (k .1)
+
+-- the new mark's bit, set
+pub pick-open-with : (i : ℕ) (m : Mark) (t : List Mark) (s : ℕ) → i ≤ length t → Sorted (insertAt i m t)
+    → pick (insertAt i m t) (withBit i (openBit i s)) ≡ insertMark m (pick t s)
+unfolding insertAt openBit withBit pick Sorted
+pick-open-with zero m t s h k =
+    let e : s * 2 / 2 ≡ s = omega arith in
+    rw e (pick-cons m t s 1 (omega arith) ∙ sym (insert-first m (pick t s) (above-pick (idOf m) t s (k .0))))
+pick-open-with (suc i) m [] s h k = absurd (omega arith)
+pick-open-with (suc i) m (x ∷ xs) s h k =
+    let e : (openBit i (s / 2) * 2 + s % 2) / 2 ≡ openBit i (s / 2) = omega arith in
+    let f : (openBit i (s / 2) * 2 + s % 2) % 2 ≡ s % 2 = omega arith in
+    rw (e, f)
+    (pick-cons x (insertAt i m xs) (withBit i (openBit i (s / 2))) (s % 2) (low s)
+    ∙ ap (keepBit (s % 2) x) (pick-open-with i m xs (s / 2) (omega arith) (k .1))
+    ∙ insert-keep (s % 2) m x (pick xs (s / 2)) (above-put (idOf x) i m xs (omega arith) (k .0)))
+
+-- ---- a mark of the table
+pub above-at : (j : Identity) (t : List Mark) (i : ℕ) (d : Mark) → i < length t → Above j t → stands j (idOf (getD t i d)) ≡ Before
+unfolding Above
+above-at j [] i d h k = absurd (omega arith)
+above-at j (m ∷ ms) zero d h k = k .0
+above-at j (m ∷ ms) (suc i) d h k = above-at j ms i d (omega arith) (k .1)
+
+insert-again : (b : ℕ) (m : Mark) (ms : List Mark) → Above (idOf m) ms → m ∷ ms ≡ insertMark m (keepBit b m ms)
+unfolding insertMark
+insert-again zero m ms h = sym (insert-first m ms h)
+insert-again (suc b) m ms h = rw (same-self (idOf m))
+
+-- its bit set: the set with it, and as it was where it had it
+pub pick-with : (t : List Mark) (i : ℕ) (d : Mark) (s : ℕ) → i < length t → Sorted t → pick t (withBit i s) ≡ insertMark (getD t i d) (pick t s)
+unfolding withBit pick Sorted
+pick-with [] i d s h k = absurd (omega arith)
+pick-with (m ∷ ms) zero d s h k =
+    pick-cons m ms (s / 2) 1 (omega arith) ∙ insert-again (s % 2) m (pick ms (s / 2)) (above-pick (idOf m) ms (s / 2) (k .0))
+pick-with (m ∷ ms) (suc i) d s h k =
+    pick-cons m ms (withBit i (s / 2)) (s % 2) (low s)
+    ∙ ap (keepBit (s % 2) m) (pick-with ms i d (s / 2) (omega arith) (k .1))
+    ∙ insert-keep (s % 2) (getD ms i d) m (pick ms (s / 2)) (above-at (idOf m) ms i d (omega arith) (k .0))
+
+-- ---- a set with one mark less
+remove-above : (i : Identity) (ms : List Mark) → Above i ms → removeMark i ms ≡ ms
+unfolding removeMark Above
+remove-above i [] h = refl
+remove-above i (m ∷ ms) h = rw (h .0) (ap (_∷_ m) (remove-above i ms (h .1)))
+
+remove-first : (b : ℕ) (m : Mark) (ms : List Mark) → Above (idOf m) ms → ms ≡ removeMark (idOf m) (keepBit b m ms)
+unfolding removeMark
+remove-first zero m ms h = sym (remove-above (idOf m) ms h)
+remove-first (suc b) m ms h = rw (same-self (idOf m)) (sym (remove-above (idOf m) ms h))
+
+remove-keep : (b : ℕ) (i : Identity) (x : Mark) (xs : List Mark) → stands (idOf x) i ≡ Before → keepBit b x (removeMark i xs) ≡ removeMark i (keepBit b x xs)
+unfolding removeMark
+remove-keep zero i x xs h = refl
+remove-keep (suc b) i x xs h = rw (less-flip (idOf x) i h)
+
+pub pick-without : (t : List Mark) (i : ℕ) (d : Mark) (s : ℕ) → i < length t → Sorted t
+    → pick t (withoutBit i s) ≡ removeMark (idOf (getD t i d)) (pick t s)
+unfolding withoutBit pick Sorted
+pick-without [] i d s h k = absurd (omega arith)
+pick-without (m ∷ ms) zero d s h k =
+    pick-even m ms (s / 2) ∙ remove-first (s % 2) m (pick ms (s / 2)) (above-pick (idOf m) ms (s / 2) (k .0))
+pick-without (m ∷ ms) (suc i) d s h k =
+    pick-cons m ms (withoutBit i (s / 2)) (s % 2) (low s)
+    ∙ ap (keepBit (s % 2) m) (pick-without ms i d (s / 2) (omega arith) (k .1))
+    ∙ remove-keep (s % 2) (idOf (getD ms i d)) m (pick ms (s / 2)) (above-at (idOf m) ms i d (omega arith) (k .0))
+
+-- ---- what two sets have in common
+pub not-member : (i : Identity) (ms : List Mark) → Above i ms → member i ms ≡ false
+unfolding member Above
+not-member i [] h = refl
+not-member i (m ∷ ms) h = rw (h .0) (not-member i ms (h .1))
+
+common-skip : (m : Mark) (xs ys : List Mark) → Above (idOf m) xs → common xs (m ∷ ys) ≡ common xs ys
+unfolding common member Above
+common-skip m [] ys h = refl
+common-skip m (x ∷ xs) ys h =
+    rw (less-flip (idOf m) (idOf x) (h .0)) (ap (λ (l : List Mark). cond (member (idOf x) ys) (x ∷ l) l) (common-skip m xs ys (h .1)))
+
+common-keep : (b c : ℕ) (m : Mark) (xs ys : List Mark) → Above (idOf m) xs → Above (idOf m) ys
+    → keepBit (min b c) m (common xs ys) ≡ common (keepBit b m xs) (keepBit c m ys)
+unfolding common member
+common-keep zero zero m xs ys h k = refl
+common-keep zero (suc c) m xs ys h k = rw (zero-min (suc c)) (sym (common-skip m xs ys h))
+common-keep (suc b) zero m xs ys h k = rw (min-zero (suc b), not-member (idOf m) ys k)
+common-keep (suc b) (suc c) m xs ys h k = rw (suc-min-suc b c, same-self (idOf m)) (ap (_∷_ m) (sym (common-skip m xs ys h)))
+
+pub pick-both : (t : List Mark) (s u : ℕ) → Sorted t → pick t (bitAnd s u) ≡ common (pick t s) (pick t u)
+unfolding pick Sorted common
+pick-both [] s u h = refl
+pick-both (m ∷ ms) s u h =
+    ap (pick (m ∷ ms)) (and-step s u)
+    ∙ pick-cons m ms (bitAnd (s / 2) (u / 2)) (min (s % 2) (u % 2)) (omega arith)
+    ∙ ap (keepBit (min (s % 2) (u % 2)) m) (pick-both ms (s / 2) (u / 2) (h .1))
+    ∙ common-keep (s % 2) (u % 2) m (pick ms (s / 2)) (pick ms (u / 2)) (above-pick (idOf m) ms (s / 2) (h .0)) (above-pick (idOf m) ms (u / 2) (h .0))

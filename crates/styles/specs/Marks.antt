@@ -1,0 +1,108 @@
+-- A set of marks is a list of them, sorted by identity.
+use Prim.Native.Nat.{ℕ, zero, suc}
+use mathlib.Core.Path.{_≡_}
+use mathlib.Core.Bool.{Bool, true, false, cond}
+use mathlib.Core.List.{List, [], _∷_}
+use Rattle.styles.specs.declared.Identity.{Identity}
+use Rattle.styles.specs.declared.Mark.{Mark}
+use Rattle.styles.specs.declared.Stand.{Stand}
+use Rattle.styles.specs.declared.Stand.the-variants.{Before, Same, After}
+use Rattle.styles.specs.declared.Value.{Value}
+use Rattle.styles.specs.declared.Value.the-variants.{Null}
+use Rattle.styles.specs.declared.Winner.{Winner}
+use Rattle.styles.specs.declared.Winner.the-variants.{Nothing, Shows}
+use lib.Dec.{eqb}
+use Rattle.styles.specs.Values.{shown}
+use Rattle.styles.specs.Order.{stands, then, numbers, isBefore, idOf, less, sameId}
+
+-- each mark of the list comes after the identity
+unfoldable pub Above : Identity → List Mark → Type 0
+Above i [] = Unit {0}
+Above i (m ∷ ms) = (stands i (idOf m) ≡ Before) × Above i ms
+
+unfoldable pub Sorted : List Mark → Type 0
+unfolding Above
+Sorted [] = Unit {0}
+Sorted (m ∷ ms) = Above (idOf m) ms × Sorted ms
+
+-- the identity is carried
+unfoldable pub member : Identity → List Mark → Bool
+member i [] = false
+member i (m ∷ ms) = cond (sameId i (idOf m)) true (member i ms)
+
+-- the set with one mark more; an identity that is there stays as it was
+abbrev pub insertStep : Stand → Mark → Mark → List Mark → List Mark → List Mark
+insertStep Before m x xs rest = m ∷ x ∷ xs
+insertStep Same m x xs rest = x ∷ xs
+insertStep After m x xs rest = x ∷ rest
+
+unfoldable pub insertMark : Mark → List Mark → List Mark
+insertMark m [] = m ∷ []
+insertMark m (x ∷ xs) = insertStep (stands (idOf m) (idOf x)) m x xs (insertMark m xs)
+
+-- both sets together; an identity of both is as the second has it
+unfoldable pub union : List Mark → List Mark → List Mark
+unfolding insertMark
+union [] ys = ys
+union (x ∷ xs) ys = insertMark x (union xs ys)
+
+-- the set without an identity
+unfoldable pub removeMark : Identity → List Mark → List Mark
+removeMark i [] = []
+removeMark i (m ∷ ms) = cond (sameId i (idOf m)) (removeMark i ms) (m ∷ removeMark i ms)
+
+-- the marks of the first whose identity the second carries too
+unfoldable pub common : List Mark → List Mark → List Mark
+unfolding member
+common [] ys = []
+common (m ∷ ms) ys = cond (member (idOf m) ys) (m ∷ common ms ys) (common ms ys)
+
+-- the marks for which a test holds
+unfoldable pub only : (Mark → Bool) → List Mark → List Mark
+only f [] = []
+only f (m ∷ ms) = cond (f m) (m ∷ only f ms) (only f ms)
+
+abbrev pub keyIs : ℕ → Mark → Bool
+keyIs k m = eqb (m .key) k
+
+-- some mark has the key
+unfoldable pub hasKey : ℕ → List Mark → Bool
+hasKey k [] = false
+hasKey k (m ∷ ms) = cond (keyIs k m) true (hasKey k ms)
+
+-- a mark put in at a place of a list
+unfoldable pub insertAt : ℕ → Mark → List Mark → List Mark
+insertAt zero m ms = m ∷ ms
+insertAt (suc i) m [] = []
+insertAt (suc i) m (x ∷ xs) = x ∷ insertAt i m xs
+
+-- how many marks at the front come before an identity: where it stands in a sorted list, or would
+unfoldable pub placeOf : Identity → List Mark → ℕ
+placeOf i [] = 0
+placeOf i (m ∷ ms) = cond (less (idOf m) i) (suc (placeOf i ms)) 0
+
+-- the mark that shows for a key: the greatest lamport, then the greatest peer
+abbrev pub later : Mark → Mark → Bool
+later a b = isBefore (then (numbers (a .lamport) (b .lamport)) (numbers (a .peer) (b .peer)))
+
+abbrev pub better : Mark → Winner → Winner
+better m Nothing = Shows m
+better m (Shows x) = cond (later m x) (Shows x) (Shows m)
+
+unfoldable pub winner : ℕ → List Mark → Winner
+winner k [] = Nothing
+winner k (m ∷ ms) = cond (eqb (m .key) k) (better m (winner k ms)) (winner k ms)
+
+-- the value shown for a key is one that shows as w; no mark shows nothing
+abbrev pub shownBy : Value → Winner → Bool
+shownBy w Nothing = false
+shownBy w (Shows m) = shown (m .value) w
+
+abbrev pub showsValue : ℕ → Value → List Mark → Bool
+showsValue k w l = shownBy w (winner k l)
+
+abbrev pub valueIs : Value → Mark → Bool
+valueIs w m = shown (m .value) w
+
+abbrev pub blank : Mark
+blank = record { key = 0; flags = 0; lamport = 0; peer = 0; value = Null }

@@ -1,0 +1,41 @@
+-- The order of identities: by key, then lamport, then peer. All else asks `stands` alone.
+use Prim.Native.Nat.{ℕ}
+use mathlib.Core.Bool.{Bool, true, false, cond}
+use lib.Dec.{ltb, eqb}
+use Rattle.styles.specs.declared.Identity.{Identity}
+use Rattle.styles.specs.declared.Mark.{Mark}
+use Rattle.styles.specs.declared.Stand.{Stand}
+use Rattle.styles.specs.declared.Stand.the-variants.{Before, Same, After}
+
+unfoldable pub numbers : ℕ → ℕ → Stand
+numbers a b = cond (ltb a b) Before (cond (eqb a b) Same After)
+
+-- the first that is not the same decides
+abbrev pub then : Stand → Stand → Stand
+then Before s = Before
+then Same s = s
+then After s = After
+
+unfoldable pub stands : Identity → Identity → Stand
+unfolding numbers
+stands a b = then (numbers (a .key) (b .key)) (then (numbers (a .lamport) (b .lamport)) (numbers (a .peer) (b .peer)))
+
+abbrev pub idOf : Mark → Identity
+idOf m = record { key = m .key; lamport = m .lamport; peer = m .peer }
+
+abbrev pub isBefore : Stand → Bool
+isBefore Before = true
+isBefore Same = false
+isBefore After = false
+
+abbrev pub isSame : Stand → Bool
+isSame Before = false
+isSame Same = true
+isSame After = false
+
+-- one identity comes before another, and: it is another
+abbrev pub less : Identity → Identity → Bool
+less a b = isBefore (stands a b)
+
+abbrev pub sameId : Identity → Identity → Bool
+sameId a b = isSame (stands a b)
