@@ -1,13 +1,17 @@
--- How many runs an edit leaves: an annotation or an insertion at most two more, a deletion at most one more.
+-- How many runs an edit leaves: an alteration at most two more, a deletion none more, an insertion at most two more, and one more where the
+-- new positions get what their neighbours have in common.
 use Prim.Native.Nat.{ℕ, zero, suc, _+_, _-_, _≤_, _<_, min, max}
-use mathlib.Core.Path.{_≡_, refl, sym, ap, _∙_}
+use mathlib.Core.Path.{_≡_, refl, sym, ap, ap₂, _∙_}
 use mathlib.Core.List.{List, [], _∷_}
 use native.Mathlib.Omega.{arith}
-use native.Mathlib.Decide.{decLe}
+use native.Mathlib.Decide.{decLt, decLe, ℕ-discrete}
+use lib.Bits.{bitAnd, and-self}
 use lib.ListN.{length}
 use Rattle.runs.specs.Runs.{Run, run, total, pushRun, clip, copyRuns, adding}
 use Rattle.runs.specs.Edits.{part, altered, deleted, inserted}
-use Rattle.runs.proofs.Laws.{push-by}
+use Rattle.runs.specs.Scan.{commonAt}
+use Rattle.runs.proofs.Laws.{push-none, push-join, push-new, push-by, at-in, at-last, length-push, length-copy}
+use Rattle.runs.proofs.EditLaws.{add-none}
 
 -- 1 where there is one at least, else 0
 ind : ℕ → ℕ
@@ -84,16 +88,6 @@ touched-cut from mid to up up′ [] = omega arith
 touched-cut from mid to up up′ (r ∷ rs) =
     omega (arith, touched-cut from mid to up up′ rs, cut from mid to (total rs) (r .len) up up′)
 
-ind-mono : (x y : ℕ) → x ≤ y → ind x ≤ ind y
-unfolding ind
-ind-mono x y h = omega arith
-
-touched-later : (a b to : ℕ) → a ≤ b → (rs : List Run) → touched b to rs ≤ touched a to rs
-unfolding touched
-touched-later a b to up [] = omega arith
-touched-later a b to up (r ∷ rs) =
-    omega (arith, touched-later a b to up rs, ind-mono (clip b to (total rs) (r .len)) (clip a to (total rs) (r .len)) (omega arith))
-
 -- ---- the edits
 most-one : (x : ℕ) → ind x ≤ 1
 unfolding ind
@@ -115,22 +109,6 @@ module _ (rs : List Run) (a b : ℕ) (up : a ≤ b) (fits : b ≤ total rs) wher
         most-one (total rs - b),
       )
 
-  -- a deletion
-  touched-less : touched 0 a rs + touched b (total rs) rs ≤ length rs + 1
-  touched-less =
-      omega (
-        arith,
-        touched-cut 0 a (total rs) (omega arith) (omega arith) rs,
-        touched-later a b (total rs) up rs,
-        touched-all 0 (total rs) rs,
-        most-one (total rs - a),
-      )
-
-  pub deleted-runs : length (deleted rs a b) ≤ length rs + 1
-  unfolding deleted
-  deleted-runs =
-      omega (arith, copied-runs (adding 0) (part [] 0 a rs) b (total rs) rs, copied-runs (adding 0) [] 0 a rs, touched-less)
-
 pub inserted-runs : (rs : List Run) (pos l s : ℕ) → pos ≤ total rs → length (inserted rs pos l s) ≤ length rs + 2
 unfolding inserted
 inserted-runs rs pos l s h =
@@ -144,3 +122,139 @@ inserted-runs rs pos l s h =
       most-one (total rs - pos),
       most-one l,
     )
+
+-- ---- two pushes of one set are one
+more-len : (l k s : ℕ) (rs : List Run) → l ≡ k → run l s ∷ rs ≡ run k s ∷ rs
+more-len l k s rs e = λ i. run (e i) s ∷ rs
+
+again : (rs : List Run) (l k s : ℕ) → pushRun (run l s ∷ rs) k s ≡ run (l + k) s ∷ rs
+again rs l k s =
+    elim (ℕ-discrete k 0) [
+      | yes z ↦ push-none (run l s ∷ rs) k s z ∙ more-len l (l + k) s rs (omega arith)
+      | no nz ↦ push-join (run l s) rs k s nz refl
+    ]
+
+pub push-push : (rs : List Run) (l k s : ℕ) → pushRun (pushRun rs l s) k s ≡ pushRun rs (l + k) s
+push-push rs l k s =
+    push-by (λ a b. pushRun b k s ≡ pushRun a (l + k) s) l s
+    (λ a z. let e : l + k ≡ k = omega arith in rw e)
+    (λ r a nz e. again a (r .len + l) k s ∙ more-len (r .len + l + k) (r .len + (l + k)) s a (omega arith) ∙ sym (push-join r a (l + k) s (λ z. nz (omega arith)) e))
+    (λ a nz o. again a l k s ∙ sym (push-new a (l + k) s (λ z. nz (omega arith)) o))
+    rs
+
+-- ---- a deletion leaves no more runs than there were
+-- nothing of the runs that end before `from`, and nothing more of those past `to`
+copy-none : (f : ℕ → ℕ) (base : List Run) (from to : ℕ) (rs : List Run) → total rs ≤ from → copyRuns f base from to rs ≡ base
+unfolding copyRuns total
+copy-none f base from to [] h = refl
+copy-none f base from to (r ∷ rs) h =
+    push-none (copyRuns f base from to rs) (clip from to (total rs) (r .len)) (f (r .set)) (omega arith) ∙ copy-none f base from to rs (omega arith)
+
+copy-to-end : (f : ℕ → ℕ) (base : List Run) (from to to′ : ℕ) (rs : List Run) → total rs ≤ to → total rs ≤ to′ → copyRuns f base from to rs ≡ copyRuns f base from to′ rs
+unfolding copyRuns total
+copy-to-end f base from to to′ [] h g = refl
+copy-to-end f base from to to′ (r ∷ rs) h g =
+    let e : clip from to (total rs) (r .len) ≡ clip from to′ (total rs) (r .len) =
+    let x : min to (total rs + r .len) ≡ total rs + r .len = omega arith in
+    let y : min to′ (total rs + r .len) ≡ total rs + r .len = omega arith in
+    rw (x, y)
+    in
+    let i = copy-to-end f base from to to′ rs (omega arith) (omega arith) in
+    λ j. pushRun (i j) (e j) (f (r .set))
+
+-- of a list with one run more, the part before a position that the others reach
+copy-short : (f : ℕ → ℕ) (from a : ℕ) (r : Run) (rs : List Run) → a ≤ total rs → copyRuns f [] from a (r ∷ rs) ≡ copyRuns f [] from a rs
+unfolding copyRuns
+copy-short f from a r rs h = push-none (copyRuns f [] from a rs) (clip from a (total rs) (r .len)) (f (r .set)) (omega arith)
+
+part-short : (a : ℕ) (rs : List Run) → length (part [] 0 a rs) ≤ length rs
+part-short a rs = omega (arith, length-copy (adding 0) [] 0 a rs)
+
+pub deleted-runs : (rs : List Run) (a b : ℕ) → a ≤ b → b ≤ total rs → length (deleted rs a b) ≤ length rs
+unfolding deleted copyRuns total
+deleted-runs [] a b up fits = omega arith
+deleted-runs (r ∷ rs) a b up fits =
+    let front = part [] 0 a (r ∷ rs) in
+    let rest = part front b (total rs + r .len) rs in
+    let len = clip b (total rs + r .len) (total rs) (r .len) in
+    let s = adding 0 (r .set) in
+    elim (decLe b (total rs)) [
+      | yes h ↦
+          let e : rest ≡ deleted rs a b =
+          copy-to-end (adding 0) front b (total rs + r .len) (total rs) rs (omega arith) (omega arith)
+          ∙ ap (λ (x : List Run). part x b (total rs) rs) (copy-short (adding 0) 0 a r rs (omega arith))
+          in
+          omega (arith, length-push rest len s, ap length e, deleted-runs rs a b up h)
+      | no h ↦
+          let e : rest ≡ front = copy-none (adding 0) front b (total rs + r .len) rs (omega arith) in
+          let g : pushRun rest len s ≡ pushRun (part [] 0 a rs) (clip 0 a (total rs) (r .len) + len) s =
+          ap (λ (x : List Run). pushRun x len s) e ∙ push-push (part [] 0 a rs) (clip 0 a (total rs) (r .len)) len s
+          in
+          omega (arith, ap length g, length-push (part [] 0 a rs) (clip 0 a (total rs) (r .len) + len) s, part-short a rs)
+    ]
+
+-- ---- an insertion of what its neighbours have in common leaves one run more at most
+-- with one run more behind the place, the others as before
+insert-later : (pos l s : ℕ) (r : Run) (rs : List Run) → pos ≤ total rs
+    → inserted (r ∷ rs) pos l s ≡ pushRun (inserted rs pos l s) (clip pos (total rs + r .len) (total rs) (r .len)) (adding 0 (r .set))
+unfolding inserted copyRuns total
+insert-later pos l s r rs h =
+    let k = clip pos (total rs + r .len) (total rs) (r .len) in
+    let grown : List Run → List Run = λ x. pushRun x l s in
+    ap (λ (x : List Run). pushRun x k (adding 0 (r .set)))
+    (ap (λ (x : List Run). part (grown x) pos (total rs + r .len) rs) (copy-short (adding 0) 0 pos r rs h)
+    ∙ copy-to-end (adding 0) (grown (part [] 0 pos rs)) pos (total rs + r .len) (total rs) rs (omega arith) (omega arith))
+
+-- at the end or past it, a push
+insert-last : (rs : List Run) (pos l s : ℕ) → total rs ≤ pos → length (inserted rs pos l s) ≤ length rs + 1
+unfolding inserted
+insert-last rs pos l s h =
+    let grown = pushRun (part [] 0 pos rs) l s in
+    omega (arith, ap length (copy-none (adding 0) grown pos (total rs) rs h), length-push (part [] 0 pos rs) l s, part-short pos rs)
+
+-- inside the last run, with its set: the three pushes are one
+insert-inside : (r : Run) (rs : List Run) (pos l s : ℕ) → total rs ≤ pos → s ≡ r .set → length (inserted (r ∷ rs) pos l s) ≤ length rs + 1
+unfolding inserted copyRuns total
+insert-inside r rs pos l s h e =
+    let k = clip pos (total rs + r .len) (total rs) (r .len) in
+    let d = clip 0 pos (total rs) (r .len) in
+    let u = adding 0 (r .set) in
+    let base = part [] 0 pos rs in
+    let grown = pushRun (pushRun base d u) l s in
+    let i : s ≡ u = e ∙ sym (add-none (r .set)) in
+    let g : pushRun (part grown pos (total rs + r .len) rs) k u ≡ pushRun base (d + l + k) u =
+    ap (λ (x : List Run). pushRun x k u) (copy-none (adding 0) grown pos (total rs + r .len) rs h ∙ ap (pushRun (pushRun base d u) l) i ∙ push-push base d l u)
+    ∙ push-push base (d + l) k u
+    in
+    omega (arith, ap length g, length-push base (d + l + k) u, part-short pos rs)
+
+common-in : (r : Run) (rs : List Run) (pos : ℕ) → pos < total rs → commonAt (r ∷ rs) pos ≡ commonAt rs pos
+unfolding commonAt
+common-in r rs zero h = refl
+common-in r rs (suc p) h = ap₂ bitAnd (at-in r rs p (omega arith)) (at-in r rs (suc p) h)
+
+common-last : (r : Run) (rs : List Run) (pos : ℕ) → total rs < pos → pos < total rs + r .len → commonAt (r ∷ rs) pos ≡ r .set
+unfolding commonAt
+common-last r rs zero h g = absurd (omega arith)
+common-last r rs (suc p) h g = ap₂ bitAnd (at-last r rs p (omega arith) (omega arith)) (at-last r rs (suc p) (omega arith) g) ∙ and-self (r .set)
+
+pub inserted-common : (rs : List Run) (pos l : ℕ) → pos ≤ total rs → length (inserted rs pos l (commonAt rs pos)) ≤ length rs + 1
+unfolding total
+inserted-common [] pos l h = insert-last [] pos l (commonAt [] pos) (omega arith)
+inserted-common (r ∷ rs) pos l h =
+    let s = commonAt (r ∷ rs) pos in
+    let later : pos ≤ total rs → length (inserted (r ∷ rs) pos l s) ≤ length (inserted rs pos l s) + 1 =
+    λ k. omega (arith, ap length (insert-later pos l s r rs k), length-push (inserted rs pos l s) (clip pos (total rs + r .len) (total rs) (r .len)) (adding 0 (r .set)))
+    in
+    elim (decLt pos (total rs)) [
+      | yes k ↦ omega (arith, later (omega arith), ap (λ (x : ℕ). length (inserted rs pos l x)) (common-in r rs pos k), inserted-common rs pos l (omega arith))
+      | no k ↦
+          elim (decLe pos (total rs)) [
+            | yes g ↦ omega (arith, later g, insert-last rs pos l s (omega arith))
+            | no g ↦
+                elim (decLt pos (total rs + r .len)) [
+                  | yes i ↦ omega (arith, insert-inside r rs pos l s (omega arith) (common-last r rs pos (omega arith) i))
+                  | no i ↦ insert-last (r ∷ rs) pos l s (omega arith)
+                ]
+          ]
+    ]

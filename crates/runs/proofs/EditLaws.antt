@@ -1,15 +1,18 @@
 -- The laws of `specs/Edits.antt`: how many positions an edit leaves, the set at each, the form, and the number of runs.
-use Prim.Native.Nat.{ℕ, zero, suc, _+_, _-_, _≤_, _<_, min, max}
-use mathlib.Core.Path.{_≡_, refl, sym, ap, _∙_, subst}
+use Prim.Native.Nat.{ℕ, _+_, _-_, _≤_, _<_, min}
+use mathlib.Core.Path.{_≡_, sym, ap, _∙_}
+use mathlib.Core.Bool.{cond, _&&_}
 use mathlib.Core.List.{List, [], _∷_}
 use native.Mathlib.Omega.{arith}
-use native.Mathlib.Decide.{decLt, decLe}
+use native.Mathlib.Decide.{decLt}
+use lib.Dec.{ltb, leb}
 use lib.ListN.{length}
 use lib.Bits.{bitOr, bitAnd, or-zero-r, and-zero-r}
 use native.Mathlib.Nat.{sub-zero}
+use borrow.Author.Tests.{lt-ltb, le-ltb, le-leb, lt-leb}
 use Rattle.runs.specs.Runs.{Run, total, setAt, Canon, pushRun, clip, copyRuns, changing, adding, runs, CanCopy, CanPush}
 use Rattle.runs.specs.Edits.{part, altered, deleted, inserted, CanEdit}
-use Rattle.runs.proofs.Laws.{total-push, push-before, push-at, canon-push, push-longer, total-copy, copy-before, copy-at, canon-copy, length-runs}
+use Rattle.runs.proofs.Laws.{at-past, total-push, push-before, push-at, canon-push, push-longer, total-copy, copy-before, copy-at, canon-copy, length-runs}
 
 pub add-is : (bits s : ℕ) → adding bits s ≡ bitOr s bits
 unfolding changing
@@ -73,6 +76,24 @@ copy-to f base from to rs q r e l g h =
     let j : from + (r - from) ≡ r = omega arith in
     ap (setAt (copyRuns f base from to rs)) i ∙ copy-at f base from to rs (r - from) (omega arith) (omega arith) ∙ ap (λ (x : ℕ). f (setAt rs x)) j
 
+-- the set at each position of a copy, in one equation
+pub at-copy : (f : ℕ → ℕ) (base : List Run) (from to : ℕ) (rs : List Run) (p : ℕ) → setAt (copyRuns f base from to rs) p
+    ≡ cond (ltb p (total base)) (setAt base p) (cond (ltb p (total base + (min to (total rs) - from))) (f (setAt rs (from + (p - total base)))) 0)
+at-copy f base from to rs p =
+    elim (decLt p (total base)) [
+      | yes h ↦ simp (lt-ltb p (total base) h) (copy-before f base from to rs p h)
+      | no h ↦
+          let t = total-copy f base from to rs in
+          elim (decLt p (total base + (min to (total rs) - from))) [
+            | yes g ↦
+                simp (le-ltb p (total base) (omega arith), lt-ltb p (total base + (min to (total rs) - from)) g)
+                (copy-to f base from to rs p (from + (p - total base)) (omega arith) (omega arith) (omega arith) (omega arith))
+            | no g ↦
+                simp (le-ltb p (total base) (omega arith), le-ltb p (total base + (min to (total rs) - from)) (omega arith))
+                (at-past (copyRuns f base from to rs) p (omega arith))
+          ]
+    ]
+
 pub part-to : (base : List Run) (from to : ℕ) (rs : List Run) (q r : ℕ) → q + from ≡ total base + r → from ≤ r → r < to → r < total rs
     → setAt (part base from to rs) q ≡ setAt rs r
 part-to base from to rs q r e l g h = copy-to (adding 0) base from to rs q r e l g h ∙ add-none (setAt rs r)
@@ -124,6 +145,24 @@ module _ (rs : List Run) (a b : ℕ) (f : ℕ → ℕ) (up : a ≤ b) (fits : b 
             ]
       ]
 
+-- the set at each position, in one equation
+pub at-altered : (rs : List Run) (a b : ℕ) (f : ℕ → ℕ) → a ≤ b → b ≤ total rs → (p : ℕ)
+    → setAt (altered rs a b f) p ≡ cond (leb a p && ltb p b) (f (setAt rs p)) (setAt rs p)
+at-altered rs a b f up fits p =
+    elim (decLt p a) [
+      | yes h ↦ simp (lt-leb a p h) (altered-out rs a b f up fits p (λ x y. omega arith) (omega arith))
+      | no h ↦
+          elim (decLt p b) [
+            | yes g ↦ simp (le-leb a p (omega arith), lt-ltb p b g) (altered-in rs a b f up fits p (omega arith) g)
+            | no g ↦
+                simp (le-leb a p (omega arith), le-ltb p b (omega arith))
+                (elim (decLt p (total rs)) [
+                  | yes k ↦ altered-out rs a b f up fits p (λ x y. omega arith) k
+                  | no k ↦ at-past (altered rs a b f) p (omega (arith, total-altered rs a b f up fits)) ∙ sym (at-past rs p (omega arith))
+                ])
+          ]
+    ]
+
 pub canon-altered : (rs : List Run) (a b : ℕ) (f : ℕ → ℕ) → Canon (altered rs a b f)
 unfolding altered Canon
 canon-altered rs a b f =
@@ -144,6 +183,21 @@ module _ (rs : List Run) (a b : ℕ) (up : a ≤ b) (fits : b ≤ total rs) wher
   pub deleted-after : (p : ℕ) → b ≤ p → p < total rs → setAt (deleted rs a b) (p - (b - a)) ≡ setAt rs p
   unfolding deleted
   deleted-after p h g = part-to (part [] 0 a rs) b (total rs) rs (p - (b - a)) p (omega (arith, total-front a rs (omega arith))) h g g
+
+pub at-deleted : (rs : List Run) (a b : ℕ) → a ≤ b → b ≤ total rs → (p : ℕ)
+    → setAt (deleted rs a b) p ≡ cond (ltb p a) (setAt rs p) (setAt rs (p + (b - a)))
+at-deleted rs a b up fits p =
+    elim (decLt p a) [
+      | yes h ↦ simp (lt-ltb p a h) (deleted-before rs a b up fits p h)
+      | no h ↦
+          simp (le-ltb p a (omega arith))
+          (elim (decLt (p + (b - a)) (total rs)) [
+            | yes k ↦
+                let e : p + (b - a) - (b - a) ≡ p = omega arith in
+                rw e at (deleted-after rs a b up fits (p + (b - a)) (omega arith) k)
+            | no k ↦ at-past (deleted rs a b) p (omega (arith, total-deleted rs a b up fits)) ∙ sym (at-past rs (p + (b - a)) (omega arith))
+          ])
+    ]
 
 -- ---- an insertion
 module _ (rs : List Run) (pos l s : ℕ) (fits : pos ≤ total rs) where
@@ -174,6 +228,25 @@ module _ (rs : List Run) (pos l s : ℕ) (fits : pos ≤ total rs) where
   pub inserted-after : (p : ℕ) → pos ≤ p → p < total rs → setAt (inserted rs pos l s) (p + l) ≡ setAt rs p
   unfolding inserted grown
   inserted-after p g h = part-to grown pos (total rs) rs (p + l) p (omega (arith, total-grown)) g h h
+
+pub at-inserted : (rs : List Run) (pos l s : ℕ) → pos ≤ total rs → (p : ℕ)
+    → setAt (inserted rs pos l s) p ≡ cond (ltb p pos) (setAt rs p) (cond (ltb p (pos + l)) s (setAt rs (p - l)))
+at-inserted rs pos l s fits p =
+    elim (decLt p pos) [
+      | yes h ↦ simp (lt-ltb p pos h) (inserted-before rs pos l s fits p h)
+      | no h ↦
+          elim (decLt p (pos + l)) [
+            | yes g ↦ simp (le-ltb p pos (omega arith), lt-ltb p (pos + l) g) (inserted-in rs pos l s fits p (omega arith) g)
+            | no g ↦
+                simp (le-ltb p pos (omega arith), le-ltb p (pos + l) (omega arith))
+                (elim (decLt (p - l) (total rs)) [
+                  | yes k ↦
+                      let e : p - l + l ≡ p = omega arith in
+                      rw e at (inserted-after rs pos l s fits (p - l) (omega arith) k)
+                  | no k ↦ at-past (inserted rs pos l s) p (omega (arith, total-inserted rs pos l s fits)) ∙ sym (at-past rs (p - l) (omega arith))
+                ])
+          ]
+    ]
 
 pub canon-deleted : (rs : List Run) (a b : ℕ) → Canon (deleted rs a b)
 unfolding deleted Canon

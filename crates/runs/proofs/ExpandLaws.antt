@@ -1,13 +1,13 @@
 -- The edits on the plain list of sets.
-use Prim.Native.Nat.{ℕ, zero, suc, _+_, _-_, _≤_, _<_, min, max}
+use Prim.Native.Nat.{ℕ, zero, suc, _+_, _-_, _≤_, min, max}
 use mathlib.Core.Path.{_≡_, refl, sym, ap, _∙_}
 use mathlib.Core.List.{List, [], _∷_, _++_, append-assoc, append-nil, map}
 use native.Mathlib.Omega.{arith}
 use native.Mathlib.Decide.{decLe}
 use native.Mathlib.Nat.{zero-sub, sub-zero, suc-sub-suc, zero-min, min-zero, suc-min-suc}
-use lib.ListN.{length, take, drop, replicate, replicate-append-replicate, length-append, length-replicate, length-take, length-drop}
+use lib.ListN.{length, take, drop, replicate, replicate-append-replicate, length-append, length-replicate, length-take}
 use lib.Seq.{take-all, take-nil, drop-nil}
-use Rattle.runs.specs.Runs.{Run, run, total, setAt, pushRun, clip, copyRuns, adding}
+use Rattle.runs.specs.Runs.{Run, total, pushRun, clip, copyRuns, adding}
 use Rattle.runs.specs.Edits.{part, altered, deleted, inserted}
 use Rattle.runs.specs.Expand.{expand}
 use Rattle.runs.proofs.Laws.{push-by}

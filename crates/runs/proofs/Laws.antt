@@ -1,15 +1,15 @@
 -- The laws of `specs/Runs.antt`.
-use Prim.Native.Nat.{ℕ, zero, suc, _+_, _-_, _≤_, _<_, _^_, min, max}
+use Prim.Native.Nat.{ℕ, zero, suc, _+_, _-_, _≤_, _<_, min}
 use mathlib.Core.Path.{_≡_, refl, sym, ap, _∙_, subst}
-use mathlib.Core.Bool.{Bool, true, false, cond}
+use mathlib.Core.Bool.{cond}
 use mathlib.Core.List.{List, [], _∷_}
 use native.Mathlib.Omega.{arith}
 use native.Mathlib.Decide.{decLt, decLe, ℕ-discrete}
 use native.Mathlib.Numerals.{add-one, sub-one}
 use lib.ListN.{length, getD, set}
 use lib.Seq.{getD-set-same, getD-set-other}
-use lib.Dec.{ltb, eqb}
-use borrow.Author.Tests.{lt-ltb, le-ltb, eq-eqb, ne-eqb, ltb-true, ltb-false, eqb-true, eqb-false}
+use lib.Dec.{ltb}
+use borrow.Author.Tests.{lt-ltb, le-ltb, eq-eqb, ne-eqb}
 use Rattle.runs.specs.Runs.{Run, run, runs, total, setAt, Other, Canon, joinRun, pushRun, clip, copyRuns, sums, Found, Spare}
 
 -- ---- the three forms of a push
@@ -366,3 +366,21 @@ pub found-none : (lens sets : List ℕ) (n pos i start : ℕ) → Found lens n p
 found-none lens sets n pos i start f h =
     let e : i ≡ n = omega arith in
     at-past (runs lens sets n) pos (omega (arith, total-sums lens sets n, ap (sums lens) e))
+
+-- a position below the end is in a run; from the end on the answer is the number of runs, and their sum
+pub found-inside : (lens : List ℕ) (n pos i start : ℕ) → Found lens n pos i start → pos < sums lens n → i < n
+found-inside lens n pos i start f h =
+    elim (decLt i n) [
+      | yes k ↦ k
+      | no k ↦ let e : i ≡ n = omega arith in absurd (omega (arith, ap (sums lens) e))
+    ]
+
+pub found-past : (lens : List ℕ) (n pos i start : ℕ) → Found lens n pos i start → sums lens n ≤ pos → (i ≡ n) × (start ≡ sums lens n)
+found-past lens n pos i start f h =
+    let e : i ≡ n =
+    elim (decLt i n) [
+      | yes k ↦ let below = f .inside k in absurd (omega (arith, sums-more lens i, sums-mono lens (i + 1) n (omega arith)))
+      | no k ↦ omega arith
+    ]
+    in
+    (e, f .starts ∙ ap (sums lens) e)

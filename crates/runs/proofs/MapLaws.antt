@@ -1,16 +1,15 @@
 -- A renumbering of sets in place: the runs stay as they are, and every position's set is changed.
-use Prim.Native.Nat.{ℕ, zero, suc, _+_, _≤_, _<_}
+use Prim.Native.Nat.{ℕ, zero, suc, _+_, _<_}
 use mathlib.Core.Path.{_≡_, refl, sym, ap, _∙_}
 use mathlib.Core.List.{List, [], _∷_, map}
 use native.Mathlib.Omega.{arith}
 use native.Mathlib.Decide.{decLt}
-use lib.ListN.{length, getD}
-use Rattle.runs.specs.Runs.{Run, run, runs, total, setAt, Other, Canon, mapRuns, AllSets}
-use Rattle.runs.proofs.Laws.{at-in, at-last, at-past}
-
-past : (r : Run) (rs : List Run) (p : ℕ) → total rs + r .len ≤ p → setAt (r ∷ rs) p ≡ 0
-unfolding total
-past r rs p h = at-past (r ∷ rs) p h
+use native.Mathlib.Numerals.{add-one}
+use lib.ListN.{length, getD, set, length-set}
+use lib.Seq.{getD-set-same, getD-set-other}
+use Rattle.runs.specs.Runs.{Run, run, runs, total, setAt, Other, Canon, mapRuns, AllSets, Spare}
+use Rattle.runs.specs.Gather.{Renumbered}
+use Rattle.runs.proofs.Laws.{at-in, at-last, at-past, runs-set-set}
 
 module _ (f : ℕ → ℕ) where
   pub total-map : (rs : List Run) → total (mapRuns f rs) ≡ total rs
@@ -23,20 +22,23 @@ module _ (f : ℕ → ℕ) where
   length-map [] = refl
   length-map (r ∷ rs) = ap suc (length-map rs)
 
-  -- the empty set stays empty
+  pub at-map-in : (rs : List Run) (p : ℕ) → p < total rs → setAt (mapRuns f rs) p ≡ f (setAt rs p)
+  unfolding mapRuns total
+  at-map-in [] p h = absurd (omega arith)
+  at-map-in (r ∷ rs) p h =
+      let t = total-map rs in
+      elim (decLt p (total rs)) [
+        | yes k ↦ at-in (run (r .len) (f (r .set))) (mapRuns f rs) p (omega arith) ∙ at-map-in rs p k ∙ ap f (sym (at-in r rs p k))
+        | no k ↦ at-last (run (r .len) (f (r .set))) (mapRuns f rs) p (omega arith) (omega arith) ∙ ap f (sym (at-last r rs p (omega arith) h))
+      ]
+
+  -- where the empty set stays empty, also past the end
   module _ (none : f 0 ≡ 0) where
     pub at-map : (rs : List Run) (p : ℕ) → setAt (mapRuns f rs) p ≡ f (setAt rs p)
-    unfolding mapRuns setAt
-    at-map [] p = sym none
-    at-map (r ∷ rs) p =
-        let t = total-map rs in
+    at-map rs p =
         elim (decLt p (total rs)) [
-          | yes h ↦ at-in (run (r .len) (f (r .set))) (mapRuns f rs) p (omega arith) ∙ at-map rs p ∙ ap f (sym (at-in r rs p h))
-          | no h ↦
-              elim (decLt p (total rs + r .len)) [
-                | yes k ↦ at-last (run (r .len) (f (r .set))) (mapRuns f rs) p (omega arith) (omega arith) ∙ ap f (sym (at-last r rs p (omega arith) k))
-                | no k ↦ past (run (r .len) (f (r .set))) (mapRuns f rs) p (omega arith) ∙ sym none ∙ ap f (sym (past r rs p (omega arith)))
-              ]
+          | yes h ↦ at-map-in rs p h
+          | no h ↦ at-past (mapRuns f rs) p (omega (arith, total-map rs)) ∙ sym none ∙ ap f (sym (at-past rs p (omega arith)))
         ]
 
     getD-map : (sets : List ℕ) (i : ℕ) → getD (map f sets) i 0 ≡ f (getD sets i 0)
@@ -60,3 +62,43 @@ module _ (f : ℕ → ℕ) where
     unfolding Canon mapRuns AllSets
     canon-map [] a c = tt
     canon-map (r ∷ rs) a c = (c .0, other-map (r .set) rs (a .0) (a .1) (c .1), canon-map rs (a .1) (c .2))
+
+-- ---- sets renumbered where they stand, one at a time
+pub renumber-none : (f : ℕ → ℕ) (sets : List ℕ) → Renumbered f 0 sets sets
+unfolding runs mapRuns
+renumber-none f sets = record { front = λ lens. refl; rest = λ j h. refl; kept = refl }
+
+pub renumber-more : (f : ℕ → ℕ) {before sets : List ℕ} (k v : ℕ) → Renumbered f k before sets → k < length before → v ≡ f (getD sets k 0)
+    → Renumbered f (k + 1) before (set sets k v)
+unfolding runs mapRuns
+renumber-more f {before} {sets} k v s h e =
+    record {
+      front = λ lens.
+          let a = getD-set-same sets k v 0 (omega (arith, s .kept)) in
+          let b = runs-set-set lens sets k k v (omega arith) in
+          let d = s .front lens in
+          let g = ap f (s .rest k (omega arith)) in
+          rw add-one (cc);
+      rest = λ j g. getD-set-other sets k j v 0 (omega arith) ∙ s .rest j (omega arith);
+      kept = length-set sets k v ∙ s .kept;
+    }
+
+-- blank places stay blank
+pub renumber-spare : {f : ℕ → ℕ} {n : ℕ} {before after : List ℕ} (lens : List ℕ) → Renumbered f n before after → Spare lens before n → Spare lens after n
+unfolding Spare
+renumber-spare lens s p i h = (p i h .0, s .rest i h ∙ p i h .1)
+
+-- what holds of each of the first n sets, by its place
+pub all-sets-at : (P : ℕ → Type 0) (lens sets : List ℕ) (n : ℕ) → AllSets P (runs lens sets n) → (j : ℕ) → j < n → P (getD sets j 0)
+unfolding AllSets runs
+all-sets-at P lens sets zero a j h = absurd (omega arith)
+all-sets-at P lens sets (suc n) a j h =
+    elim (decLt j n) [
+      | yes k ↦ all-sets-at P lens sets n (a .1) j k
+      | no k ↦ let e : j ≡ n = omega arith in rw e (a .0)
+    ]
+
+pub at-all-sets : (P : ℕ → Type 0) (lens sets : List ℕ) (n : ℕ) → ((j : ℕ) → j < n → P (getD sets j 0)) → AllSets P (runs lens sets n)
+unfolding AllSets runs
+at-all-sets P lens sets zero h = tt
+at-all-sets P lens sets (suc n) h = (h n (omega arith), at-all-sets P lens sets n (λ j k. h j (omega arith)))

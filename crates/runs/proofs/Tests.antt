@@ -1,21 +1,111 @@
 -- The definitions at small tanks, by computation. The last run stands first.
-use Prim.Native.Nat.{ℕ}
+use Prim.Native.Nat.{ℕ, zero, suc, _≤_, _<_}
 use mathlib.Core.Path.{_≡_, refl}
+use mathlib.Core.Bool.{true, false}
 use mathlib.Core.List.{List, [], _∷_}
-use Rattle.runs.specs.Runs.{Run, run, runs, total, setAt, pushRun, copyRuns, changing, adding}
-use Rattle.runs.specs.Edits.{altered, deleted, inserted}
+use native.Mathlib.Omega.{arith}
+use lib.Count.{ones, onesIn}
+use lib.ListN.{getD}
+use Rattle.styles.specs.Bits.{openBit}
+use Rattle.runs.specs.declared.scan.Test.the-variants.{Meets, Misses, Hides, Differs}
+use Rattle.runs.specs.Runs.{Run, run, runs, total, setAt, Other, Canon, pushRun, joinRun, clip, copyRuns, changing, adding, sums, Found, Spare, mapRuns, AllSets}
+use Rattle.runs.specs.Edits.{part, altered, deleted, inserted}
+use Rattle.runs.specs.Gather.{gather, Renumbered}
+use Rattle.runs.specs.Scan.{anyAt, allAt, stretchTo, meets, topIn, shows, passes, commonAt, walked}
+use Rattle.runs.specs.Count.{starts, stretches, alikeIn, tallyOf}
+use Rattle.runs.specs.Lists.{stretch, extended, stretchesAt, clipped, numbers, entry, inFront, listed, marksIn}
+use Rattle.runs.specs.Expand.{expand}
 
 -- ten positions with no bit, then five with bit 1
 t : List Run
 t = run 5 2 ∷ run 10 0 ∷ []
 
+-- ---- runs
 is-runs : runs (10 ∷ 5 ∷ 99 ∷ []) (0 ∷ 2 ∷ 7 ∷ []) 2 ≡ t
 unfolding runs t
 is-runs = refl
 
+is-total : total t ≡ 15
+unfolding total t
+is-total = refl
+
+is-sums : sums (10 ∷ 5 ∷ 99 ∷ []) 2 ≡ 15
+unfolding sums
+is-sums = refl
+
 at-12 : setAt t 12 ≡ 2
 unfolding setAt t
 at-12 = refl
+
+at-15 : setAt t 15 ≡ 0
+unfolding setAt t
+at-15 = refl
+
+-- joined: no run is empty, neighbours differ, and so the last run is other than 7
+canon-t : Canon t
+unfolding Canon Other t
+canon-t = (omega arith, λ e. omega arith, (omega arith, tt, tt))
+
+other-t : Other 7 t
+unfolding Other t
+other-t = λ e. omega arith
+
+small-t : AllSets (λ s. s < 4) t
+unfolding AllSets t
+small-t = (omega arith, (omega arith, tt))
+
+-- position 12 is in run 1, which starts at 10; position 15 is past the end
+found-12 : Found (10 ∷ 5 ∷ []) 2 12 1 10
+unfolding sums
+found-12 = record { within = omega arith; starts = refl; reached = omega arith; inside = λ _. omega arith }
+
+found-15 : Found (10 ∷ 5 ∷ []) 2 15 2 15
+unfolding sums
+found-15 = record { within = omega arith; starts = refl; reached = omega arith; inside = λ h. absurd (omega arith) }
+
+-- from place 1 on there is nothing
+spare-1 : Spare (4 ∷ 0 ∷ []) (7 ∷ 0 ∷ []) 1
+unfolding Spare
+spare-1 zero h = absurd (omega arith)
+spare-1 (suc zero) h = (refl, refl)
+spare-1 (suc (suc i)) h = (refl, refl)
+
+-- ---- pushes and copies
+joins-last : pushRun t 3 2 ≡ run 8 2 ∷ run 10 0 ∷ []
+unfolding pushRun t
+joins-last = refl
+
+begins-new : pushRun t 3 1 ≡ run 3 1 ∷ run 5 2 ∷ run 10 0 ∷ []
+unfolding pushRun t
+begins-new = refl
+
+pushes-none : pushRun t 0 1 ≡ t
+unfolding pushRun t
+pushes-none = refl
+
+joins-nothing : joinRun [] 3 1 ≡ run 3 1 ∷ []
+unfolding joinRun
+joins-nothing = refl
+
+clips : clip 8 12 10 5 ≡ 2
+clips = refl
+
+copied : copyRuns (adding 1) (run 4 1 ∷ []) 8 12 t ≡ run 2 3 ∷ run 6 1 ∷ []
+unfolding copyRuns t changing
+copied = refl
+
+changes : changing 1 2 6 ≡ 5
+unfolding changing
+changes = refl
+
+renumbered : mapRuns (openBit 1) t ≡ run 5 4 ∷ run 10 0 ∷ []
+unfolding mapRuns openBit t
+renumbered = refl
+
+-- ---- edits
+front : part [] 0 12 t ≡ run 2 2 ∷ run 10 0 ∷ []
+unfolding copyRuns changing t
+front = refl
 
 noted : altered t 8 12 (adding 1) ≡ run 3 2 ∷ run 2 3 ∷ run 2 1 ∷ run 8 0 ∷ []
 unfolding altered t changing copyRuns
@@ -28,3 +118,108 @@ joined = refl
 grown : inserted t 10 4 0 ≡ run 5 2 ∷ run 14 0 ∷ []
 unfolding inserted t changing copyRuns
 grown = refl
+
+expanded : expand (run 2 5 ∷ run 3 0 ∷ []) ≡ 0 ∷ 0 ∷ 0 ∷ 5 ∷ 5 ∷ []
+unfolding expand
+expanded = refl
+
+-- ---- all sets together
+gathered : gather (run 1 4 ∷ run 5 2 ∷ run 10 0 ∷ []) ≡ 6
+unfolding gather
+gathered = refl
+
+-- the first two sets get bit 0 opened, the third stays
+renumbered-two : Renumbered (openBit 0) 2 (1 ∷ 3 ∷ 5 ∷ []) (2 ∷ 6 ∷ 5 ∷ [])
+unfolding runs mapRuns openBit
+renumbered-two = record { front = λ lens. refl; rest = after; kept = refl }
+  where
+    after : (j : ℕ) → 2 ≤ j → getD {A = ℕ} (2 ∷ 6 ∷ 5 ∷ []) j 0 ≡ getD {A = ℕ} (1 ∷ 3 ∷ 5 ∷ []) j 0
+    after zero h = absurd (omega arith)
+    after (suc zero) h = absurd (omega arith)
+    after (suc (suc j)) h = refl
+
+-- ---- questions over a range
+some : anyAt (λ p. meets 2 (setAt t p)) 8 12 ≡ true
+unfolding anyAt setAt t
+some = refl
+
+none : anyAt (λ p. meets 2 (setAt t p)) 8 10 ≡ false
+unfolding anyAt setAt t
+none = refl
+
+not-all : allAt (λ p. meets 2 (setAt t p)) 8 12 ≡ false
+unfolding allAt setAt t
+not-all = refl
+
+all : allAt (λ p. meets 2 (setAt t p)) 10 15 ≡ true
+unfolding allAt setAt t
+all = refl
+
+-- the stretch with bit 1 that ends at 13 starts at 10; at 9 there is none
+from-10 : stretchTo (λ p. meets 2 (setAt t p)) 14 ≡ 10
+unfolding stretchTo setAt t
+from-10 = refl
+
+from-none : stretchTo (λ p. meets 2 (setAt t p)) 10 ≡ 10
+unfolding stretchTo setAt t
+from-none = refl
+
+-- the highest bit of 5 is bit 2
+top : topIn 4 5 4 ≡ true
+unfolding topIn
+top = refl
+
+not-top : topIn 4 5 1 ≡ false
+unfolding topIn
+not-top = refl
+
+shown : shows 3 1 5 ≡ true
+unfolding topIn
+shown = refl
+
+passes-each : (passes (Meets 2) 6 ≡ true) × (passes (Misses 2) 6 ≡ false) × (passes (Hides 3 1) 5 ≡ false) × (passes (Differs 6) 5 ≡ true)
+unfolding passes topIn
+passes-each = (refl, refl, refl, refl)
+
+-- inside a run the new positions get its set, between runs what both have, at the start nothing
+common : (commonAt t 12 ≡ 2) × (commonAt t 10 ≡ 0) × (commonAt t 0 ≡ 0) × (commonAt t 15 ≡ 0)
+unfolding commonAt setAt t
+common = (refl, refl, refl, refl)
+
+-- the walk keeps its start over a run that has the bit, moves it past one that has not, and leaves it past the end
+walks : (walked 3 7 9 2 ≡ 3) × (walked 3 7 9 0 ≡ 9) × (walked 3 7 7 0 ≡ 3)
+unfolding walked
+walks = (refl, refl, refl)
+
+-- ---- counts
+two-stretches : stretches (alikeIn t) 15 ≡ 2
+unfolding stretches starts setAt t
+two-stretches = refl
+
+tallied : tallyOf t ≡ record { count = 2; last = 2 }
+unfolding tallyOf t
+tallied = refl
+
+-- ---- lists
+clipped-t : clipped 8 12 t ≡ stretch 10 12 1 ∷ stretch 8 10 0 ∷ []
+unfolding clipped t ones onesIn
+clipped-t = refl
+
+by-position : stretchesAt (alikeIn t) (marksIn t) 8 12 ≡ stretch 10 12 1 ∷ stretch 8 10 0 ∷ []
+unfolding stretchesAt extended setAt t ones onesIn
+by-position = refl
+
+as-numbers : numbers 0 (stretch 10 12 1 ∷ stretch 8 10 0 ∷ []) ≡ 8 ∷ 10 ∷ 0 ∷ 10 ∷ 12 ∷ 1 ∷ []
+unfolding numbers
+as-numbers = refl
+
+marked : listed 1 8 12 (10 ∷ 5 ∷ []) (0 ∷ 2 ∷ []) 2 ≡ 10 ∷ 12 ∷ 1 ∷ []
+unfolding numbers clipped runs ones onesIn
+marked = refl
+
+entries : (entry 1 8 10 0 ≡ []) × (entry 0 8 10 0 ≡ 8 ∷ 10 ∷ 0 ∷ []) × (entry 0 8 8 3 ≡ [])
+unfolding entry
+entries = (refl, refl, refl)
+
+in-front : inFront (1 ∷ 2 ∷ []) (7 ∷ 8 ∷ 9 ∷ []) ≡ 1 ∷ 2 ∷ 9 ∷ []
+in-front = refl

@@ -4,35 +4,34 @@ use mathlib.Core.Path.{_≡_, refl, sym, ap, _∙_, subst}
 use mathlib.Core.Bool.{Bool, true, false, cond}
 use mathlib.Core.List.{List, [], _∷_, _++_}
 use native.Mathlib.Omega.{arith}
-use native.Mathlib.Nat.{zero-min, min-zero, suc-min-suc, min-le-left, pow-suc, div-one}
+use native.Mathlib.Nat.{zero-min, min-zero, min-le-left, pow-suc, div-one}
 use native.Mathlib.Decide.{decLt, ℕ-discrete}
 use native.Mathlib.Numerals.{add-one}
 use lib.Bits.{bitAnd, and-step, and-shr, and-le-r}
 use lib.Dec.{eqb, ltb}
-use lib.Count.{leadingZeros, leading-top}
-use borrow.Author.Tests.{eqb-true, eqb-false, eq-eqb, ne-eqb, lt-ltb, le-ltb}
+use lib.Count.{leading-top}
+use borrow.Author.Tests.{eqb-true, eq-eqb, ne-eqb, lt-ltb, le-ltb}
 use lib.ListN.{length, take, drop, getD, drop-of-length-le, length-take, length-drop}
 use lib.Seq.{drop-cons, getD-take}
-use lib.Pow.{pow-pos, pow-mono}
+use lib.Pow.{pow-mono}
 use Rattle.styles.specs.declared.Identity.{Identity}
 use Rattle.styles.specs.declared.Mark.{Mark}
-use Rattle.styles.specs.declared.Stand.{Stand}
-use Rattle.styles.specs.declared.Stand.the-variants.{Before, Same, After}
+use Rattle.styles.specs.declared.Stand.the-variants.{Before}
 use Rattle.styles.specs.declared.Value.{Value}
 use Rattle.styles.specs.declared.Winner.{Winner}
 use Rattle.styles.specs.declared.Winner.the-variants.{Nothing, Shows}
-use Rattle.styles.specs.Order.{stands, idOf, isBefore}
-use Rattle.styles.specs.Marks.{Above, Sorted, member, only, keyIs, valueIs, hasKey, later, better, winner, shownBy, showsValue}
+use Rattle.styles.specs.Order.{stands, idOf}
+use Rattle.styles.specs.Marks.{Above, Sorted, member, only, keyIs, valueIs, hasKey, better, winner, shownBy, showsValue}
 use Rattle.styles.specs.Bits.{keepBit, pick, hasBit, bit, maskOf, TopIn}
 use Rattle.styles.proofs.OrderLaws.{less-flip, same-self}
 use Rattle.styles.proofs.PickLaws.{pick-cons, above-pick, above-at, not-member}
 use Rattle.styles.proofs.BitLaws.{half-shr}
 use Rattle.styles.proofs.CountLaws.{half-less}
-use Rattle.styles.proofs.WalkLaws.{next-set, winner-last, sorted-take, sorted-pick}
+use Rattle.styles.proofs.WalkLaws.{next-set, winner-last, sorted-pick}
 use Rattle.styles.proofs.UnionLaws.{pick-none}
 
 -- ---- an identity of the table is carried exactly where its bit is set
-digit-next : (s i : ℕ) → hasBit (suc i) s ≡ hasBit i (s / 2)
+pub digit-next : (s i : ℕ) → hasBit (suc i) s ≡ hasBit i (s / 2)
 digit-next s i = rw (half-shr s i)
 
 member-first : (b : ℕ) (m : Mark) (ms : List Mark) → b < 2 → Above (idOf m) ms → member (idOf m) (keepBit b m ms) ≡ eqb b 1

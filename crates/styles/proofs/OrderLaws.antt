@@ -1,15 +1,14 @@
 -- The order of identities is a strict total order. Later laws use `less-trans`, `less-flip`, `same-eq`, `same-self` and no field of an identity.
-use Prim.Native.Nat.{ℕ, _≤_, _<_}
-use mathlib.Core.Path.{_≡_, refl, sym, ap, _∙_, subst}
-use mathlib.Core.Bool.{Bool, true, false, cond}
+use Prim.Native.Nat.{ℕ, _<_}
+use mathlib.Core.Path.{_≡_, refl, sym, _∙_}
+use mathlib.Core.Bool.{true}
 use native.Mathlib.Omega.{arith}
-use native.Mathlib.Decide.{decLt, ℕ-discrete}
-use lib.Dec.{ltb, eqb}
-use borrow.Author.Tests.{lt-ltb, le-ltb, eq-eqb, ne-eqb, ltb-true, ltb-false, eqb-true, eqb-false}
+use native.Mathlib.Decide.{decLt}
+use borrow.Author.Tests.{lt-ltb, le-ltb, eq-eqb, ne-eqb}
 use Rattle.styles.specs.declared.Identity.{Identity}
 use Rattle.styles.specs.declared.Stand.{Stand}
 use Rattle.styles.specs.declared.Stand.the-variants.{Before, Same, After}
-use Rattle.styles.specs.Order.{numbers, then, stands}
+use Rattle.styles.specs.Order.{numbers, stands, isBefore, isSame}
 
 -- two numbers
 num-less : (a b : ℕ) → a < b → numbers a b ≡ Before
@@ -23,6 +22,17 @@ num-same a b h = simp (le-ltb a b (omega arith), eq-eqb a b h)
 num-more : (a b : ℕ) → b < a → numbers a b ≡ After
 unfolding numbers
 num-more a b h = simp (le-ltb a b (omega arith), ne-eqb a b (omega arith))
+
+-- what the tests say
+pub is-before-of : (s : Stand) → isBefore s ≡ true → s ≡ Before
+is-before-of Before e = refl
+is-before-of Same e = cc
+is-before-of After e = cc
+
+pub is-same-of : (s : Stand) → isSame s ≡ true → s ≡ Same
+is-same-of Before e = cc
+is-same-of Same e = refl
+is-same-of After e = cc
 
 -- what `before` means
 pub data Less (a b : Identity) : Type 0 where

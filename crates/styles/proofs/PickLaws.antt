@@ -1,7 +1,7 @@
 -- What an edit of a bit set does to the marks that it picks.
-use Prim.Native.Nat.{ℕ, zero, suc, _+_, _*_, _/_, _%_, _^_, _≤_, _<_, min}
-use mathlib.Core.Path.{_≡_, refl, sym, ap, ap₂, _∙_, subst}
-use mathlib.Core.Bool.{Bool, true, false, cond}
+use Prim.Native.Nat.{ℕ, zero, suc, _+_, _*_, _/_, _%_, _≤_, _<_, min}
+use mathlib.Core.Path.{_≡_, refl, sym, ap, _∙_}
+use mathlib.Core.Bool.{true, false, cond, false≢true}
 use mathlib.Core.List.{List, [], _∷_}
 use native.Mathlib.Omega.{arith}
 use native.Mathlib.Nat.{zero-min, min-zero, suc-min-suc}
@@ -11,10 +11,10 @@ use Rattle.styles.specs.declared.Identity.{Identity}
 use Rattle.styles.specs.declared.Mark.{Mark}
 use Rattle.styles.specs.declared.Stand.{Stand}
 use Rattle.styles.specs.declared.Stand.the-variants.{Before, Same, After}
-use Rattle.styles.specs.Order.{stands, idOf, less, sameId}
-use Rattle.styles.specs.Marks.{Above, Sorted, member, insertStep, insertMark, removeMark, common, insertAt, placeOf}
-use Rattle.styles.specs.Bits.{keepBit, pick, openBit, withBit, withoutBit, squeeze, squeezeStep}
-use Rattle.styles.proofs.OrderLaws.{less-trans, less-flip, more-flip, same-eq, same-self}
+use Rattle.styles.specs.Order.{stands, idOf, isSame}
+use Rattle.styles.specs.Marks.{Above, Sorted, member, insertStep, insertMark, removeMark, common, insertAt}
+use Rattle.styles.specs.Bits.{keepBit, pick, openBit, withBit, withoutBit}
+use Rattle.styles.proofs.OrderLaws.{less-trans, less-flip, same-self}
 
 -- the lowest bit decides on the first mark, the others on the rest
 pub pick-cons : (m : Mark) (ms : List Mark) (q b : ℕ) → b < 2 → pick (m ∷ ms) (q * 2 + b) ≡ keepBit b m (pick ms q)
@@ -113,7 +113,7 @@ pick-with (m ∷ ms) (suc i) d s h k =
     ∙ insert-keep (s % 2) (getD ms i d) m (pick ms (s / 2)) (above-at (idOf m) ms i d (omega arith) (k .0))
 
 -- ---- a set with one mark less
-remove-above : (i : Identity) (ms : List Mark) → Above i ms → removeMark i ms ≡ ms
+pub remove-above : (i : Identity) (ms : List Mark) → Above i ms → removeMark i ms ≡ ms
 unfolding removeMark Above
 remove-above i [] h = refl
 remove-above i (m ∷ ms) h = rw (h .0) (ap (_∷_ m) (remove-above i ms (h .1)))
@@ -167,3 +167,23 @@ pick-both (m ∷ ms) s u h =
     ∙ pick-cons m ms (bitAnd (s / 2) (u / 2)) (min (s % 2) (u % 2)) (omega arith)
     ∙ ap (keepBit (min (s % 2) (u % 2)) m) (pick-both ms (s / 2) (u / 2) (h .1))
     ∙ common-keep (s % 2) (u % 2) m (pick ms (s / 2)) (pick ms (u / 2)) (above-pick (idOf m) ms (s / 2) (h .0)) (above-pick (idOf m) ms (u / 2) (h .0))
+
+-- ---- a mark that is there already
+-- what comes before an identity comes before all that come after it
+pub above-trans : (i j : Identity) (ms : List Mark) → stands i j ≡ Before → Above j ms → Above i ms
+unfolding Above
+above-trans i j [] h k = tt
+above-trans i j (m ∷ ms) h k = (less-trans i j (idOf m) h (k .0), above-trans i j ms h (k .1))
+
+-- a mark whose identity is there changes nothing: a repeated insertion keeps the first
+kept-step : (s : Stand) (m x : Mark) (xs rest : List Mark) → stands (idOf m) (idOf x) ≡ s → Above (idOf x) xs → cond (isSame s) true (member (idOf m) xs) ≡ true
+    → (member (idOf m) xs ≡ true → rest ≡ xs) → insertStep s m x xs rest ≡ x ∷ xs
+kept-step Before m x xs rest b h e ih = absurd (false≢true (sym (not-member (idOf m) xs (above-trans (idOf m) (idOf x) xs b h)) ∙ e))
+kept-step Same m x xs rest b h e ih = refl
+kept-step After m x xs rest b h e ih = ap (_∷_ x) (ih e)
+
+pub insert-kept : (m : Mark) (l : List Mark) → Sorted l → member (idOf m) l ≡ true → insertMark m l ≡ l
+unfolding Sorted insertMark member
+insert-kept m [] h e = absurd (false≢true e)
+insert-kept m (x ∷ xs) h e =
+    kept-step (stands (idOf m) (idOf x)) m x xs (insertMark m xs) refl (h .0) e (insert-kept m xs (h .1))

@@ -1,25 +1,22 @@
 -- The laws as a tank uses them: a mark laid on, a mark taken off, marks that go, and: one meaning, one table and one set for each run.
-use Prim.Native.Nat.{ℕ, zero, suc, _+_, _-_, _/_, _%_, _^_, _≤_, _<_}
-use mathlib.Core.Path.{_≡_, refl, sym, ap, ap₂, _∙_, subst}
+use Prim.Native.Nat.{ℕ, zero, suc, _-_, _/_, _%_, _^_, _≤_, _<_}
+use mathlib.Core.Path.{_≡_, refl, sym, ap, ap₂, _∙_}
 use mathlib.Core.Bool.{Bool, true, false, cond}
 use mathlib.Core.List.{List, [], _∷_, map}
 use native.Mathlib.Omega.{arith}
-use lib.Bits.{bitAnd, bitOr}
-use lib.Count.{ones}
-use lib.Pow.{pow-mono}
+use lib.Bits.{bitAnd, bitOr, or-comm, or-lt}
+use lib.Pow.{pow-pos, pow-mono}
 use lib.ListN.{length, getD}
 use Rattle.styles.specs.declared.Identity.{Identity}
 use Rattle.styles.specs.declared.Mark.{Mark}
-use Rattle.styles.specs.declared.Stand.{Stand}
-use Rattle.styles.specs.declared.Stand.the-variants.{Before, Same, After}
-use Rattle.styles.specs.Order.{stands, idOf, isSame, sameId}
-use Rattle.styles.specs.Marks.{Above, Sorted, member, insertMark, union, removeMark, insertAt, placeOf}
+use Rattle.styles.specs.Order.{idOf, sameId}
+use Rattle.styles.specs.Marks.{Sorted, member, insertMark, union, removeMark, insertAt, placeOf}
 use Rattle.styles.specs.Bits.{keepBit, pick, openBit, withBit, squeeze}
-use Rattle.styles.proofs.OrderLaws.{same-eq}
+use Rattle.styles.proofs.OrderLaws.{same-eq, is-same-of}
 use Rattle.styles.proofs.PickLaws.{pick-open, pick-open-with, pick-with}
 use Rattle.styles.proofs.TableLaws.{place-le, sorted-put}
 use Rattle.styles.proofs.CountLaws.{pick-inj, pick-length}
-use Rattle.styles.proofs.UnionLaws.{pick-or, pick-all, pick-none, open-or, open-none, squeeze-or, squeeze-none, squeeze-all}
+use Rattle.styles.proofs.UnionLaws.{or-within, within-trans, pick-or, pick-all, pick-none, open-or, open-none, squeeze-or, squeeze-none, squeeze-all}
 
 -- ---- a mark laid on
 -- one that the table has not: it goes in at its place, and all sets open a bit there
@@ -34,11 +31,6 @@ module _ (m : Mark) (t : List Mark) (sorted : Sorted t) (new : member (idOf m) t
 pub mark-eq : (a b : Mark) → idOf a ≡ idOf b → a .flags ≡ b .flags → a .value ≡ b .value → a ≡ b
 mark-eq a b e f g =
     λ i. record { key = e i .key; flags = f i; lamport = e i .lamport; peer = e i .peer; value = g i }
-
-is-same-of : (s : Stand) → isSame s ≡ true → s ≡ Same
-is-same-of Before e = cc
-is-same-of Same e = refl
-is-same-of After e = cc
 
 -- one that the table has at i
 pub old-laid : (m : Mark) (t : List Mark) (i : ℕ) (d : Mark) (s : ℕ) → Sorted t → i < length t → sameId (idOf m) (idOf (getD t i d)) ≡ true
@@ -104,6 +96,28 @@ one-sets t [] (u ∷ us) h k l e = cc
 one-sets t (s ∷ ss) [] h k l e = cc
 one-sets t (s ∷ ss) (u ∷ us) h k l e =
     ap₂ _∷_ (pick-inj t s u h (k .0) (l .0) (cc)) (one-sets t ss us h (k .1) (l .1) (cc))
+
+-- ---- all sets together: within the table where each is, and each is within them
+pub all-less : (n : ℕ) (ss : List ℕ) → Within n ss → allOf ss < 2 ^ n
+unfolding Within allOf
+all-less n [] h = pow-pos n
+all-less n (s ∷ ss) h = or-lt n s (allOf ss) (h .0) (all-less n ss (h .1))
+
+pub within-at : (n : ℕ) (ss : List ℕ) (i : ℕ) → Within n ss → i < length ss → getD ss i 0 < 2 ^ n
+unfolding Within
+within-at n [] i h k = absurd (omega arith)
+within-at n (s ∷ ss) zero h k = h .0
+within-at n (s ∷ ss) (suc i) h k = within-at n ss i (h .1) (omega arith)
+
+pub all-within : (n : ℕ) (ss : List ℕ) (i : ℕ) → Within n ss → i < length ss → bitAnd (getD ss i 0) (allOf ss) ≡ getD ss i 0
+unfolding Within allOf
+all-within n [] i h k = absurd (omega arith)
+all-within n (s ∷ ss) zero h k = or-within n s (allOf ss) (h .0)
+all-within n (s ∷ ss) (suc i) h k =
+    let e : bitAnd (allOf ss) (bitOr s (allOf ss)) ≡ allOf ss =
+    ap (bitAnd (allOf ss)) (or-comm s (allOf ss)) ∙ or-within n (allOf ss) s (all-less n ss (h .1))
+    in
+    within-trans n (getD ss i 0) (allOf ss) (bitOr s (allOf ss)) (within-at n ss i (h .1) (omega arith)) (all-within n ss i (h .1) (omega arith)) e
 
 -- ---- each mark of the table is carried: that is kept by renumbering
 pub all-open : (i : ℕ) (ss : List ℕ) → allOf (map (openBit i) ss) ≡ openBit i (allOf ss)

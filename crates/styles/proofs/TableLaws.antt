@@ -1,22 +1,22 @@
 -- The sorted table: where an identity stands, and a mark put in at its place.
-use Prim.Native.Nat.{ℕ, zero, suc, _+_, _≤_, _<_}
+use Prim.Native.Nat.{ℕ, zero, suc, _+_, _-_, _≤_, _<_}
 use mathlib.Core.Path.{_≡_, refl, sym, ap, _∙_, subst}
-use mathlib.Core.Bool.{Bool, true, false, cond}
-use mathlib.Core.List.{List, [], _∷_}
+use mathlib.Core.Bool.{true, false, cond, false≢true, true≢false}
+use mathlib.Core.List.{List, [], _∷_, _++_}
 use native.Mathlib.Omega.{arith}
 use native.Mathlib.Numerals.{add-one}
 use lib.Dec.{ltb, leb·suc-suc}
 use borrow.Author.Tests.{lt-ltb, le-ltb}
 use lib.ListN.{length, take, drop, getD, set, drop-of-length-le, length-take}
-use lib.Seq.{drop-cons, drop-nil, drop-set-lt, drop-drop, take-suc-set, getD-take}
+use lib.Seq.{drop-cons, drop-set-lt, drop-drop, set-split, getD-take}
 use Rattle.styles.specs.declared.Identity.{Identity}
 use Rattle.styles.specs.declared.Mark.{Mark}
 use Rattle.styles.specs.declared.Stand.{Stand}
 use Rattle.styles.specs.declared.Stand.the-variants.{Before, Same, After}
-use Rattle.styles.specs.Order.{stands, idOf, isBefore, isSame, less, sameId}
-use Rattle.styles.specs.Marks.{Above, Sorted, member, insertAt, placeOf}
-use Rattle.styles.proofs.OrderLaws.{less-trans, less-flip, more-flip, same-eq, same-self}
-use Rattle.styles.proofs.PickLaws.{not-member}
+use Rattle.styles.specs.Order.{stands, idOf, isBefore, less, sameId}
+use Rattle.styles.specs.Marks.{Above, Sorted, member, insertMark, removeMark, insertAt, removeAt, placeOf, blank}
+use Rattle.styles.proofs.OrderLaws.{less-flip, more-flip, same-eq, same-self}
+use Rattle.styles.proofs.PickLaws.{not-member, insert-past, remove-above, above-trans}
 
 -- ---- where an identity stands
 pub place-step : (j : Identity) (l : List Mark) (i : ℕ) (d : Mark) → i < length l
@@ -41,13 +41,8 @@ pub place-end : (j : Identity) (t : List Mark) (n : ℕ) → placeOf j (drop n (
 unfolding placeOf
 place-end j t n = rw (drop-of-length-le (take n t) {i = n} (omega (arith, length-take n t)))
 
-same-flip : (a b : Identity) → stands a b ≡ Same → stands b a ≡ Same
+pub same-flip : (a b : Identity) → stands a b ≡ Same → stands b a ≡ Same
 same-flip a b e = subst (λ (x : Identity). stands b x ≡ Same) (sym (same-eq a b e)) (same-self b)
-
-above-trans : (i j : Identity) (ms : List Mark) → stands i j ≡ Before → Above j ms → Above i ms
-unfolding Above
-above-trans i j [] h k = tt
-above-trans i j (m ∷ ms) h k = (less-trans i j (idOf m) h (k .0), above-trans i j ms h (k .1))
 
 place-cases : (s : Stand) (n : ℕ) (P : ℕ → Type 0) → (s ≡ Before → P (suc n)) → (s ≡ Same → P 0) → (s ≡ After → P 0) → P (cond (isBefore s) (suc n) 0)
 place-cases Before n P a b c = a refl
@@ -101,8 +96,18 @@ sorted-put m [] h e = (tt, tt)
 sorted-put m (x ∷ xs) h e =
     place-cases (stands (idOf x) (idOf m)) (placeOf (idOf m) xs) (λ k. Sorted (insertAt k m (x ∷ xs)))
     (λ b. (above-put-all (idOf x) (placeOf (idOf m) xs) m xs b (h .0), sorted-put m xs (h .1) (rw (less-flip (idOf x) (idOf m) b) at e)))
-    (λ b. absurd (let z : true ≡ false = rw (same-flip (idOf x) (idOf m) b) at e in let y : _≡_ {A = ℕ} 0 1 = cc in omega arith))
+    (λ b. absurd (true≢false (rw (same-flip (idOf x) (idOf m) b) at e)))
     (λ b. let k = more-flip (idOf x) (idOf m) b in ((k, above-trans (idOf m) (idOf x) xs k (h .0)), h))
+
+-- there it is the set with one mark more
+pub put-is : (m : Mark) (t : List Mark) → Sorted t → member (idOf m) t ≡ false → insertAt (placeOf (idOf m) t) m t ≡ insertMark m t
+unfolding Sorted insertAt insertMark placeOf member
+put-is m [] h e = refl
+put-is m (x ∷ xs) h e =
+    place-cases (stands (idOf x) (idOf m)) (placeOf (idOf m) xs) (λ k. insertAt k m (x ∷ xs) ≡ insertMark m (x ∷ xs))
+    (λ b. ap (_∷_ x) (put-is m xs (h .1) (rw (less-flip (idOf x) (idOf m) b) at e)) ∙ sym (insert-past m x xs b))
+    (λ b. absurd (true≢false (rw (same-flip (idOf x) (idOf m) b) at e)))
+    (λ b. rw (more-flip (idOf x) (idOf m) b))
 
 -- a turn of the loop: the mark at hand goes in at k, and the one that stood there is at hand
 put-on : (t : List Mark) (k : ℕ) (m d : Mark) → k < length t → insertAt (suc k) (getD t k d) (set t k m) ≡ insertAt k m t
@@ -143,3 +148,63 @@ module _ (table t : List Mark) (n i : ℕ) (m carried : Mark) (low : i ≤ n) (r
   put-rest =
       let e : drop n t ≡ drop n table = sym (put-drop t n n carried (omega arith)) ∙ ap (drop (suc n)) same ∙ put-drop table n i m low in
       drop-set-lt (n + 1) t n carried (omega arith) ∙ sym (drop-drop 1 n t) ∙ ap (drop 1) e ∙ drop-drop 1 n table
+
+-- ---- a mark taken out
+-- at the place of an identity that the table has: the set without it
+pub out-is : (i : Identity) (t : List Mark) → Sorted t → member i t ≡ true → removeAt (placeOf i t) t ≡ removeMark i t
+unfolding Sorted removeAt removeMark placeOf member
+out-is i [] h e = refl
+out-is i (x ∷ xs) h e =
+    place-cases (stands (idOf x) i) (placeOf i xs) (λ k. removeAt k (x ∷ xs) ≡ removeMark i (x ∷ xs))
+    (λ b. rw (less-flip (idOf x) i b) (ap (_∷_ x) (out-is i xs (h .1) (rw (less-flip (idOf x) i b) at e))))
+    (λ b. rw (same-flip (idOf x) i b) (sym (remove-above i xs (subst (λ (j : Identity). Above j xs) (same-eq (idOf x) i b) (h .0)))))
+    (λ b.
+    let k = more-flip (idOf x) i b in
+    absurd (false≢true (sym (not-member i xs (above-trans i (idOf x) xs k (h .0))) ∙ (rw k at e))))
+
+-- a turn of the loop: the mark after place k moves down, and its own place is now the one to take out
+out-turn : (t : List Mark) (k : ℕ) (d : Mark) → suc k < length t → removeAt (suc k) (set t k (getD t (suc k) d)) ≡ removeAt k t
+unfolding removeAt
+out-turn [] k d h = absurd (omega arith)
+out-turn (x ∷ []) zero d h = absurd (omega arith)
+out-turn (x ∷ y ∷ ys) zero d h = refl
+out-turn (x ∷ xs) (suc k) d h = ap (_∷_ x) (out-turn xs k d (omega arith))
+
+pub out-on : (t : List Mark) (k : ℕ) (d : Mark) → k + 1 < length t → removeAt (k + 1) (set t k (getD t (k + 1) d)) ≡ removeAt k t
+out-on t k d h = rw (add-one k) (out-turn t k d (omega arith))
+
+out-front : (t : List Mark) (p : ℕ) → take p (removeAt p t) ≡ take p t
+unfolding removeAt
+out-front [] zero = refl
+out-front [] (suc p) = refl
+out-front (x ∷ xs) zero = refl
+out-front (x ∷ xs) (suc p) = ap (_∷_ x) (out-front xs p)
+
+out-take : (t : List Mark) (p i : ℕ) → i ≤ p → take p (removeAt i t) ≡ removeAt i (take (suc p) t)
+unfolding removeAt
+out-take [] zero i h = refl
+out-take [] (suc p) i h = refl
+out-take (x ∷ xs) p zero h = refl
+out-take (x ∷ xs) zero (suc i) h = absurd (omega arith)
+out-take (x ∷ xs) (suc p) (suc i) h = ap (_∷_ x) (out-take xs p i (omega arith))
+
+out-drop : (t : List Mark) (p i : ℕ) → i ≤ p → drop p (removeAt i t) ≡ drop (suc p) t
+unfolding removeAt
+out-drop [] zero i h = refl
+out-drop [] (suc p) i h = refl
+out-drop (x ∷ xs) p zero h = refl
+out-drop (x ∷ xs) zero (suc i) h = absurd (omega arith)
+out-drop (x ∷ xs) (suc p) (suc i) h = out-drop xs p i (omega arith)
+
+-- the end of the loop: the last place is blank
+module _ (table t : List Mark) (n i : ℕ) (low : i < n) (long : n ≤ length t) (same : removeAt (n - 1) t ≡ removeAt i table) where
+  pub out-all : set t (n - 1) blank ≡ removeAt i (take n table) ++ blank ∷ drop n table
+  out-all =
+      let e : suc (n - 1) ≡ n = omega arith in
+      let f : take (n - 1) t ≡ removeAt i (take n table) =
+      sym (out-front t (n - 1)) ∙ ap (take (n - 1)) same ∙ (rw e at (out-take table (n - 1) i (omega arith)))
+      in
+      let g : drop n t ≡ drop n table =
+      sym (rw e at (out-drop t (n - 1) (n - 1) (omega arith))) ∙ ap (drop (n - 1)) same ∙ (rw e at (out-drop table (n - 1) i (omega arith)))
+      in
+      (rw e at (set-split t (n - 1) blank (omega arith))) ∙ (rw (f, g))

@@ -1,5 +1,5 @@
 -- The table walked mark by mark: the marks kept, and the winner for a key.
-use Prim.Native.Nat.{ℕ, zero, suc, _+_, _-_, _*_, _/_, _%_, _^_, _≤_, _<_}
+use Prim.Native.Nat.{ℕ, zero, suc, _+_, _-_, _/_, _%_, _^_, _≤_, _<_}
 use mathlib.Core.Path.{_≡_, refl, sym, ap, _∙_, subst}
 use mathlib.Core.Bool.{Bool, true, false, cond}
 use mathlib.Core.List.{List, [], _∷_, _++_, append-assoc, append-nil}
@@ -8,15 +8,14 @@ use native.Mathlib.Nat.{div-one}
 use native.Mathlib.Numerals.{add-one}
 use lib.Dec.{eqb}
 use borrow.Author.Tests.{eqb-true, eqb-false, eq-eqb, ne-eqb}
-use lib.ListN.{length, take, drop, getD, set, replicate, length-append, length-take}
+use lib.ListN.{length, take, getD, set, replicate, length-take}
 use lib.Seq.{take-suc, take-take, set-at}
 use Rattle.styles.specs.declared.Identity.{Identity}
 use Rattle.styles.specs.declared.Mark.{Mark}
-use Rattle.styles.specs.declared.Stand.{Stand}
-use Rattle.styles.specs.declared.Stand.the-variants.{Before, Same, After}
+use Rattle.styles.specs.declared.Stand.the-variants.{Before}
 use Rattle.styles.specs.declared.Winner.{Winner}
 use Rattle.styles.specs.declared.Winner.the-variants.{Nothing, Shows}
-use Rattle.styles.specs.Order.{numbers, then, stands, idOf, isBefore}
+use Rattle.styles.specs.Order.{stands, idOf, isBefore}
 use Rattle.styles.specs.Marks.{Above, Sorted, later, better, winner, blank}
 use Rattle.styles.specs.Bits.{keepBit, pick, hasBit}
 use Rattle.styles.proofs.OrderLaws.{num-same}
@@ -65,7 +64,7 @@ keep-turn p m w e h =
     rw f (set-at p blank (replicate (64 - (w + 1)) blank) m w (sym e) ∙ sym (append-assoc p (m ∷ []) (replicate (64 - (w + 1)) blank)))
 
 -- ---- the winner is the last mark with the key
-later-of : (x m : Mark) → stands (idOf x) (idOf m) ≡ Before → x .key ≡ m .key → later x m ≡ true
+pub later-of : (x m : Mark) → stands (idOf x) (idOf m) ≡ Before → x .key ≡ m .key → later x m ≡ true
 unfolding stands
 later-of x m h e = ap isBefore (rw (num-same (x .key) (m .key) e) at h)
 

@@ -12,14 +12,19 @@ use Rattle.styles.specs.declared.Value.the-variants.{Null}
 use Rattle.styles.specs.declared.Winner.{Winner}
 use Rattle.styles.specs.declared.Winner.the-variants.{Nothing, Shows}
 use lib.Dec.{eqb}
-use Rattle.styles.specs.Values.{shown}
+use Rattle.styles.specs.Values.{sameValue, shown}
 use Rattle.styles.specs.Order.{stands, then, numbers, isBefore, idOf, less, sameId}
+
+-- one content: the flag byte and the very same value
+unfoldable pub sameContent : Mark → Mark → Bool
+sameContent a b = cond (eqb (a .flags) (b .flags)) (sameValue (a .value) (b .value)) false
 
 -- each mark of the list comes after the identity
 unfoldable pub Above : Identity → List Mark → Type 0
 Above i [] = Unit {0}
 Above i (m ∷ ms) = (stands i (idOf m) ≡ Before) × Above i ms
 
+-- a set: each mark comes after all before it, so no identity is there twice
 unfoldable pub Sorted : List Mark → Type 0
 unfolding Above
 Sorted [] = Unit {0}
@@ -30,12 +35,13 @@ unfoldable pub member : Identity → List Mark → Bool
 member i [] = false
 member i (m ∷ ms) = cond (sameId i (idOf m)) true (member i ms)
 
--- the set with one mark more; an identity that is there stays as it was
+-- a mark against the first of a set: before it, the same identity, or among the rest
 abbrev pub insertStep : Stand → Mark → Mark → List Mark → List Mark → List Mark
 insertStep Before m x xs rest = m ∷ x ∷ xs
 insertStep Same m x xs rest = x ∷ xs
 insertStep After m x xs rest = x ∷ rest
 
+-- the set with one mark more; a mark of that identity that is there stays as it was
 unfoldable pub insertMark : Mark → List Mark → List Mark
 insertMark m [] = m ∷ []
 insertMark m (x ∷ xs) = insertStep (stands (idOf m) (idOf x)) m x xs (insertMark m xs)
@@ -57,11 +63,19 @@ unfolding member
 common [] ys = []
 common (m ∷ ms) ys = cond (member (idOf m) ys) (m ∷ common ms ys) (common ms ys)
 
+-- two sets are the same, by identity: as many marks, and the same identities in order
+unfoldable pub sameMarks : List Mark → List Mark → Bool
+sameMarks [] [] = true
+sameMarks [] (y ∷ ys) = false
+sameMarks (x ∷ xs) [] = false
+sameMarks (x ∷ xs) (y ∷ ys) = cond (sameId (idOf x) (idOf y)) (sameMarks xs ys) false
+
 -- the marks for which a test holds
 unfoldable pub only : (Mark → Bool) → List Mark → List Mark
 only f [] = []
 only f (m ∷ ms) = cond (f m) (m ∷ only f ms) (only f ms)
 
+-- the mark has the key
 abbrev pub keyIs : ℕ → Mark → Bool
 keyIs k m = eqb (m .key) k
 
@@ -76,33 +90,44 @@ insertAt zero m ms = m ∷ ms
 insertAt (suc i) m [] = []
 insertAt (suc i) m (x ∷ xs) = x ∷ insertAt i m xs
 
+-- the mark at a place of a list taken out
+unfoldable pub removeAt : ℕ → List Mark → List Mark
+removeAt i [] = []
+removeAt zero (m ∷ ms) = ms
+removeAt (suc i) (m ∷ ms) = m ∷ removeAt i ms
+
 -- how many marks at the front come before an identity: where it stands in a sorted list, or would
 unfoldable pub placeOf : Identity → List Mark → ℕ
 placeOf i [] = 0
 placeOf i (m ∷ ms) = cond (less (idOf m) i) (suc (placeOf i ms)) 0
 
--- the mark that shows for a key: the greatest lamport, then the greatest peer
+-- of two marks with one key the second wins: the greater lamport, then the greater peer
 abbrev pub later : Mark → Mark → Bool
 later a b = isBefore (then (numbers (a .lamport) (b .lamport)) (numbers (a .peer) (b .peer)))
 
+-- a mark with the key against the winner of the others
 abbrev pub better : Mark → Winner → Winner
 better m Nothing = Shows m
 better m (Shows x) = cond (later m x) (Shows x) (Shows m)
 
+-- the mark that shows for a key: the greatest lamport, then the greatest peer
 unfoldable pub winner : ℕ → List Mark → Winner
 winner k [] = Nothing
 winner k (m ∷ ms) = cond (eqb (m .key) k) (better m (winner k ms)) (winner k ms)
 
--- the value shown for a key is one that shows as w; no mark shows nothing
-abbrev pub shownBy : Value → Winner → Bool
-shownBy w Nothing = false
-shownBy w (Shows m) = shown (m .value) w
-
-abbrev pub showsValue : ℕ → Value → List Mark → Bool
-showsValue k w l = shownBy w (winner k l)
-
+-- the mark's value shows as w
 abbrev pub valueIs : Value → Mark → Bool
 valueIs w m = shown (m .value) w
 
+-- a winner's value shows as w; no mark shows nothing
+abbrev pub shownBy : Value → Winner → Bool
+shownBy w Nothing = false
+shownBy w (Shows m) = valueIs w m
+
+-- the value shown for a key shows as w
+abbrev pub showsValue : ℕ → Value → List Mark → Bool
+showsValue k w l = shownBy w (winner k l)
+
+-- what stands in a place that no mark has
 abbrev pub blank : Mark
 blank = record { key = 0; flags = 0; lamport = 0; peer = 0; value = Null }

@@ -7,6 +7,7 @@ use Rattle.styles.specs.declared.Mark.{Mark}
 use Rattle.styles.specs.declared.Stand.{Stand}
 use Rattle.styles.specs.declared.Stand.the-variants.{Before, Same, After}
 
+-- how one number stands to another
 unfoldable pub numbers : ℕ → ℕ → Stand
 numbers a b = cond (ltb a b) Before (cond (eqb a b) Same After)
 
@@ -16,10 +17,12 @@ then Before s = Before
 then Same s = s
 then After s = After
 
+-- how one identity stands to another: key, then lamport, then peer
 unfoldable pub stands : Identity → Identity → Stand
 unfolding numbers
 stands a b = then (numbers (a .key) (b .key)) (then (numbers (a .lamport) (b .lamport)) (numbers (a .peer) (b .peer)))
 
+-- the identity of a mark
 abbrev pub idOf : Mark → Identity
 idOf m = record { key = m .key; lamport = m .lamport; peer = m .peer }
 
@@ -33,9 +36,10 @@ isSame Before = false
 isSame Same = true
 isSame After = false
 
--- one identity comes before another, and: it is another
+-- one identity comes before another
 abbrev pub less : Identity → Identity → Bool
 less a b = isBefore (stands a b)
 
+-- one identity is another
 abbrev pub sameId : Identity → Identity → Bool
 sameId a b = isSame (stands a b)

@@ -6,7 +6,7 @@ use native.Mathlib.Omega.{arith}
 use borrow.Author.Needs.{needs}
 use lib.ListN.{length, getD}
 use Rattle.runs.specs.Runs.{runs, total, pushRun, copyRuns, changing, clip, Spare, CanPush, CanCopy}
-use Rattle.runs.proofs.Laws.{total-more, total-mono, copy-more, copy-grows, copy-count, copy-holds, total-push, push-room}
+use Rattle.runs.proofs.Laws.{total-more, total-mono, copy-more, copy-grows, copy-holds, total-push, push-room}
 use Rattle.runs.proofs.copy.Statement.{statement}
 use Rattle.runs.proofs.copy.Tie as tie
 

@@ -1,5 +1,5 @@
 -- `runs::delete` meets its contract: the first copy makes the part before a, and the second adds the part from b on.
-use mathlib.Core.Path.{_≡_, refl, sym}
+use mathlib.Core.Path.{_≡_, refl}
 use mathlib.Core.List.{[]}
 use borrow.Author.Needs.{needs}
 use Rattle.runs.specs.Runs.{runs, adding}

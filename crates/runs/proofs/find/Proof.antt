@@ -1,8 +1,7 @@
 -- `runs::find` meets its contract. The invariant: run i starts at `start`, which `pos` has reached.
-use Prim.Native.Nat.{ℕ, _+_, _-_, _≤_, _<_}
+use Prim.Native.Nat.{_+_, _-_, _≤_}
 use mathlib.Core.Path.{_≡_, refl}
 use native.Mathlib.Omega.{arith}
-use borrow.Author.Needs.{needs}
 use Rattle.runs.specs.Runs.{sums}
 use Rattle.runs.proofs.Laws.{sums-more, sums-mono}
 use Rattle.runs.proofs.find.Statement.{statement}

@@ -1,0 +1,74 @@
+//! The two sides of the measurement.
+
+use std::ops::Range;
+use std::sync::OnceLock;
+use std::time::Instant;
+
+use crate::count::{self, Counted, Each};
+use crate::work::Work;
+
+pub trait Side {
+    fn name(&self) -> &'static str;
+
+    /// So many turns are worth asking for at most.
+    fn most_turns(&self, work: Work, runs: u64, marks: u64) -> u64;
+
+    /// Does the work so many times on the tank of this size.
+    fn time(&self, work: Work, runs: u64, marks: u64, turns: u64) -> Timed;
+}
+
+#[derive(Clone, Copy, Debug)]
+pub struct Timed {
+    /// For each call.
+    pub nanoseconds: f64,
+    /// For each call, where bytes are counted.
+    pub bytes: Each,
+    /// The sum of the answers, by which both sides are seen to have done the same.
+    pub sum: u64,
+}
+
+/// Adds up the answers of some turns.
+pub fn sum(turns: Range<u64>, call: impl FnMut(u64) -> u64) -> u64 {
+    turns.map(call).fold(0, u64::wrapping_add)
+}
+
+/// Time and bytes of several pieces of work, without what reading the clock takes.
+#[derive(Default)]
+pub struct Clock {
+    nanoseconds: f64,
+    counted: Counted,
+    sum: u64,
+}
+
+impl Clock {
+    pub fn run(&mut self, piece: impl FnOnce() -> u64) {
+        let (before, start) = (count::now(), Instant::now());
+        let sum = piece();
+        let nanoseconds = start.elapsed().as_nanos() as f64;
+        self.counted = self.counted + (count::now() - before);
+        self.nanoseconds += nanoseconds - reading();
+        self.sum = self.sum.wrapping_add(sum);
+    }
+
+    pub fn each(self, calls: u64) -> Timed {
+        let nanoseconds = (self.nanoseconds / calls as f64).max(0.0);
+        Timed { nanoseconds, bytes: self.counted.each(calls), sum: self.sum }
+    }
+
+    /// Without the work that another clock ran.
+    #[cfg(ours)]
+    pub fn less(self, other: Clock) -> Clock {
+        let nanoseconds = self.nanoseconds - other.nanoseconds;
+        Clock { nanoseconds, counted: self.counted - other.counted, sum: self.sum }
+    }
+}
+
+/// What reading the clock twice takes, in nanoseconds.
+fn reading() -> f64 {
+    static READING: OnceLock<f64> = OnceLock::new();
+    *READING.get_or_init(|| {
+        let mut gaps: Vec<u128> = (0..1001).map(|_| Instant::now().elapsed().as_nanos()).collect();
+        gaps.sort();
+        gaps[500] as f64
+    })
+}

@@ -1,0 +1,103 @@
+//! What is timed, the same for both sides.
+//!
+//! A tank of `runs` runs: all but the last have `WIDTH` positions each, the last is the unmarked
+//! rest. Run `i` is full, with all marks, where `i` is even or odd as `runs` is; the others but
+//! run 0 carry the lower half of the marks. So neighbours differ, whatever the counts. Mark `b`
+//! has key `b + 1`, lamport `b + 10`, peer 1, flags 0x84 and the whole number `b + 1` as its value.
+//! The extra mark has key 777, lamport 1, peer 1, flags 0x84 and null.
+
+pub const WIDTH: u64 = 10;
+pub const EXTRA: u16 = 777;
+/// A key that no mark has.
+pub const ABSENT: u16 = 999;
+
+pub const SIZES: [(u64, u64); 9] =
+    [(3, 1), (3, 5), (3, 20), (50, 1), (50, 5), (50, 20), (500, 1), (500, 5), (500, 20)];
+
+#[derive(Clone, Copy, Debug, PartialEq, Eq)]
+pub enum Work {
+    /// The extra mark on five positions inside a run.
+    Annotate,
+    /// The extra mark on all positions but the outermost of the marked part.
+    AnnotateWide,
+    /// One position inside a run.
+    Insert,
+    /// Two positions between two runs.
+    InsertBetween,
+    /// Two positions inside a run.
+    Delete,
+    /// Ten positions across a boundary.
+    DeleteAcross,
+    /// The extra mark, which one run in the middle carries, from that run's end.
+    Remove,
+    /// The extra mark, which the whole marked part carries, from its end.
+    RemoveWide,
+    /// A key that is absent, in three positions of a run.
+    HasKey,
+    /// A key that is absent, in the whole marked part.
+    HasKeyWide,
+    /// The value of the highest key at a position.
+    Value,
+}
+
+pub const WORK: [Work; 11] = [
+    Work::Annotate,
+    Work::AnnotateWide,
+    Work::Insert,
+    Work::InsertBetween,
+    Work::Delete,
+    Work::DeleteAcross,
+    Work::Remove,
+    Work::RemoveWide,
+    Work::HasKey,
+    Work::HasKeyWide,
+    Work::Value,
+];
+
+impl Work {
+    /// Whether it leaves the tank as it was.
+    pub fn is_question(self) -> bool {
+        matches!(self, Work::HasKey | Work::HasKeyWide | Work::Value)
+    }
+
+    pub fn name(self) -> &'static str {
+        match self {
+            Work::Annotate => "annotate",
+            Work::AnnotateWide => "annotate wide",
+            Work::Insert => "insert",
+            Work::InsertBetween => "insert between",
+            Work::Delete => "delete",
+            Work::DeleteAcross => "delete across",
+            Work::Remove => "remove",
+            Work::RemoveWide => "remove wide",
+            Work::HasKey => "has key",
+            Work::HasKeyWide => "has key wide",
+            Work::Value => "value",
+        }
+    }
+}
+
+/// Where the marked part ends.
+pub fn span(runs: u64) -> u64 {
+    (runs - 1) * WIDTH
+}
+
+/// The run that turn `turn` works on: all of them in an order that jumps.
+pub fn run(runs: u64, turn: u64) -> u64 {
+    (turn * 7 + 3) % (runs - 1)
+}
+
+pub fn is_full(runs: u64, run: u64) -> bool {
+    run % 2 == runs % 2
+}
+
+/// The annotates that build the tank: start, end, number of the mark.
+pub fn build(runs: u64, marks: u64) -> Vec<(u64, u64, u64)> {
+    let first = runs % 2;
+    let lower = (0..marks / 2).map(|mark| (first * WIDTH, span(runs), mark));
+    let upper = (marks / 2..marks).flat_map(|mark| {
+        let full = (0..runs - 1).filter(move |&run| is_full(runs, run));
+        full.map(move |run| (run * WIDTH, (run + 1) * WIDTH, mark))
+    });
+    lower.chain(upper).collect()
+}

@@ -1,0 +1,7 @@
+pub mod NameLaws
+pub mod TableLaws
+pub mod EntryLaws
+pub mod MapLaws
+pub mod AnswerLaws
+pub mod Theorems
+pub mod Tests

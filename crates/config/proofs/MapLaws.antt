@@ -1,0 +1,197 @@
+-- Laws of maps: a sound map is determined by its meaning, and what an entry stored at its place makes of both. Assumes nothing.
+use mathlib.Core.Path.{_≡_, refl, sym, ap, _∙_}
+use mathlib.Core.Bool.{true, false}
+use mathlib.Core.List.{List, [], _∷_, _++_, map}
+use mathlib.Core.Option.{none, some, orElse}
+use Prim.Native.Nat.{ℕ, zero, suc, _+_, _-_, _≤_, _<_}
+use native.Mathlib.Decide.{decLt, ℕ-discrete}
+use native.Mathlib.Numerals.{add-one}
+use native.Mathlib.Omega.{arith}
+use lib.ListN.{length, getD, take, drop, set, replicate, length-map, length-set, List·getD-map, getD-replicate}
+use lib.Seq.{length-take-le, getD-take, getD-drop, getD-set-same, getD-set-other, take-set-lt, take-suc-set, drop-set-lt, drop-drop, ext-getD}
+use borrow.Author.Tests.{eq-eqb, ne-eqb}
+use Rattle.richtext.specs.Bytes.{same}
+use Rattle.config.specs.Names.{holdsColon}
+use Rattle.config.specs.Table.{Named, Table, find, place, put, refuses, insert, styleFor}
+use Rattle.config.specs.Meaning.{blank, noEntry, entryOf, nameOf, namedOf, styleIn, meaning, entryAt, stored, Tidy, Sound, Means, Inserts}
+use Rattle.config.specs.declared.Entry.{Entry}
+use Rattle.config.specs.declared.MaybeStyle.{MaybeStyle}
+use Rattle.config.specs.declared.MaybeStyle.the-variants.{Style, Nothing}
+use Rattle.config.specs.declared.StyleConfig.{StyleConfig}
+use Rattle.config.specs.declared.StyleConfigMap.{StyleConfigMap}
+use Rattle.config.proofs.EntryLaws.{name-entry, tidy-entry, one-entry}
+use Rattle.config.proofs.TableLaws.{place-step, place-here, place-end, place-le, known-place, find-place, put-place, once-put, refuses-full, accepts-known, accepts-new}
+
+-- A map's entries, seen through its meaning
+
+pub length-meaning : (m : StyleConfigMap) → Sound m → length (meaning m .entries) ≡ m .count
+length-meaning m s = length-map (take (m .count) (m .entries)) namedOf ∙ length-take-le (m .count) (m .entries) (omega arith)
+
+pub meaning-at : (m : StyleConfigMap) (i : ℕ) → i < m .count → getD (meaning m .entries) i (namedOf noEntry) ≡ namedOf (entryAt m i)
+meaning-at m i h = List·getD-map namedOf (take (m .count) (m .entries)) i noEntry ∙ ap namedOf (getD-take (m .count) (m .entries) i noEntry h)
+
+module _ (m : StyleConfigMap) (s : Sound m) (k : List ℕ) (i : ℕ) where
+  -- an entry of another name is passed, one of this name is the place, and past the count there is none
+  pub place-pass : i < m .count → same (nameOf (entryAt m i)) k ≡ false → place k (drop i (meaning m .entries)) ≡ suc (place k (drop (suc i) (meaning m .entries)))
+  place-pass h e = place-step k (meaning m .entries) i (namedOf noEntry) (rw (length-meaning m s) h) (rw (meaning-at m i h) e)
+
+  pub place-stop : i < m .count → same (nameOf (entryAt m i)) k ≡ true → place k (drop i (meaning m .entries)) ≡ 0
+  place-stop h e = place-here k (meaning m .entries) i (namedOf noEntry) (rw (length-meaning m s) h) (rw (meaning-at m i h) e)
+
+  pub place-over : m .count ≤ i → place k (drop i (meaning m .entries)) ≡ 0
+  place-over h = place-end k (meaning m .entries) i (rw (length-meaning m s) h)
+
+module _ (m : StyleConfigMap) (s : Sound m) (k : List ℕ) where
+  -- the style of a name is that of the entry at its place, or the default
+  pub style-known : place k (meaning m .entries) < m .count → styleFor k (meaning m) ≡ some (entryAt m (place k (meaning m .entries)) .style)
+  unfolding orElse
+  style-known h =
+      let f : find k (meaning m .entries) ≡ some (getD (meaning m .entries) (place k (meaning m .entries)) (namedOf noEntry) .style) =
+      find-place k (namedOf noEntry) (meaning m .entries) .0 (rw (length-meaning m s) h) in
+      rw (f, meaning-at m (place k (meaning m .entries)) h)
+
+  pub style-default : m .count ≤ place k (meaning m .entries) → styleFor k (meaning m) ≡ styleIn (m .«default_style»)
+  unfolding orElse
+  style-default h =
+      let f : find k (meaning m .entries) ≡ none = find-place k (namedOf noEntry) (meaning m .entries) .1 (rw (length-meaning m s) h) in
+      rw f
+
+-- One meaning, one map
+
+-- a place past the count is blank
+spare-at : (m : StyleConfigMap) → Sound m → (i : ℕ) → m .count ≤ i → i < 32 → entryAt m i ≡ blank
+spare-at m s i h l =
+    let e : m .count + (i - m .count) ≡ i = omega arith in
+    let k : i - m .count < 32 - m .count = omega arith in
+    rw (← e)
+    (sym (getD-drop (m .count) (m .entries) (i - m .count) noEntry) ∙ rw (s .rest) (getD-replicate (32 - m .count) (i - m .count) blank noEntry k))
+
+one-default : (a b : MaybeStyle) → styleIn a ≡ styleIn b → a ≡ b
+one-default (Style s) (Style t) e = cc
+one-default (Style s) Nothing e = cc
+one-default Nothing (Style t) e = cc
+one-default Nothing Nothing e = refl
+
+pub one-map : (m n : StyleConfigMap) → Sound m → Sound n → meaning m ≡ meaning n → m ≡ n
+one-map m n s t e =
+    let c : m .count ≡ n .count = sym (length-meaning m s) ∙ (ap (λ (x : Table). length (x .entries)) e ∙ length-meaning n t) in
+    let entry : (i : ℕ) → i < length (m .entries) → entryAt m i ≡ entryAt n i = λ i h.
+    elim (decLt i (m .count)) [
+      | yes k ↦
+          one-entry (entryAt m i) (entryAt n i) (s .tidy i (omega arith)) (t .tidy i (omega arith))
+          (sym (meaning-at m i k) ∙ (ap (λ (x : Table). getD (x .entries) i (namedOf noEntry)) e ∙ meaning-at n i (omega arith)))
+      | no k ↦ spare-at m s i (omega arith) (omega arith) ∙ sym (spare-at n t i (omega arith) (omega arith))
+    ] in
+    let es : m .entries ≡ n .entries = ext-getD noEntry (m .entries) (n .entries) (omega arith) entry in
+    let d : m .«default_style» ≡ n .«default_style» = one-default (m .«default_style») (n .«default_style») (ap (λ (x : Table). x .default) e) in
+    λ i. record { entries = es i; count = c i; «default_style» = d i }
+
+-- two maps that a statement allows are one
+pub one-means : (t : Table) (m n : StyleConfigMap) → Means t m → Means t n → m ≡ n
+one-means t m n p q = one-map m n (p .sound) (q .sound) (p .means ∙ sym (q .means))
+
+-- An entry stored
+
+map-set : {A B : Type 0} (f : A → B) (l : List A) (i : ℕ) (a : A) → map f (set l i a) ≡ set (map f l) i (f a)
+map-set f [] i a = refl
+map-set f (x ∷ xs) zero a = refl
+map-set {B = B} f (x ∷ xs) (suc i) a = ap (λ (r : List B). f x ∷ r) (map-set f xs i a)
+
+map-last : {A B : Type 0} (f : A → B) (l : List A) (a : A) → map f (l ++ (a ∷ [])) ≡ map f l ++ (f a ∷ [])
+map-last f [] a = refl
+map-last {B = B} f (x ∷ xs) a = ap (λ (r : List B). f x ∷ r) (map-last f xs a)
+
+named-entry : (k : List ℕ) (s : StyleConfig) → namedOf (entryOf k s) ≡ record { name = k; style = s }
+named-entry k s = λ i. record { name = name-entry k s i; style = s }
+
+tidy-set : (es : List Entry) (at : ℕ) (e : Entry) → at < length es → Tidy e
+    → ((i : ℕ) → i < 32 → Tidy (getD es i noEntry))
+    → (i : ℕ) → i < 32 → Tidy (getD (set es at e) i noEntry)
+tidy-set es at e h t f i l =
+    elim (ℕ-discrete i at) [
+      | yes p ↦ rw (p, getD-set-same es at e noEntry h) t
+      | no p ↦ rw (getD-set-other es at i e noEntry p) (f i l)
+    ]
+
+-- the places after the count stay blank, with one entry more or not
+rest-known : (es : List Entry) (n at : ℕ) (e : Entry) → at < n → drop n es ≡ replicate (32 - n) blank → drop n (set es at e) ≡ replicate (32 - n) blank
+rest-known es n at e h r = drop-set-lt n es at e h ∙ r
+
+rest-new : (es : List Entry) (n : ℕ) (e : Entry) → n < 32 → drop n es ≡ replicate (32 - n) blank → drop (n + 1) (set es n e) ≡ replicate (32 - (n + 1)) blank
+rest-new es n e h r =
+    let l : 32 - n ≡ suc (32 - (n + 1)) = omega arith in
+    drop-set-lt (n + 1) es n e (omega arith) ∙ (sym (drop-drop 1 n es) ∙ (rw (r, l)))
+
+module _ (m : StyleConfigMap) (s : Sound m) (k : List ℕ) (v : StyleConfig) (short : length k ≤ 32) (plain : holdsColon k ≡ false) where
+  -- what an accepted insertion comes to, at whatever place and count
+  placed : (at n : ℕ) → at < 32 → n ≤ 32
+      → map namedOf (take n (set (m .entries) at (entryOf k v))) ≡ put k v (meaning m .entries)
+      → drop n (set (m .entries) at (entryOf k v)) ≡ replicate (32 - n) blank
+      → refuses k (meaning m) ≡ false
+      → Means (insert k v (meaning m)) (record { entries = set (m .entries) at (entryOf k v); count = n; «default_style» = m .«default_style» })
+  placed at n h f a rest r =
+      record {
+        sound =
+            record {
+              wide = length-set (m .entries) at (entryOf k v) ∙ s .wide;
+              within = f;
+              tidy = tidy-set (m .entries) at (entryOf k v) (omega arith) (tidy-entry k v short plain) (s .tidy);
+              rest = rest;
+              names = rw a (once-put k v (meaning m .entries) (s .names));
+            };
+        means = rw r (λ i. record { entries = a i; default = styleIn (m .«default_style») });
+      }
+
+  -- at the place of a known name
+  stored-known : place k (meaning m .entries) < m .count → Inserts m k v (record { refusal = 0; map = stored m (place k (meaning m .entries)) (entryOf k v) })
+  stored-known h =
+      let at : ℕ = place k (meaning m .entries) in
+      let es : List Named = meaning m .entries in
+      let l : length es ≡ m .count = length-meaning m s in
+      let a : map namedOf (take (m .count) (set (m .entries) at (entryOf k v))) ≡ put k v es =
+      rw (take-set-lt (m .count) (m .entries) at (entryOf k v) h, map-set namedOf (take (m .count) (m .entries)) at (entryOf k v), named-entry k v)
+      (sym (put-place k v es .0 (omega arith))) in
+      let r : refuses k (meaning m) ≡ false = accepts-known k (meaning m) short plain (known-place k es .0 (omega arith)) in
+      record {
+        refusal = rw r;
+        map =
+            rw (ne-eqb at (m .count) (λ e. omega arith))
+            (placed at (m .count) (omega arith) (s .within) a (rest-known (m .entries) (m .count) at (entryOf k v) h (s .rest)) r);
+      }
+
+  -- after the last entry
+  stored-new : place k (meaning m .entries) ≡ m .count → m .count < 32 → Inserts m k v (record { refusal = 0; map = stored m (m .count) (entryOf k v) })
+  stored-new h f =
+      let es : List Named = meaning m .entries in
+      let l : length es ≡ m .count = length-meaning m s in
+      let a : map namedOf (take (m .count + 1) (set (m .entries) (m .count) (entryOf k v))) ≡ put k v es =
+      rw (add-one (m .count), take-suc-set (m .entries) (m .count) (entryOf k v) (omega arith), map-last namedOf (take (m .count) (m .entries)) (entryOf k v), named-entry k v)
+      (sym (put-place k v es .1 (omega arith))) in
+      let r : refuses k (meaning m) ≡ false = accepts-new k (meaning m) short plain (known-place k es .1 (omega arith)) (omega arith) in
+      record {
+        refusal = rw r;
+        map =
+            rw (eq-eqb (m .count) (m .count) refl)
+            (placed (m .count) (m .count + 1) f (omega arith) a (rest-new (m .entries) (m .count) (entryOf k v) f (s .rest)) r);
+      }
+
+  -- a name with a place among the 32 is accepted
+  pub accepted : place k (meaning m .entries) < 32 → Inserts m k v (record { refusal = 0; map = stored m (place k (meaning m .entries)) (entryOf k v) })
+  accepted h =
+      elim (decLt (place k (meaning m .entries)) (m .count)) [
+        | yes p ↦ stored-known p
+        | no p ↦
+            let e : place k (meaning m .entries) ≡ m .count = omega (arith, place-le k (meaning m .entries), length-meaning m s) in
+            rw e (stored-new e (omega arith))
+      ]
+
+-- a name without a place among the 32 is refused
+pub full : (m : StyleConfigMap) → Sound m → (k : List ℕ) → 32 ≤ place k (meaning m .entries) → refuses k (meaning m) ≡ true
+full m s k h =
+    let es : List Named = meaning m .entries in
+    let l : length es ≡ m .count = length-meaning m s in
+    refuses-full k (meaning m) (known-place k es .1 (omega arith)) (omega (arith, place-le k es))
+
+-- a refused insertion hands back the map as it was
+pub refused : (m : StyleConfigMap) → Sound m → (k : List ℕ) (v : StyleConfig) → refuses k (meaning m) ≡ true → Inserts m k v (record { refusal = 19; map = m })
+refused m s k v r = record { refusal = rw r; map = record { sound = s; means = rw r } }

@@ -1,0 +1,74 @@
+-- `StyleConfigMap::get_cut` meets its contract: the part handed on is the name up to its first colon. Assumes nothing.
+use mathlib.Core.Path.{_≡_, sym, ap, _∙_}
+use mathlib.Core.List.{List}
+use Prim.Native.Nat.{ℕ}
+use native.Mathlib.Omega.{arith}
+use lib.ListN.{take}
+use lib.Seq.{length-take-le}
+use borrow.Author.Needs.{needs}
+use Rattle.config.specs.Names.{cut}
+use Rattle.config.specs.Table.{styleFor}
+use Rattle.config.specs.Meaning.{styleIn, meaning}
+use Rattle.config.proofs.NameLaws.{cut-le, take-cut}
+use Rattle.config.proofs.AnswerLaws.{asked-long, asked-found}
+use Rattle.config.proofs.StyleConfigMap.get_cut.Statement.{statement}
+use Rattle.config.proofs.StyleConfigMap.get_cut.Tie as tie
+
+returns : tie.Need-returns
+returns c =
+    let start = c .before .before in
+    let k = start .args .key .now in
+    asked-long k (styleFor (cut k) (meaning (start .args .self))) (c .if1 .taken)
+
+first-colon-requires : tie.Need-first-colon-requires
+first-colon-requires c κs = search needs
+
+slice-aggregate-style-for : tie.Need-slice-aggregate-style-for
+slice-aggregate-style-for c =
+    let k = c .before .before .before .before .args .key .now in
+    sym (length-take-le (c .before .first-colon .result) k (omega (arith, c .before .first-colon .ensures, cut-le k)))
+
+style-for-requires : tie.Need-style-for-requires
+style-for-requires c κs = search needs
+
+enum-known-style : tie.Need-enum-known-style
+enum-known-style c = search needs
+
+enum-told : tie.Need-enum-told
+enum-told c = search needs
+
+-- what is looked up is the part before the first colon
+found : (c : tie.After-style-for) → let start = c .before .before .before .before .before in
+    styleIn (c .style-for .result) ≡ styleFor (cut (start .args .key .now)) (meaning (start .args .self))
+found c =
+    let start = c .before .before .before .before .before in
+    let k = start .args .key .now in
+    let e : take (c .before .before .first-colon .result) k ≡ cut k = rw (c .before .before .first-colon .ensures) (take-cut k) in
+    c .style-for .ensures ∙ ap (λ (x : List ℕ). styleFor x (meaning (start .args .self))) e
+
+returns-2 : tie.Need-returns-2
+returns-2 c =
+    let start = c .before .before .before .before .before .before .before .before in
+    let k = start .args .key .now in
+    asked-found k (styleFor (cut k) (meaning (start .args .self))) (c .before .before .before .before .before .before .if1 .left) _
+    (sym (ap styleIn (c .before .style .given .1)) ∙ found (c .before .before .before))
+
+returns-3 : tie.Need-returns-3
+returns-3 c =
+    let start = c .before .before .before .before .before .before .before in
+    let k = start .args .key .now in
+    asked-found k (styleFor (cut k) (meaning (start .args .self))) (c .before .before .before .before .before .if1 .left) _
+    (sym (ap styleIn (c .enum-told .given .1)) ∙ found (c .before .before))
+
+pub get-cut-spec : {M : Type 1} → statement M
+get-cut-spec =
+    tie.close
+    (tie.spec
+    returns
+    first-colon-requires
+    slice-aggregate-style-for
+    style-for-requires
+    enum-known-style
+    enum-told
+    returns-2
+    returns-3)

@@ -1,0 +1,134 @@
+-- Laws of the table: each definition that goes down the entries is known by the place of the name. Assumes nothing.
+use mathlib.Core.Path.{_≡_, refl, sym}
+use mathlib.Core.Bool.{Bool, true, false, cond, _||_}
+use mathlib.Core.List.{List, [], _∷_, _++_}
+use mathlib.Core.Option.{none, some}
+use Prim.Native.Nat.{ℕ, suc, _≤_, _<_}
+use native.Mathlib.Omega.{arith}
+use lib.ListN.{length, getD, drop, set, drop-of-length-le}
+use lib.Seq.{drop-cons}
+use borrow.Author.Tests.{le-leb, lt-leb, lt-ltb, le-ltb}
+use Rattle.richtext.specs.Bytes.{same}
+use Rattle.richtext.proofs.Same.{same-true, same-flip}
+use Rattle.config.specs.Names.{tooLong, holdsColon}
+use Rattle.config.specs.Table.{Named, Table, known, find, place, put, once, refuses}
+use Rattle.config.specs.declared.StyleConfig.{StyleConfig}
+
+-- The place of a name
+
+-- an entry of another name is passed
+pub place-step : (k : List ℕ) (es : List Named) (i : ℕ) (d : Named) → i < length es → same (getD es i d .name) k ≡ false
+    → place k (drop i es) ≡ suc (place k (drop (suc i) es))
+unfolding place
+place-step k es i d h e = rw (drop-cons es i d, e)
+
+-- an entry of this name is where it stands
+pub place-here : (k : List ℕ) (es : List Named) (i : ℕ) (d : Named) → i < length es → same (getD es i d .name) k ≡ true → place k (drop i es) ≡ 0
+unfolding place
+place-here k es i d h e = rw (drop-cons es i d, e)
+
+pub place-end : (k : List ℕ) (es : List Named) (i : ℕ) → length es ≤ i → place k (drop i es) ≡ 0
+unfolding place
+place-end k es i h = rw (drop-of-length-le es h)
+
+place-cases : (t : Bool) (P : ℕ → Type 0) (n : ℕ) → (t ≡ true → P 0) → (t ≡ false → P (suc n)) → P (cond t 0 (suc n))
+place-cases true P n f g = f refl
+place-cases false P n f g = g refl
+
+-- what holds at no entries, at an entry of the name, and at an entry of another name if it holds of the rest, holds
+pub place-by : (k : List ℕ) (P : List Named → ℕ → Type 0)
+    → P [] 0
+    → ((x : Named) (xs : List Named) → same (x .name) k ≡ true → P (x ∷ xs) 0)
+    → ((x : Named) (xs : List Named) → same (x .name) k ≡ false → P xs (place k xs) → P (x ∷ xs) (suc (place k xs)))
+    → (es : List Named) → P es (place k es)
+unfolding place
+place-by k P z f g [] = z
+place-by k P z f g (x ∷ xs) =
+    let r : P xs (place k xs) = place-by k P z f g xs in
+    place-cases (same (x .name) k) (λ n. P (x ∷ xs) n) (place k xs) (λ e. f x xs e) (λ e. g x xs e r)
+
+pub place-le : (k : List ℕ) (es : List Named) → place k es ≤ length es
+place-le k = place-by k (λ es n. n ≤ length es) (omega arith) (λ x xs e. omega arith) (λ x xs e r. omega arith)
+
+pub known-place : (k : List ℕ) (es : List Named) → (place k es < length es → known k es ≡ true) × (length es ≤ place k es → known k es ≡ false)
+unfolding known
+known-place k =
+    place-by
+    k
+    (λ es n. (n < length es → known k es ≡ true) × (length es ≤ n → known k es ≡ false))
+    ((λ h. absurd (omega arith)), λ h. refl)
+    (λ x xs e. ((λ h. rw e), λ h. absurd (omega arith)))
+    (λ x xs e r. ((λ h. rw e (r .0 (omega arith))), λ h. rw e (r .1 (omega arith))))
+
+pub find-place : (k : List ℕ) (d : Named) (es : List Named)
+    → (place k es < length es → find k es ≡ some (getD es (place k es) d .style)) × (length es ≤ place k es → find k es ≡ none)
+unfolding find
+find-place k d =
+    place-by
+    k
+    (λ es n. (n < length es → find k es ≡ some (getD es n d .style)) × (length es ≤ n → find k es ≡ none))
+    ((λ h. absurd (omega arith)), λ h. refl)
+    (λ x xs e. ((λ h. rw e), λ h. absurd (omega arith)))
+    (λ x xs e r. ((λ h. rw e (r .0 (omega arith))), λ h. rw e (r .1 (omega arith))))
+
+pub put-place : (k : List ℕ) (s : StyleConfig) (es : List Named)
+    → (place k es < length es → put k s es ≡ set es (place k es) (record { name = k; style = s }))
+    × (length es ≤ place k es → put k s es ≡ es ++ (record { name = k; style = s } ∷ []))
+unfolding put
+put-place k s =
+    place-by
+    k
+    (λ es n. (n < length es → put k s es ≡ set es n (record { name = k; style = s })) × (length es ≤ n → put k s es ≡ es ++ (record { name = k; style = s } ∷ [])))
+    ((λ h. absurd (omega arith)), λ h. refl)
+    (λ x xs e. ((λ h. rw e), λ h. absurd (omega arith)))
+    (λ x xs e r. ((λ h. rw (e, r .0 (omega arith))), λ h. rw (e, r .1 (omega arith))))
+
+-- Each name once
+
+pub known-put : (j k : List ℕ) (s : StyleConfig) → same k j ≡ false → (es : List Named) → known j (put k s es) ≡ known j es
+unfolding known put
+known-put j k s n =
+    place-by
+    k
+    (λ es i. known j (put k s es) ≡ known j es)
+    (rw n)
+    (λ x xs e. rw (e, same-true (x .name) k e))
+    (λ x xs e r. rw (e, r))
+
+both : (t a : Bool) → cond t false a ≡ true → (t ≡ false) × (a ≡ true)
+both true a e = (sym e, cc)
+both false a e = (refl, e)
+
+pub once-put : (k : List ℕ) (s : StyleConfig) (es : List Named) → once es ≡ true → once (put k s es) ≡ true
+unfolding once put known
+once-put k s =
+    place-by
+    k
+    (λ es i. once es ≡ true → once (put k s es) ≡ true)
+    (λ h. refl)
+    (λ x xs e h. rw e (rw (same-true (x .name) k e) at h))
+    (λ x xs e r h.
+    let b : (known (x .name) xs ≡ false) × (once xs ≡ true) = both (known (x .name) xs) (once xs) h in
+    rw (e, known-put (x .name) k s (same-flip (x .name) k e) xs, b .0) (r (b .1)))
+
+-- Refusals
+
+or-true : (a : Bool) → (a || true) ≡ true
+or-true true = refl
+or-true false = refl
+
+pub refuses-long : (k : List ℕ) (t : Table) → 32 < length k → refuses k t ≡ true
+refuses-long k t h = rw (lt-ltb 32 (length k) h)
+
+pub refuses-colon : (k : List ℕ) (t : Table) → holdsColon k ≡ true → refuses k t ≡ true
+refuses-colon k t h = rw h (or-true (tooLong k))
+
+pub refuses-full : (k : List ℕ) (t : Table) → known k (t .entries) ≡ false → 32 ≤ length (t .entries) → refuses k t ≡ true
+refuses-full k t e h = rw (e, le-leb 32 (length (t .entries)) h, or-true (holdsColon k)) (or-true (tooLong k))
+
+pub accepts-known : (k : List ℕ) (t : Table) → length k ≤ 32 → holdsColon k ≡ false → known k (t .entries) ≡ true → refuses k t ≡ false
+accepts-known k t h c e = rw (le-ltb 32 (length k) h, c, e)
+
+pub accepts-new : (k : List ℕ) (t : Table) → length k ≤ 32 → holdsColon k ≡ false → known k (t .entries) ≡ false → length (t .entries) < 32
+    → refuses k t ≡ false
+accepts-new k t h c e l = rw (le-ltb 32 (length k) h, c, e, lt-leb 32 (length (t .entries)) l)

@@ -1,0 +1,13 @@
+// All 256 flag bytes, the words for expand types, and calls of the config, each with its answer beside it.
+mod calls;
+mod print;
+
+fn main() {
+    calls::flags();
+    calls::words();
+    let map = config::StyleConfigMap::default_rich_text_config();
+    calls::built_in(map);
+    calls::names(map);
+    calls::defaults(map);
+    calls::full(map);
+}

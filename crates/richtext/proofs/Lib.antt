@@ -1,0 +1,4 @@
+pub mod Same
+pub mod Masks
+pub mod Laws
+pub mod Tests

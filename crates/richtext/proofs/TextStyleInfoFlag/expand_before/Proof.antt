@@ -1,0 +1,10 @@
+-- `TextStyleInfoFlag::expand_before` meets its contract: the mask 0x02 tests the bit of that weight. Assumes nothing.
+use Rattle.richtext.proofs.Masks.{mask2}
+use Rattle.richtext.proofs.TextStyleInfoFlag.expand_before.Statement.{statement}
+use Rattle.richtext.proofs.TextStyleInfoFlag.expand_before.Tie as tie
+
+returns : tie.Need-returns
+returns c = mask2 (c .before .args .self .«data»)
+
+pub expand-before-spec : {M : Type 1} → statement M
+expand-before-spec = tie.close (tie.spec returns)

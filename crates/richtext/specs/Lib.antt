@@ -1,0 +1,3 @@
+pub mod Bytes
+pub mod Types
+pub mod Flags

@@ -1,0 +1,45 @@
+-- The four expand types: on which sides a style grows, the words that name them, and the type that takes a style away.
+use mathlib.Core.Bool.{Bool, true, false, cond}
+use mathlib.Core.List.{List, [], _∷_}
+use Prim.Native.Nat.{ℕ}
+use Rattle.richtext.specs.Bytes.{same}
+use Rattle.richtext.specs.declared.ExpandType.{ExpandType}
+use Rattle.richtext.specs.declared.ExpandType.the-variants.{Before, After, Both, None}
+use Rattle.richtext.specs.declared.NamedType.{NamedType}
+use Rattle.richtext.specs.declared.NamedType.the-variants.{Is, NoneOfThese}
+
+-- text inserted before the style takes it over
+abbrev pub growsBefore : ExpandType → Bool
+growsBefore Before = true
+growsBefore After = false
+growsBefore Both = true
+growsBefore None = false
+
+-- text inserted after the style takes it over
+abbrev pub growsAfter : ExpandType → Bool
+growsAfter Before = false
+growsAfter After = true
+growsAfter Both = true
+growsAfter None = false
+
+-- Both and None change places; Before and After stay
+abbrev pub reversed : ExpandType → ExpandType
+reversed Before = Before
+reversed After = After
+reversed Both = None
+reversed None = Both
+
+-- the word for each type, letter by letter: before, after, both, none
+abbrev pub word : ExpandType → List ℕ
+word Before = 98 ∷ 101 ∷ 102 ∷ 111 ∷ 114 ∷ 101 ∷ []
+word After = 97 ∷ 102 ∷ 116 ∷ 101 ∷ 114 ∷ []
+word Both = 98 ∷ 111 ∷ 116 ∷ 104 ∷ []
+word None = 110 ∷ 111 ∷ 110 ∷ 101 ∷ []
+
+-- exactly these four, whole; anything else, of any length, names none of the types
+abbrev pub named : List ℕ → NamedType
+named s =
+    cond (same s (word Before)) (Is Before)
+    (cond (same s (word After)) (Is After)
+    (cond (same s (word Both)) (Is Both)
+    (cond (same s (word None)) (Is None) NoneOfThese)))

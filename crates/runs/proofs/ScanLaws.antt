@@ -1,0 +1,281 @@
+-- The questions over a range: what `anyAt`, `allAt`, `stretchTo` and `topIn` say, and a turn of each loop over the runs.
+use Prim.Native.Nat.{ℕ, zero, suc, _+_, _-_, _/_, _%_, _^_, _≤_, _<_, min}
+use mathlib.Core.Path.{_≡_, refl, sym, ap, ap₂, _∙_}
+use mathlib.Core.Bool.{Bool, true, false, cond, not, _&&_, _||_}
+use mathlib.Core.List.{List}
+use native.Mathlib.Omega.{arith}
+use native.Mathlib.Decide.{decLt, decLe}
+use native.Mathlib.Numerals.{sub-one}
+use lib.Dec.{ltb, leb, eqb}
+use lib.Bits.{bitAnd, and-zero-r, and-le-l}
+use lib.ListN.{length, getD}
+use lib.Pow.{shr-lt, pow-pos}
+use borrow.Author.Tests.{lt-ltb, le-ltb, le-leb, lt-leb, eq-eqb, ne-eqb}
+use Rattle.styles.specs.Bits.{hasBit, TopIn}
+use Rattle.styles.proofs.MaskLaws.{top-set, one-top}
+use Rattle.runs.specs.Runs.{Run, runs, total, setAt, sums}
+use Rattle.runs.specs.Scan.{anyAt, allAt, stretchTo, meets, topIn, shows, walked, commonAt, CanLook}
+use Rattle.runs.proofs.Laws.{total-sums, found-set, at-past}
+
+-- ---- tests
+never : true ≡ false → ⊥
+never e = let z : _≡_ {A = ℕ} 0 1 = cc in omega arith
+
+or-second : (a b : Bool) → b ≡ true → (a || b) ≡ true
+or-second true b e = refl
+or-second false b e = e
+
+pub and-true : (a b : Bool) → (a && b) ≡ true → (a ≡ true) × (b ≡ true)
+and-true true b e = (refl, e)
+and-true false b e = absurd (never (sym e))
+
+pub and-false : (a b : Bool) → a ≡ true → (a && b) ≡ false → b ≡ false
+and-false true b h e = e
+and-false false b h e = absurd (never (sym h))
+
+-- a set that meets a mask, and one that does not, as the code asks it
+pub some-bit : (s : ℕ) → not (eqb s 0) ≡ ltb 0 s
+some-bit s = elim (decLt 0 s) [ yes h ↦ simp (lt-ltb 0 s h, ne-eqb s 0 (λ e. omega arith)) | no h ↦ simp (le-ltb 0 s (omega arith), eq-eqb s 0 (omega arith)) ]
+
+pub no-bit : (s : ℕ) → eqb s 0 ≡ not (ltb 0 s)
+no-bit s = elim (decLt 0 s) [ yes h ↦ simp (lt-ltb 0 s h, ne-eqb s 0 (λ e. omega arith)) | no h ↦ simp (le-ltb 0 s (omega arith), eq-eqb s 0 (omega arith)) ]
+
+-- ---- some position passes
+module _ (test : ℕ → Bool) (from : ℕ) where
+  pub any-yes : (to p : ℕ) → from ≤ p → p < to → test p ≡ true → anyAt test from to ≡ true
+  unfolding anyAt
+  any-yes zero p g h e = absurd (omega arith)
+  any-yes (suc q) p g h e =
+      elim (decLt p q) [
+        | yes k ↦ simp (any-yes q p g k e)
+        | no k ↦ let i : p ≡ q = omega arith in or-second (anyAt test from q) _ (simp (le-leb from q (omega arith)) (ap test (sym i) ∙ e))
+      ]
+
+  pub any-no : (to : ℕ) → ((p : ℕ) → from ≤ p → p < to → test p ≡ false) → anyAt test from to ≡ false
+  unfolding anyAt
+  any-no zero h = refl
+  any-no (suc q) h =
+      let r = any-no q (λ p a b. h p a (omega arith)) in
+      elim (decLe from q) [
+        | yes k ↦ simp (r, le-leb from q k) (h q k (omega arith))
+        | no k ↦ simp (r, lt-leb from q (omega arith))
+      ]
+
+  pub any-none : (to : ℕ) → anyAt test from to ≡ false → (p : ℕ) → from ≤ p → p < to → test p ≡ false
+  any-none to e p g h = go (test p) refl
+    where
+      go : (b : Bool) → test p ≡ b → test p ≡ false
+      go true t = absurd (never (sym (any-yes to p g h t) ∙ e))
+      go false t = t
+
+  pub any-some : (to : ℕ) → anyAt test from to ≡ true → (p : ℕ) × (from ≤ p) × (p < to) × (test p ≡ true)
+  unfolding anyAt
+  any-some zero e = absurd (never (sym e))
+  any-some (suc q) e = go (anyAt test from q) (leb from q) (any-some q) refl e
+    where
+      go : (a b : Bool) → (a ≡ true → (p : ℕ) × (from ≤ p) × (p < q) × (test p ≡ true)) → leb from q ≡ b → (a || (b && test q)) ≡ true
+          → (p : ℕ) × (from ≤ p) × (p < suc q) × (test p ≡ true)
+      go true b x y z = let r = x refl in (r .0, r .1, omega (arith, r .2), r .3)
+      go false true x y z = (q, elim (decLe from q) [ yes k ↦ k | no k ↦ absurd (never (sym y ∙ lt-leb from q (omega arith))) ], omega arith, z)
+      go false false x y z = absurd (never (sym z))
+
+-- tests that agree over the range give one answer
+pub any-ext : (test test′ : ℕ → Bool) (from to : ℕ) → ((p : ℕ) → from ≤ p → p < to → test p ≡ test′ p) → anyAt test from to ≡ anyAt test′ from to
+unfolding anyAt
+any-ext test test′ from zero h = refl
+any-ext test test′ from (suc q) h =
+    ap₂ (λ (x y : Bool). x || y) (any-ext test test′ from q (λ p a b. h p a (omega arith)))
+    (elim (decLe from q) [
+      | yes k ↦ simp (le-leb from q k) (h q k (omega arith))
+      | no k ↦ simp (lt-leb from q (omega arith))
+    ])
+
+-- ---- every position passes: none does not
+not-or : (a b c : Bool) → (not a && (not b || c)) ≡ not (a || (b && not c))
+not-or true b c = refl
+not-or false true true = refl
+not-or false true false = refl
+not-or false false c = refl
+
+before-not : (from p : ℕ) → ltb p from ≡ not (leb from p)
+before-not from p = elim (decLe from p) [ yes k ↦ simp (le-leb from p k, le-ltb p from k) | no k ↦ simp (lt-leb from p (omega arith), lt-ltb p from (omega arith)) ]
+
+pub all-is : (test : ℕ → Bool) (from to : ℕ) → allAt test from to ≡ not (anyAt (λ p. not (test p)) from to)
+unfolding allAt anyAt
+all-is test from zero = refl
+all-is test from (suc q) =
+    ap₂ (λ (x y : Bool). x && (y || test q)) (all-is test from q) (before-not from q)
+    ∙ not-or (anyAt (λ p. not (test p)) from q) (leb from q) (test q)
+
+not-back : (b : Bool) → not b ≡ false → b ≡ true
+not-back true e = refl
+not-back false e = absurd (never e)
+
+not-flip : (b c : Bool) → not b ≡ c → b ≡ not c
+not-flip true c e = ap not e
+not-flip false c e = ap not e
+
+module _ (test : ℕ → Bool) (from : ℕ) where
+  pub all-yes : (to : ℕ) → ((p : ℕ) → from ≤ p → p < to → test p ≡ true) → allAt test from to ≡ true
+  all-yes to h = all-is test from to ∙ ap not (any-no (λ p. not (test p)) from to (λ p a b. ap not (h p a b)))
+
+  pub all-every : (to : ℕ) → allAt test from to ≡ true → (p : ℕ) → from ≤ p → p < to → test p ≡ true
+  all-every to e p g h = not-back (test p) (any-none (λ p. not (test p)) from to (not-flip _ _ (sym (all-is test from to) ∙ e)) p g h)
+
+  pub all-no : (to p : ℕ) → from ≤ p → p < to → test p ≡ false → allAt test from to ≡ false
+  all-no to p g h e = all-is test from to ∙ ap not (any-yes (λ p. not (test p)) from to p g h (ap not e))
+
+pub all-ext : (test test′ : ℕ → Bool) (from to : ℕ) → ((p : ℕ) → from ≤ p → p < to → test p ≡ test′ p) → allAt test from to ≡ allAt test′ from to
+all-ext test test′ from to h =
+    all-is test from to ∙ ap not (any-ext (λ p. not (test p)) (λ p. not (test′ p)) from to (λ p a b. ap not (h p a b))) ∙ sym (all-is test′ from to)
+
+-- ---- the highest bit
+small-clear : (k u : ℕ) → u < 2 ^ k → hasBit k u ≡ false
+small-clear k u h = ne-eqb (u / 2 ^ k % 2) 1 (λ e. omega (arith, shr-lt {n = u} 0 k (let z : 0 + k ≡ k = omega arith in rw z h)))
+
+pub top-in-is : (k u v : ℕ) (r : Bool) → u < 2 ^ k → TopIn u v r → r ≡ topIn k u v
+unfolding topIn
+top-in-is zero u v r h t = t .none (omega arith)
+top-in-is (suc k) u v r h t =
+    elim (decLt u (2 ^ k)) [
+      | yes g ↦ simp (small-clear k u g) (top-in-is k u v r g t)
+      | no g ↦ simp (top-set k u (omega arith) h) (t .top k (omega arith) h)
+    ]
+
+pub top-in-none : (k v : ℕ) → topIn k 0 v ≡ false
+unfolding topIn
+top-in-none zero v = refl
+top-in-none (suc k) v = simp (small-clear k 0 (pow-pos k)) (top-in-none k v)
+
+top-in-top : (k j u v : ℕ) → u < 2 ^ k → 2 ^ j ≤ u → u < 2 ^ suc j → topIn k u v ≡ hasBit j v
+unfolding topIn
+top-in-top zero j u v h a b = absurd (omega (arith, pow-pos j))
+top-in-top (suc k) j u v h a b =
+    elim (decLt u (2 ^ k)) [
+      | yes g ↦ simp (small-clear k u g) (top-in-top k j u v g a b)
+      | no g ↦ simp (top-set k u (omega arith) h) (ap (λ (x : ℕ). hasBit x v) (one-top k j u (omega arith) h a b))
+    ]
+
+-- so it is the answer that `TopIn` speaks of
+pub top-in-holds : (k u v : ℕ) → u < 2 ^ k → TopIn u v (topIn k u v)
+top-in-holds k u v h = record { none = λ e. rw e (top-in-none k v); top = λ j a b. top-in-top k j u v h a b }
+
+pub shows-top : (first second s : ℕ) → s < 2 ^ 64 → TopIn (bitAnd s first) second (shows first second s)
+shows-top first second s h = top-in-holds 64 (bitAnd s first) second (omega (arith, and-le-l s first))
+
+-- ---- a stretch that ends just before a position
+module _ (test : ℕ → Bool) where
+  stretch-none : (p : ℕ) → test p ≡ false → stretchTo test (suc p) ≡ suc p
+  unfolding stretchTo
+  stretch-none p e = simp e
+
+  stretch-more : (p : ℕ) → test p ≡ true → stretchTo test (suc p) ≡ stretchTo test p
+  unfolding stretchTo
+  stretch-more p e = simp e
+
+  pub stretch-le : (n : ℕ) → stretchTo test n ≤ n
+  unfolding stretchTo
+  stretch-le zero = omega arith
+  stretch-le (suc p) = go (test p) refl (stretch-le p)
+    where
+      go : (b : Bool) → test p ≡ b → stretchTo test p ≤ p → stretchTo test (suc p) ≤ suc p
+      go true e r = omega (arith, stretch-more p e)
+      go false e r = omega (arith, stretch-none p e)
+
+  -- every position of it passes
+  pub stretch-all : (n p : ℕ) → stretchTo test n ≤ p → p < n → test p ≡ true
+  stretch-all zero p g h = absurd (omega arith)
+  stretch-all (suc n) p g h = go (test n) refl (stretch-all n p)
+    where
+      go : (b : Bool) → test n ≡ b → (stretchTo test n ≤ p → p < n → test p ≡ true) → test p ≡ true
+      go true e r = elim (decLt p n) [ yes k ↦ r (omega (arith, stretch-more n e)) k | no k ↦ let q : p ≡ n = omega arith in rw q e ]
+      go false e r = absurd (omega (arith, stretch-none n e))
+
+  -- the position before it does not
+  pub stretch-stop : (n q : ℕ) → stretchTo test n ≡ suc q → test q ≡ false
+  unfolding stretchTo
+  stretch-stop zero q g = absurd (omega arith)
+  stretch-stop (suc n) q g = go (test n) refl (stretch-stop n q)
+    where
+      go : (b : Bool) → test n ≡ b → (stretchTo test n ≡ suc q → test q ≡ false) → test q ≡ false
+      go true e r = r (sym (stretch-more n e) ∙ g)
+      go false e r = let z : q ≡ n = omega (arith, stretch-none n e) in rw z e
+
+  -- k positions more that pass
+  stretch-run : (n k : ℕ) → ((p : ℕ) → n ≤ p → p < n + k → test p ≡ true) → stretchTo test (n + k) ≡ stretchTo test n
+  stretch-run n zero h = let e : n + 0 ≡ n = omega arith in rw e
+  stretch-run n (suc k) h =
+      let e : n + suc k ≡ suc (n + k) = omega arith in
+      rw e (stretch-more (n + k) (h (n + k) (omega arith) (omega arith)) ∙ stretch-run n k (λ p a b. h p a (omega arith)))
+
+  pub stretch-over : (n m : ℕ) → n ≤ m → ((p : ℕ) → n ≤ p → p < m → test p ≡ true) → stretchTo test m ≡ stretchTo test n
+  stretch-over n m l h =
+      let e : n + (m - n) ≡ m = omega arith in
+      ap (stretchTo test) (sym e) ∙ stretch-run n (m - n) (λ p a b. h p a (omega arith))
+
+  pub stretch-end : (n : ℕ) → 0 < n → test (n - 1) ≡ false → stretchTo test n ≡ n
+  stretch-end zero h e = absurd (omega arith)
+  stretch-end (suc n) h e = stretch-none n (rw sub-one at e)
+
+-- tests that agree below the end give one stretch
+pub stretch-ext : (test test′ : ℕ → Bool) (n : ℕ) → ((p : ℕ) → p < n → test p ≡ test′ p) → stretchTo test n ≡ stretchTo test′ n
+unfolding stretchTo
+stretch-ext test test′ zero h = refl
+stretch-ext test test′ (suc n) h =
+    ap₂ (λ (b : Bool) (x : ℕ). cond b x (suc n)) (h n (omega arith)) (stretch-ext test test′ n (λ p k. h p (omega arith)))
+
+-- ---- what the positions at a place have in common
+pub common-end : (rs : List Run) (pos : ℕ) → total rs ≤ pos → commonAt rs pos ≡ 0
+unfolding commonAt
+common-end rs zero h = refl
+common-end rs (suc p) h = ap (bitAnd (setAt rs p)) (at-past rs (suc p) h) ∙ and-zero-r (setAt rs p)
+
+pub common-inside : (rs : List Run) (pos : ℕ) → (pos ≡ 0 → ⊥) → commonAt rs pos ≡ bitAnd (setAt rs (pos - 1)) (setAt rs pos)
+unfolding commonAt
+common-inside rs zero h = absurd (h refl)
+common-inside rs (suc p) h = rw sub-one
+
+-- ---- the positions of run k have its set
+pub at-run : (lens sets : List ℕ) (n k p : ℕ) → k < n → total (runs lens sets k) ≤ p → p < total (runs lens sets k) + getD lens k 0
+    → setAt (runs lens sets n) p ≡ getD sets k 0
+at-run lens sets n k p h a b =
+    let s = total-sums lens sets k in
+    found-set lens sets n p k (total (runs lens sets k)) (record { within = omega arith; starts = s; reached = a; inside = λ _. b }) h
+
+-- ---- a turn of the walk back
+module _ (lens sets : List ℕ) (n mask last k start from : ℕ) (in-turn : k < n) (begun : start ≡ total (runs lens sets k)) where
+  test : ℕ → Bool
+  test p = meets mask (setAt (runs lens sets n) p)
+
+  upto : ℕ
+  upto = min (start + getD lens k 0) (last + 1)
+
+  on-run : (p : ℕ) → start ≤ p → p < start + getD lens k 0 → test p ≡ meets mask (getD sets k 0)
+  unfolding test
+  on-run p a b = ap (meets mask) (at-run lens sets n k p in-turn (omega arith) (omega arith))
+
+  pub walk-turn : from ≡ stretchTo (λ p. meets mask (setAt (runs lens sets n) p)) (min start (last + 1))
+      → walked from start (min (start + getD lens k 0) (last + 1)) (bitAnd (getD sets k 0) mask)
+      ≡ stretchTo (λ p. meets mask (setAt (runs lens sets n) p)) (min (start + getD lens k 0) (last + 1))
+  unfolding walked test upto
+  walk-turn so-far =
+      elim (decLe upto start) [
+        | yes h ↦
+            let i : min start (last + 1) ≡ min (start + getD lens k 0) (last + 1) = omega arith in
+            simp (le-leb upto start h) (so-far ∙ ap (stretchTo test) i)
+        | no h ↦
+            let i : min start (last + 1) ≡ start = omega arith in
+            elim (decLt 0 (bitAnd (getD sets k 0) mask)) [
+              | yes g ↦
+                  simp (lt-leb upto start (omega arith), lt-ltb 0 (bitAnd (getD sets k 0) mask) g)
+                  (so-far ∙ ap (stretchTo test) i
+                  ∙ sym (stretch-over test start upto (omega arith) (λ p a b. on-run p a (omega arith) ∙ lt-ltb 0 (bitAnd (getD sets k 0) mask) g)))
+              | no g ↦
+                  simp (lt-leb upto start (omega arith), le-ltb 0 (bitAnd (getD sets k 0) mask) (omega arith))
+                  (sym (stretch-end test upto (omega arith) (on-run (upto - 1) (omega arith) (omega arith) ∙ le-ltb 0 (bitAnd (getD sets k 0) mask) (omega arith))))
+            ]
+      ]
+
+-- ---- what a look at a position asks
+pub can-look : {lens sets : List ℕ} {n : ℕ} → CanLook lens sets n → ((n ≤ length lens) × (n ≤ length sets)) × (sums lens n < 2 ^ 63)
+can-look {lens} {sets} {n} h = ((h .lens-n, h .sets-n), omega (arith, total-sums lens sets n))

@@ -1,0 +1,54 @@
+-- `count::count_alter` meets its contract: the part before a, the part a .. b altered, the part from b on.
+use mathlib.Core.Path.{_≡_}
+use mathlib.Core.List.{[]}
+use native.Mathlib.Omega.{arith}
+use borrow.Author.Needs.{needs}
+use Rattle.runs.specs.Runs.{runs, copyRuns, changing, adding}
+use Rattle.runs.specs.Edits.{part, altered}
+use Rattle.runs.specs.Count.{tallyOf}
+use Rattle.runs.proofs.TallyLaws.{count-is, copied-most}
+use Rattle.runs.proofs.count.count_alter.Statement.{statement}
+use Rattle.runs.proofs.count.count_alter.Tie as tie
+
+count-part-requires : tie.Need-count-part-requires
+count-part-requires c κs = (c .before .before .before .pre .0, omega (arith, count-is _ [] (c .nothing .ensures)))
+
+-- after the first part
+first : (c : tie.After-count-part) → let s = c .before .before .before .before in
+    c .count-part .result ≡ tallyOf (part [] 0 (s .args .a) (runs (s .args .lens .now) (s .args .sets .now) (s .args .m)))
+first c = c .count-part .ensures [] (c .before .nothing .ensures)
+
+-- after the second
+second : (c : tie.After-count-part2) → let s = c .before .before .before .before .before in
+    let rs = runs (s .args .lens .now) (s .args .sets .now) (s .args .m) in
+    c .count-part2 .result ≡ tallyOf (copyRuns (changing (s .args .bits) (s .args .drop)) (part [] 0 (s .args .a) rs) (s .args .a) (s .args .b) rs)
+second c = c .count-part2 .ensures _ (first (c .before))
+
+count-part-requires-2 : tie.Need-count-part-requires-2
+count-part-requires-2 c κs =
+    let s = c .before .before .before .before in
+    (s .pre .0, omega (arith, count-is _ _ (first c), copied-most (adding 0) [] 0 (s .args .a) (s .args .lens .now) (s .args .sets .now) (s .args .m)))
+
+count-part-requires-3 : tie.Need-count-part-requires-3
+count-part-requires-3 c κs =
+    let s = c .before .before .before .before .before in
+    let rs = runs (s .args .lens .now) (s .args .sets .now) (s .args .m) in (
+      s .pre .0,
+      omega (
+        arith,
+        count-is _ _ (second c),
+        copied-most (changing (s .args .bits) (s .args .drop)) (part [] 0 (s .args .a) rs) (s .args .a) (s .args .b) (s .args .lens .now) (s .args .sets .now) (s .args .m),
+        copied-most (adding 0) [] 0 (s .args .a) (s .args .lens .now) (s .args .sets .now) (s .args .m),
+      ),
+    )
+
+returns : tie.Need-returns
+unfolding altered
+returns c =
+    let s = c .before .before .before .before .before .before in
+    rw (← s .pre .1) (count-is _ _ (c .count-part3 .ensures _ (second (c .before))))
+
+pub count-alter-spec : {M : Type 1} → statement M
+count-alter-spec =
+    tie.close
+    (tie.spec (λ c κs. search needs) count-part-requires count-part-requires-2 count-part-requires-3 returns)

@@ -1,0 +1,33 @@
+-- `count::count_delete` meets its contract: the part before a, then the part from b on.
+use mathlib.Core.Path.{_≡_}
+use mathlib.Core.List.{[]}
+use native.Mathlib.Omega.{arith}
+use borrow.Author.Needs.{needs}
+use Rattle.runs.specs.Runs.{runs, adding}
+use Rattle.runs.specs.Edits.{part, deleted}
+use Rattle.runs.specs.Count.{tallyOf}
+use Rattle.runs.proofs.TallyLaws.{count-is, copied-most}
+use Rattle.runs.proofs.count.count_delete.Statement.{statement}
+use Rattle.runs.proofs.count.count_delete.Tie as tie
+
+count-part-requires : tie.Need-count-part-requires
+count-part-requires c κs = (c .before .before .before .pre .0, omega (arith, count-is _ [] (c .nothing .ensures)))
+
+-- after the first part
+first : (c : tie.After-count-part) → let s = c .before .before .before .before in
+    c .count-part .result ≡ tallyOf (part [] 0 (s .args .a) (runs (s .args .lens .now) (s .args .sets .now) (s .args .m)))
+first c = c .count-part .ensures [] (c .before .nothing .ensures)
+
+count-part-requires-2 : tie.Need-count-part-requires-2
+count-part-requires-2 c κs =
+    let s = c .before .before .before .before in
+    (s .pre .0, omega (arith, count-is _ _ (first c), copied-most (adding 0) [] 0 (s .args .a) (s .args .lens .now) (s .args .sets .now) (s .args .m)))
+
+returns : tie.Need-returns
+unfolding deleted
+returns c =
+    let s = c .before .before .before .before .before in
+    rw (← s .pre .1) (count-is _ _ (c .count-part2 .ensures _ (first (c .before))))
+
+pub count-delete-spec : {M : Type 1} → statement M
+count-delete-spec = tie.close (tie.spec (λ c κs. search needs) count-part-requires count-part-requires-2 returns)

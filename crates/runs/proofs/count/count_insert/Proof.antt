@@ -1,0 +1,54 @@
+-- `count::count_insert` meets its contract: the part before pos, the new positions, the part from pos on.
+use mathlib.Core.Path.{_≡_}
+use mathlib.Core.List.{[]}
+use native.Mathlib.Omega.{arith}
+use borrow.Author.Needs.{needs}
+use Rattle.runs.specs.Runs.{runs, pushRun, adding}
+use Rattle.runs.specs.Edits.{part, inserted}
+use Rattle.runs.specs.Count.{tallyOf}
+use Rattle.runs.proofs.Laws.{length-push}
+use Rattle.runs.proofs.TallyLaws.{count-is, copied-most}
+use Rattle.runs.proofs.count.count_insert.Statement.{statement}
+use Rattle.runs.proofs.count.count_insert.Tie as tie
+
+count-part-requires : tie.Need-count-part-requires
+count-part-requires c κs = (c .before .before .before .pre .0, omega (arith, count-is _ [] (c .nothing .ensures)))
+
+-- after the first part
+first : (c : tie.After-count-part) → let s = c .before .before .before .before in
+    c .count-part .result ≡ tallyOf (part [] 0 (s .args .pos) (runs (s .args .lens .now) (s .args .sets .now) (s .args .m)))
+first c = c .count-part .ensures [] (c .before .nothing .ensures)
+
+-- after the new positions
+second : (c : tie.After-more) → let s = c .before .before .before .before .before in
+    c .more .result ≡ tallyOf (pushRun (part [] 0 (s .args .pos) (runs (s .args .lens .now) (s .args .sets .now) (s .args .m))) (s .args .len) (s .args .set))
+second c = c .more .ensures .1 _ (first (c .before))
+
+more-requires : tie.Need-more-requires
+more-requires c κs =
+    let s = c .before .before .before .before in
+    omega (arith, count-is _ _ (first c), copied-most (adding 0) [] 0 (s .args .pos) (s .args .lens .now) (s .args .sets .now) (s .args .m))
+
+count-part-requires-2 : tie.Need-count-part-requires-2
+count-part-requires-2 c κs =
+    let s = c .before .before .before .before .before in
+    let rs = runs (s .args .lens .now) (s .args .sets .now) (s .args .m) in (
+      s .pre .0,
+      omega (
+        arith,
+        count-is _ _ (second c),
+        length-push (part [] 0 (s .args .pos) rs) (s .args .len) (s .args .set),
+        copied-most (adding 0) [] 0 (s .args .pos) (s .args .lens .now) (s .args .sets .now) (s .args .m),
+      ),
+    )
+
+returns : tie.Need-returns
+unfolding inserted
+returns c =
+    let s = c .before .before .before .before .before .before in
+    rw (← s .pre .1) (count-is _ _ (c .count-part2 .ensures _ (second (c .before))))
+
+pub count-insert-spec : {M : Type 1} → statement M
+count-insert-spec =
+    tie.close
+    (tie.spec (λ c κs. search needs) count-part-requires more-requires count-part-requires-2 returns)

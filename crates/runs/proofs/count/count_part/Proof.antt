@@ -1,0 +1,103 @@
+-- `count::count_part` meets its contract. The invariant: the tally is that of the copy of the first k runs.
+use Prim.Native.Nat.{ℕ, _+_, _-_, _≤_, _<_, _^_}
+use mathlib.Core.Path.{_≡_, refl, sym, ap, _∙_}
+use mathlib.Core.List.{List}
+use native.Mathlib.Omega.{arith}
+use borrow.Author.Needs.{needs}
+use lib.ListN.{getD}
+use Rattle.runs.specs.declared.count.Tally.{Tally}
+use Rattle.runs.specs.Runs.{Run, runs, total, pushRun, copyRuns, changing, clip}
+use Rattle.runs.specs.Count.{tallyOf, CanTally}
+use Rattle.runs.proofs.Laws.{total-more, total-mono, copy-more}
+use Rattle.runs.proofs.count.count_part.Statement.{statement}
+use Rattle.runs.proofs.count.count_part.Tie as tie
+use Rattle.runs.proofs.count.count_part.Reads as reads
+use Rattle.runs.proofs.count.count_part.Lts as lts
+use Rattle.runs.proofs.change.Reads as change-reads
+use Rattle.runs.proofs.clip.Reads as clip-reads
+use Rattle.runs.proofs.count.more.Reads as more-reads
+
+record Tallied (t : Tally) (lens sets : List ℕ) (m from to bits drop : ℕ) (u : Tally) (k start : ℕ) : Type 0 where
+  within : k ≤ m
+  begun : start ≡ total (runs lens sets k)
+  most : u .count ≤ t .count + k
+  done : (base : List Run) → t ≡ tallyOf base → u ≡ tallyOf (copyRuns (changing bits drop) base from to (runs lens sets k))
+
+module _ {t : Tally} {lens sets : List ℕ} {m from to bits drop : ℕ} {u : Tally} {k start : ℕ}
+    (can : CanTally lens sets m) (inv : Tallied t lens sets m from to bits drop u k start) (in-turn : k < m) where
+  turn-end : start + getD lens k 0 < 2 ^ 63
+  turn-end = omega (arith, total-more lens sets k, total-mono lens sets (k + 1) m (omega arith))
+
+  turn : (v : Tally) → v .count ≤ u .count + 1
+      → ((rs : List Run) → u ≡ tallyOf rs → v ≡ tallyOf (pushRun rs (clip from to start (getD lens k 0)) (changing bits drop (getD sets k 0))))
+      → Tallied t lens sets m from to bits drop v (k + 1) (start + getD lens k 0)
+  turn v h g =
+      record {
+        within = omega arith;
+        begun = omega (arith, total-more lens sets k);
+        most = omega arith;
+        done = λ base e.
+            g (copyRuns (changing bits drop) base from to (runs lens sets k)) (inv .done base e)
+            ∙ ap tallyOf (rw (inv .begun) (sym (copy-more lens sets (changing bits drop) base from to k)));
+      }
+
+abbrev Inv-loop : tie.InvT-loop
+Inv-loop lens sets m from to bits drop u₀ k₀ start₀ u k start = Tallied u₀ lens sets m from to bits drop u k start
+
+abbrev μ-loop : tie.MeasureT-loop
+μ-loop lens sets m from to bits drop u₀ k₀ start₀ u k start = m - k
+
+loop-holds : tie.Need-loop-holds Inv-loop μ-loop
+unfolding runs total copyRuns
+loop-holds c = record { within = omega arith; begun = refl; most = omega arith; done = λ base e. e }
+
+add-end : tie.Need-add-end Inv-loop μ-loop
+add-end c =
+    let i = c .before in
+    omega (arith, turn-end (i .before .before .before .before .pre .0) (i .before .loop .inv) (i .loop-test .taken))
+
+-- what the turn is handed
+handed : (c : tie.After-change Inv-loop μ-loop) → let i = c .before .before .before .before in
+    let l = i .before .loop in
+    let a = i .before .before .before .before .args in
+    (c .before .before .clip .result ≡ clip (a .from) (a .to) (l .start) (getD (a .lens .now) (l .k) 0))
+    × (c .change .result ≡ changing (a .bits) (a .drop) (getD (a .sets .now) (l .k) 0))
+handed c = (c .before .before .clip .ensures, c .change .ensures)
+
+more-requires : tie.Need-more-requires Inv-loop μ-loop
+more-requires c κs =
+    let i = c .before .before .before .before in
+    let inv = i .before .loop .inv in
+    omega arith
+
+loop-again : tie.Need-loop-again Inv-loop μ-loop
+loop-again c =
+    let g = c .before in
+    let i = g .before .before .before .before in
+    turn (i .before .before .before .before .pre .0) (i .before .loop .inv) (i .loop-test .taken) (c .more .result) (c .more .ensures .0)
+    (rw (← handed g .0, ← handed g .1) (c .more .ensures .1))
+
+returns : tie.Need-returns Inv-loop μ-loop
+returns c =
+    let e : c .before .loop .k ≡ c .before .before .before .before .args .m = omega arith in
+    rw (← e) (c .before .loop .inv .done)
+
+pub count-part-spec : {M : Type 1} → statement M
+count-part-spec =
+    tie.close
+    (tie.spec
+    Inv-loop
+    μ-loop
+    loop-holds
+    (λ c. omega arith)
+    (λ c. omega arith)
+    add-end
+    (λ c κs. search needs)
+    (λ c. omega arith)
+    (λ c. omega arith)
+    (λ c κs. search needs)
+    more-requires
+    (λ c. omega arith)
+    (λ c. omega arith)
+    loop-again
+    returns)

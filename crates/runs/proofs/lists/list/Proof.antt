@@ -1,0 +1,141 @@
+-- `lists::list` meets its contract. The invariant: the list of the first k runs stands in front, and the rest of the buffer is as it was.
+use Prim.Native.Nat.{ℕ, _+_, _-_, _≤_, _<_, _^_, min, max}
+use mathlib.Core.Path.{_≡_, refl, sym, ap, _∙_}
+use mathlib.Core.List.{List, _++_}
+use native.Mathlib.Omega.{arith}
+use borrow.Author.Needs.{needs}
+use lib.Count.{ones}
+use lib.ListN.{length, getD, take, drop, length-append}
+use Rattle.runs.specs.Runs.{runs, total}
+use Rattle.runs.specs.Lists.{clipped, numbers, entry, inFront, listed, CanList}
+use Rattle.runs.proofs.Laws.{total-more, total-mono}
+use Rattle.runs.proofs.ListLaws.{listed-more, listed-grows, front-write, front-length}
+use Rattle.runs.proofs.lists.list.Statement.{statement}
+use Rattle.runs.proofs.lists.list.Tie as tie
+use Rattle.runs.proofs.lists.list.Reads as reads
+use Rattle.runs.proofs.lists.list.Lts as lts
+use Rattle.runs.proofs.later.Reads as later-reads
+use Rattle.runs.proofs.sooner.Reads as sooner-reads
+use Rattle.runs.proofs.lists.marks_of.Reads as marks-of-reads
+use Rattle.runs.proofs.lists.write.Reads as write-reads
+
+record Listed (lens sets : List ℕ) (n from to least : ℕ) (out₀ out : List ℕ) (k start at : ℕ) : Type 0 where
+  within : k ≤ n
+  begun : start ≡ total (runs lens sets k)
+  place : at ≡ length (listed least from to lens sets k)
+  done : out ≡ inFront (listed least from to lens sets k) out₀
+
+-- the entry of a turn's run
+abbrev more : ℕ → ℕ → ℕ → ℕ → ℕ → ℕ → List ℕ
+more least from to start len set = entry least (max from start) (min to (start + len)) (ones set)
+
+-- an entry written behind the list
+placed : (xs es out₀ out : List ℕ) (at : ℕ) → at ≡ length xs → out ≡ inFront xs out₀ → length xs + length es ≤ length out₀
+    → take at out ++ es ++ drop (at + length es) out ≡ inFront (xs ++ es) out₀
+placed xs es out₀ out at e g h = rw (g, e) (front-write xs es out₀ h)
+
+-- a turn: what the call asks, and the invariant after it
+module _ {lens sets : List ℕ} {n from to least : ℕ} {out₀ out : List ℕ} {k start at : ℕ}
+    (can : CanList least from to lens sets n out₀) (inv : Listed lens sets n from to least out₀ out k start at) (in-turn : k < n) where
+  turn-end : start + getD lens k 0 < 2 ^ 63
+  turn-end = omega (arith, total-more lens sets k, total-mono lens sets (k + 1) n (omega arith))
+
+  turn-list : listed least from to lens sets (k + 1) ≡ listed least from to lens sets k ++ more least from to start (getD lens k 0) (getD sets k 0)
+  turn-list = rw (inv .begun) (listed-more least from to lens sets k)
+
+  turn-fits : length (listed least from to lens sets k) + length (more least from to start (getD lens k 0) (getD sets k 0)) ≤ length out₀
+  turn-fits =
+      omega (
+        arith,
+        ap length turn-list,
+        length-append (listed least from to lens sets k) (more least from to start (getD lens k 0) (getD sets k 0)),
+        listed-grows least from to lens sets (k + 1) n (omega arith),
+      )
+
+  turn-room : at + length (more least from to start (getD lens k 0) (getD sets k 0)) ≤ length out
+  turn-room = omega (arith, turn-fits, ap length (inv .done), front-length (listed least from to lens sets k) out₀ (omega (arith, turn-fits)))
+
+  turn : (out′ : List ℕ) (at′ : ℕ)
+      → out′ ≡ take at out ++ more least from to start (getD lens k 0) (getD sets k 0) ++ drop (at + length (more least from to start (getD lens k 0) (getD sets k 0))) out
+      → at′ ≡ at + length (more least from to start (getD lens k 0) (getD sets k 0))
+      → Listed lens sets n from to least out₀ out′ (k + 1) (start + getD lens k 0) at′
+  turn out′ at′ e g =
+      record {
+        within = omega arith;
+        begun = omega (arith, total-more lens sets k);
+        place =
+            omega (arith, ap length turn-list, length-append (listed least from to lens sets k) (more least from to start (getD lens k 0) (getD sets k 0)));
+        done =
+            e
+            ∙ placed (listed least from to lens sets k) (more least from to start (getD lens k 0) (getD sets k 0)) out₀ out at (inv .place) (inv .done) turn-fits
+            ∙ ap (λ (x : List ℕ). inFront x out₀) (sym turn-list);
+      }
+
+kept : {lens sets : List ℕ} {n from to least : ℕ} {out₀ out : List ℕ} {k start at : ℕ} → CanList least from to lens sets n out₀
+    → Listed lens sets n from to least out₀ out k start at → length out ≡ length out₀
+kept {lens} {sets} {n} {from} {to} {least} {out₀} {k = k} can inv =
+    ap length (inv .done) ∙ front-length (listed least from to lens sets k) out₀ (omega (arith, listed-grows least from to lens sets k n (inv .within)))
+
+abbrev Inv-loop : tie.InvT-loop
+Inv-loop lens sets n from to least out₀ k₀ start₀ at₀ out k start at = Listed lens sets n from to least out₀ out k start at
+
+abbrev μ-loop : tie.MeasureT-loop
+μ-loop lens sets n from to least out₀ k₀ start₀ at₀ out k start at = n - k
+
+loop-holds : tie.Need-loop-holds Inv-loop μ-loop
+unfolding runs total clipped numbers
+loop-holds c = record { within = omega arith; begun = refl; place = refl; done = refl }
+
+add-end : tie.Need-add-end Inv-loop μ-loop
+add-end c =
+    let i = c .before in
+    omega (arith, turn-end (i .before .before .before .before .before .pre) (i .before .loop .inv) (omega arith))
+
+-- what the write of a turn is handed
+handed : (c : tie.After-marks-of Inv-loop μ-loop) → let i = c .before .before .before .before .before .before in
+    let l = i .before .loop in
+    let a = i .before .before .before .before .before .args in
+    (c .before .before .before .before .later .result ≡ max (a .from) (l .start))
+    × (c .before .before .before .sooner .result ≡ min (a .to) (l .start + getD (a .lens .now) (l .k) 0))
+    × (c .marks-of .result ≡ ones (getD (a .sets .now) (l .k) 0))
+handed c = (c .before .before .before .before .later .ensures, c .before .before .before .sooner .ensures, c .marks-of .ensures)
+
+write-requires : tie.Need-write-requires Inv-loop μ-loop
+write-requires c κs =
+    let i = c .before .before .before .before .before .before in
+    rw (handed c .0, handed c .1, handed c .2) (turn-room (i .before .before .before .before .before .pre) (i .before .loop .inv) (omega arith))
+
+loop-again : tie.Need-loop-again Inv-loop μ-loop
+loop-again c =
+    let w = c .before .before in
+    let g = w .before in
+    let i = g .before .before .before .before .before .before in
+    turn (i .before .before .before .before .before .pre) (i .before .loop .inv) (omega arith) _ _
+    (rw (← handed g .0, ← handed g .1, ← handed g .2) (w .write .ensures .0)) (rw (← handed g .0, ← handed g .1, ← handed g .2) (w .write .ensures .1))
+
+returns : tie.Need-returns Inv-loop μ-loop
+returns c =
+    let e : c .before .loop .k ≡ c .before .before .before .before .before .args .n = omega arith in
+    (rw (← e) (c .before .loop .inv .done), rw (← e) (c .before .loop .inv .place))
+
+pub list-spec : {M : Type 1} → statement M
+list-spec =
+    tie.close
+    (tie.spec
+    Inv-loop
+    μ-loop
+    loop-holds
+    (λ c. omega arith)
+    (λ c. omega arith)
+    add-end
+    (λ c κs. search needs)
+    (λ c κs. search needs)
+    (λ c. omega arith)
+    (λ c. omega arith)
+    (λ c κs. search needs)
+    write-requires
+    (λ c. omega arith)
+    (λ c. omega arith)
+    loop-again
+    (λ c. kept (c .before .before .before .before .before .pre) (c .before .loop .inv))
+    returns)

@@ -1,0 +1,121 @@
+-- `lists::need` meets its contract. The invariant: `count` is the length of the list of the first k runs.
+use Prim.Native.Nat.{ℕ, _+_, _-_, _*_, _≤_, _<_, _^_, min, max}
+use mathlib.Core.Path.{_≡_, refl, ap}
+use mathlib.Core.List.{List, _++_}
+use native.Mathlib.Omega.{arith}
+use borrow.Author.Needs.{needs}
+use lib.Count.{ones}
+use lib.ListN.{length, getD, length-append}
+use Rattle.runs.specs.Runs.{runs, total}
+use Rattle.runs.specs.Count.{CanTally}
+use Rattle.runs.specs.Lists.{clipped, numbers, entry, listed}
+use Rattle.runs.proofs.Laws.{total-more, total-mono}
+use Rattle.runs.proofs.ListLaws.{listed-more, listed-most, entry-most}
+use Rattle.runs.proofs.lists.need.Statement.{statement}
+use Rattle.runs.proofs.lists.need.Tie as tie
+use Rattle.runs.proofs.lists.need.Reads as reads
+use Rattle.runs.proofs.lists.need.Lts as lts
+use Rattle.runs.proofs.later.Reads as later-reads
+use Rattle.runs.proofs.sooner.Reads as sooner-reads
+use Rattle.runs.proofs.lists.marks_of.Reads as marks-of-reads
+use Rattle.runs.proofs.lists.width.Reads as width-reads
+
+record Needed (lens sets : List ℕ) (n from to least k start count : ℕ) : Type 0 where
+  within : k ≤ n
+  begun : start ≡ total (runs lens sets k)
+  place : count ≡ length (listed least from to lens sets k)
+
+module _ {lens sets : List ℕ} {n from to least k start count : ℕ} (can : CanTally lens sets n) (inv : Needed lens sets n from to least k start count) (in-turn : k < n) where
+  turn-end : start + getD lens k 0 < 2 ^ 63
+  turn-end = omega (arith, total-more lens sets k, total-mono lens sets (k + 1) n (omega arith))
+
+  small : count < 3 * 2 ^ 62
+  small = omega (arith, listed-most least from to lens sets k)
+
+  turn : (more : ℕ) → more ≡ length (entry least (max from start) (min to (start + getD lens k 0)) (ones (getD sets k 0)))
+      → Needed lens sets n from to least (k + 1) (start + getD lens k 0) (count + more)
+  turn more e =
+      record {
+        within = omega arith;
+        begun = omega (arith, total-more lens sets k);
+        place =
+            let b = inv .begun in
+            let l : length (listed least from to lens sets (k + 1)) ≡ length (listed least from to lens sets k ++ entry least (max from start) (min to (start + getD lens k 0)) (ones (getD sets k 0))) =
+            rw b (ap length (listed-more least from to lens sets k))
+            in
+            omega (
+              arith,
+              length-append (listed least from to lens sets k) (entry least (max from start) (min to (start + getD lens k 0)) (ones (getD sets k 0))),
+            );
+      }
+
+abbrev Inv-loop : tie.InvT-loop
+Inv-loop lens sets n from to least k₀ start₀ count₀ k start count = Needed lens sets n from to least k start count
+
+abbrev μ-loop : tie.MeasureT-loop
+μ-loop lens sets n from to least k₀ start₀ count₀ k start count = n - k
+
+loop-holds : tie.Need-loop-holds Inv-loop μ-loop
+unfolding runs total clipped numbers
+loop-holds c = record { within = omega arith; begun = refl; place = refl }
+
+add-end : tie.Need-add-end Inv-loop μ-loop
+add-end c =
+    let i = c .before in
+    omega (arith, turn-end (i .before .before .before .before .pre) (i .before .loop .inv) (omega arith))
+
+-- what the turn adds
+added : (c : tie.After-width Inv-loop μ-loop) → let i = c .before .before .before .before .before .before in
+    let l = i .before .loop in
+    let a = i .before .before .before .before .args in
+    c .width .result ≡ length (entry (a .least) (max (a .from) (l .start)) (min (a .to) (l .start + getD (a .lens .now) (l .k) 0)) (ones (getD (a .sets .now) (l .k) 0)))
+added c =
+    let g = c .before in
+    let e = g .before .before .before .later .ensures in
+    let f = g .before .before .sooner .ensures in
+    let h = g .marks-of .ensures in
+    rw (e, f, h) at (c .width .ensures)
+
+add-count : tie.Need-add-count Inv-loop μ-loop
+add-count c =
+    let i = c .before .before .before .before .before .before in
+    let l = i .before .loop in
+    let a = i .before .before .before .before .args in
+    omega (
+      arith,
+      small (i .before .before .before .before .pre) (l .inv) (omega arith),
+      added c,
+      entry-most (a .least) (max (a .from) (l .start)) (min (a .to) (l .start + getD (a .lens .now) (l .k) 0)) (ones (getD (a .sets .now) (l .k) 0)),
+    )
+
+loop-again : tie.Need-loop-again Inv-loop μ-loop
+loop-again c =
+    let i = c .before .before .before .before .before .before in
+    turn (i .before .before .before .before .pre) (i .before .loop .inv) (omega arith) (c .width .result) (added c)
+
+returns : tie.Need-returns Inv-loop μ-loop
+returns c =
+    let e : c .before .loop .k ≡ c .before .before .before .before .args .n = omega arith in
+    rw (← e) (c .before .loop .inv .place)
+
+pub need-spec : {M : Type 1} → statement M
+need-spec =
+    tie.close
+    (tie.spec
+    Inv-loop
+    μ-loop
+    loop-holds
+    (λ c. omega arith)
+    (λ c. omega arith)
+    add-end
+    (λ c κs. search needs)
+    (λ c κs. search needs)
+    (λ c. omega arith)
+    (λ c. omega arith)
+    (λ c κs. search needs)
+    (λ c κs. search needs)
+    add-count
+    (λ c. omega arith)
+    (λ c. omega arith)
+    loop-again
+    returns)

@@ -1,0 +1,52 @@
+-- `scan::holds` meets its contract, variant by variant.
+use Prim.Native.Nat.{_<_, _^_}
+use mathlib.Core.Path.{ap}
+use mathlib.Core.Bool.{not}
+use native.Mathlib.Omega.{arith}
+use borrow.Author.Needs.{needs}
+use lib.Bits.{bitAnd, and-le-l}
+use Rattle.runs.specs.Scan.{passes}
+use Rattle.runs.proofs.ScanLaws.{some-bit, no-bit, top-in-is}
+use Rattle.runs.proofs.scan.holds.Statement.{statement}
+use Rattle.runs.proofs.scan.holds.Tie as tie
+use Rattle.runs.proofs.scan.holds.Reads as reads
+use Rattle.runs.proofs.scan.holds.Lts as lts
+use Rattle.styles.proofs.bits.top_in.Reads as top-in-reads
+
+returns : tie.Need-returns
+unfolding passes
+returns c =
+    let g = c .before .test .given in
+    rw (g .1) (some-bit (bitAnd (c .before .before .before .args .set) (g .0 .0)))
+
+returns-2 : tie.Need-returns-2
+unfolding passes
+returns-2 c =
+    let g = c .before .test2 .given in
+    rw (g .1) (no-bit (bitAnd (c .before .before .before .args .set) (g .0 .0)))
+
+returns-3 : tie.Need-returns-3
+unfolding passes
+returns-3 c =
+    let g = c .before .before .test3 .given in
+    let s = c .before .before .before .before .args .set in
+    let small : bitAnd s (g .0 .0) < 2 ^ 64 = omega (arith, and-le-l s (g .0 .0)) in
+    rw (g .1) (ap not (top-in-is 64 _ _ _ small (c .top-in .ensures)))
+
+returns-4 : tie.Need-returns-4
+unfolding passes
+returns-4 c = rw (c .before .test4 .given .1)
+
+pub holds-spec : {M : Type 1} → statement M
+holds-spec =
+    tie.close
+    (tie.spec
+    (λ c. search needs)
+    (λ c. search needs)
+    (λ c. search needs)
+    (λ c κs. search needs)
+    (λ c. search needs)
+    returns
+    returns-2
+    returns-3
+    returns-4)

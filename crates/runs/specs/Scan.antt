@@ -1,0 +1,66 @@
+-- Questions over a range of positions, each by position, and the tests of a set that they ask.
+use Prim.Native.Nat.{ℕ, zero, suc, _≤_, _<_, _^_}
+use mathlib.Core.Bool.{Bool, true, false, cond, not, _&&_, _||_}
+use mathlib.Core.List.{List}
+use lib.Dec.{ltb, leb, eqb}
+use lib.Bits.{bitAnd}
+use lib.ListN.{length}
+use Rattle.styles.specs.Bits.{hasBit}
+use Rattle.runs.specs.Runs.{Run, runs, total, setAt}
+use Rattle.runs.specs.declared.scan.Test.{Test}
+use Rattle.runs.specs.declared.scan.Test.the-variants.{Meets, Misses, Hides, Differs}
+
+-- some position of from .. to passes the test
+unfoldable pub anyAt : (ℕ → Bool) → ℕ → ℕ → Bool
+anyAt test from zero = false
+anyAt test from (suc p) = anyAt test from p || (leb from p && test p)
+
+-- every position of from .. to passes the test
+unfoldable pub allAt : (ℕ → Bool) → ℕ → ℕ → Bool
+allAt test from zero = true
+allAt test from (suc p) = allAt test from p && (ltb p from || test p)
+
+-- the first position of the longest stretch of positions that ends just before `end` and passes the test; `end` where there is none
+unfoldable pub stretchTo : (ℕ → Bool) → ℕ → ℕ
+stretchTo test zero = zero
+stretchTo test (suc p) = cond (test p) (stretchTo test p) (suc p)
+
+-- the set has a bit of the mask
+abbrev pub meets : ℕ → ℕ → Bool
+meets mask s = ltb 0 (bitAnd s mask)
+
+-- of the bits below k, from the highest down, the first that u has is one of v's; no where u has none
+unfoldable pub topIn : ℕ → ℕ → ℕ → Bool
+topIn zero u v = false
+topIn (suc k) u v = cond (hasBit k u) (hasBit k v) (topIn k u v)
+
+-- the highest bit that the set has of `first` is one of `second`
+abbrev pub shows : ℕ → ℕ → ℕ → Bool
+shows first second s = topIn 64 (bitAnd s first) second
+
+-- what a scan looks for
+unfoldable pub passes : Test → ℕ → Bool
+passes (Meets mask) s = meets mask s
+passes (Misses mask) s = not (meets mask s)
+passes (Hides first second) s = not (shows first second s)
+passes (Differs other) s = not (eqb s other)
+
+-- what the positions pos - 1 and pos have in common; nothing at the start
+unfoldable pub commonAt : List Run → ℕ → ℕ
+commonAt rs zero = 0
+commonAt rs (suc p) = bitAnd (setAt rs p) (setAt rs (suc p))
+
+-- where the stretch begins that was walked from `from` to `start`, after the positions start .. upto, whose set has `here` of the mask
+unfoldable pub walked : ℕ → ℕ → ℕ → ℕ → ℕ
+walked from start upto here = cond (leb upto start) from (cond (ltb 0 here) from upto)
+
+-- what a look at the first n runs asks
+pub record CanLook (lens sets : List ℕ) (n : ℕ) : Type 0 where
+  pub lens-n : n ≤ length lens
+  pub sets-n : n ≤ length sets
+  pub small : total (runs lens sets n) < 2 ^ 63
+
+-- what a scan of the first n runs up to position `to` asks
+pub record CanScan (lens sets : List ℕ) (n to : ℕ) : Type 0 where
+  pub look : CanLook lens sets n
+  pub reach : to ≤ total (runs lens sets n)

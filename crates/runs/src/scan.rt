@@ -1,0 +1,140 @@
+// Questions over a range of positions. Each costs a walk over the runs, whatever their lengths.
+
+ghost use mathlib.Core.Path.{_≡_};
+ghost use mathlib.Core.Bool.{_&&_};
+ghost use Prim.Native.Nat.{_+_, _<_};
+ghost use lib.Dec.{ltb, eqb};
+ghost use Rattle.runs.specs.Runs.{runs, setAt};
+ghost use Rattle.runs.specs.Scan.{anyAt, allAt, stretchTo, meets, shows, passes, commonAt, walked, CanScan, CanLook};
+use super::clip;
+use super::set_at;
+use super::sooner;
+
+// What a scan looks for in a set: a bit of a mask; none of it; that the highest bit of a first mask is not in a second; another set.
+enum Test {
+    Meets(u64),
+    Misses(u64),
+    Hides(u64, u64),
+    Differs(u64),
+}
+
+fn holds(test: Test, set: u64) -> bool
+    ensures { λ r. ⌜ r ≡ passes test set ⌝ }
+{
+    match test {
+        Test::Meets(mask) => set & mask != 0,
+        Test::Misses(mask) => set & mask == 0,
+        Test::Hides(first, second) => !styles::bits::top_in(set, first, second),
+        Test::Differs(other) => set != other,
+    }
+}
+
+// Whether a run of which `len` positions are asked has one that passes.
+fn here(len: u64, test: Test, set: u64) -> bool
+    ensures { λ r. ⌜ r ≡ (ltb 0 len && passes test set) ⌝ }
+{
+    if len == 0 {
+        return false;
+    }
+    holds(test, set)
+}
+
+// Whether some position of from .. to passes the test.
+fn some_in(lens: &[u64], sets: &[u64], n: usize, from: u64, to: u64, test: Test) -> bool
+    requires { ⌜ CanScan (now lens) (now sets) n to ⌝ }
+    ensures { λ r. ⌜ r ≡ anyAt (λ p. passes test (setAt (runs (now (lens .entry)) (now (sets .entry)) n) p)) from to ⌝ }
+{
+    let mut k = 0;
+    let mut start: u64 = 0;
+    while k < n {
+        let end = start + lens[k];
+        let len = clip(from, to, start, end);
+        if here(len, test, sets[k]) {
+            return true;
+        }
+        start = end;
+        k += 1;
+    }
+    false
+}
+
+// Whether some position of from .. to has a bit of the mask.
+pub fn any_in(lens: &[u64], sets: &[u64], n: usize, from: u64, to: u64, mask: u64) -> bool
+    requires { ⌜ CanScan (now lens) (now sets) n to ⌝ }
+    ensures { λ r. ⌜ r ≡ anyAt (λ p. meets mask (setAt (runs (now (lens .entry)) (now (sets .entry)) n) p)) from to ⌝ }
+{
+    some_in(lens, sets, n, from, to, Test::Meets(mask))
+}
+
+// Whether every position of from .. to has a bit of the mask.
+pub fn all_in(lens: &[u64], sets: &[u64], n: usize, from: u64, to: u64, mask: u64) -> bool
+    requires { ⌜ CanScan (now lens) (now sets) n to ⌝ }
+    ensures { λ r. ⌜ r ≡ allAt (λ p. meets mask (setAt (runs (now (lens .entry)) (now (sets .entry)) n) p)) from to ⌝ }
+{
+    !some_in(lens, sets, n, from, to, Test::Misses(mask))
+}
+
+// Whether at every position of from .. to the highest bit of `first` is one of `second`.
+pub fn all_show(
+    lens: &[u64],
+    sets: &[u64],
+    n: usize,
+    from: u64,
+    to: u64,
+    first: u64,
+    second: u64,
+) -> bool
+    requires { ⌜ CanScan (now lens) (now sets) n to ⌝ }
+    ensures { λ r. ⌜ r ≡ allAt (λ p. shows first second (setAt (runs (now (lens .entry)) (now (sets .entry)) n) p)) from to ⌝ }
+{
+    !some_in(lens, sets, n, from, to, Test::Hides(first, second))
+}
+
+// Whether all positions of from .. to have the set that `from` has.
+pub fn same_in(lens: &[u64], sets: &[u64], n: usize, from: u64, to: u64) -> bool
+    requires { ⌜ CanScan (now lens) (now sets) n to ⌝ }
+    ensures { λ r. ⌜ r ≡ allAt (λ p. eqb (setAt (runs (now (lens .entry)) (now (sets .entry)) n) p) (setAt (runs (now (lens .entry)) (now (sets .entry)) n) from)) from to ⌝ }
+{
+    let first = set_at(lens, sets, n, from);
+    !some_in(lens, sets, n, from, to, Test::Differs(first))
+}
+
+// Where the stretch that has been walked to `start` begins, after a run more, which is asked up to `upto` and has `here` of the mask.
+fn walk(from: u64, start: u64, upto: u64, here: u64) -> u64
+    ensures { λ r. ⌜ r ≡ walked from start upto here ⌝ }
+{
+    if upto <= start {
+        return from;
+    }
+    if 0 < here { from } else { upto }
+}
+
+// The first position of the stretch that ends at `last` and has a bit of the mask throughout, or last + 1.
+pub fn back(lens: &[u64], sets: &[u64], n: usize, mask: u64, last: u64) -> u64
+    requires { ⌜ CanScan (now lens) (now sets) n (last + 1) ⌝ }
+    ensures { λ r. ⌜ r ≡ stretchTo (λ p. meets mask (setAt (runs (now (lens .entry)) (now (sets .entry)) n) p)) (last + 1) ⌝ }
+{
+    let mut i = 0;
+    let mut start: u64 = 0;
+    let mut from: u64 = 0;
+    while i < n {
+        let end = start + lens[i];
+        from = walk(from, start, sooner(end, last + 1), sets[i] & mask);
+        start = end;
+        i += 1;
+    }
+    from
+}
+
+// What the positions pos - 1 and pos have in common: what positions put in between them get. Nothing at either end.
+pub fn common_at(lens: &[u64], sets: &[u64], n: usize, pos: u64) -> u64
+    requires { ⌜ CanLook (now lens) (now sets) n ⌝ }
+    ensures { λ r. ⌜ r ≡ commonAt (runs (now (lens .entry)) (now (sets .entry)) n) pos ⌝ }
+{
+    if pos == 0 {
+        return 0;
+    }
+    let before = set_at(lens, sets, n, pos - 1);
+    let after = set_at(lens, sets, n, pos);
+    before & after
+}

@@ -1,0 +1,63 @@
+-- A set as an answer: it tells the marks and their order, and a rank finds each of them.
+use Prim.Native.Nat.{ℕ, zero, suc, _+_, _-_, _≤_, _<_}
+use mathlib.Core.Path.{_≡_, refl, sym, ap, _∙_}
+use mathlib.Core.List.{List, [], _∷_, _++_}
+use native.Mathlib.Omega.{arith}
+use native.Mathlib.Numerals.{add-one}
+use lib.ListN.{length, take, drop, getD, set, replicate, length-take}
+use lib.Seq.{take-at, take-all}
+use Rattle.styles.specs.declared.Mark.{Mark}
+use Rattle.styles.specs.declared.Ranked.the-variants.{Nothing, Found}
+use Rattle.styles.specs.declared.Styles.{Styles}
+use Rattle.styles.specs.Marks.{blank}
+use Rattle.styles.specs.Answers.{stylesOf, rankOf}
+use Rattle.styles.proofs.WalkLaws.{keep-turn}
+
+-- the answer determines the set and its order
+pub styles-inj : (a b : List Mark) → stylesOf a ≡ stylesOf b → a ≡ b
+styles-inj a b e =
+    let n : length a ≡ length b = omega (arith, ap (λ (s : Styles). s .count) e) in
+    let m : a ++ replicate (64 - length a) blank ≡ b ++ replicate (64 - length b) blank = ap (λ (s : Styles). s .marks) e in
+    sym (take-at a (replicate (64 - length a) blank) (length a) refl)
+    ∙ ap (take (length a)) m
+    ∙ take-at b (replicate (64 - length b) blank) (length a) (sym n)
+
+-- ---- by rank
+pub rank-here : (l : List Mark) (j : ℕ) (d : Mark) → j < length l → rankOf l j ≡ Found (getD l j d)
+unfolding rankOf
+rank-here [] j d h = absurd (omega arith)
+rank-here (m ∷ ms) zero d h = refl
+rank-here (m ∷ ms) (suc j) d h = rank-here ms j d (omega arith)
+
+pub rank-past : (l : List Mark) (j : ℕ) → length l ≤ j → rankOf l j ≡ Nothing
+unfolding rankOf
+rank-past [] j h = refl
+rank-past (m ∷ ms) zero h = absurd (omega arith)
+rank-past (m ∷ ms) (suc j) h = rank-past ms j (omega arith)
+
+-- ---- a turn of the walk over a set
+next-mark : (l : List Mark) (w : ℕ) (x : Mark) (rest : List Mark) → drop w l ≡ x ∷ rest → (take (suc w) l ≡ take w l ++ x ∷ []) × (drop (suc w) l ≡ rest)
+next-mark [] zero x rest e = (cc, cc)
+next-mark [] (suc w) x rest e = (cc, cc)
+next-mark (m ∷ ms) zero x rest e = (ap (λ (y : List Mark). take 1 y) e, ap (drop 1) e)
+next-mark (m ∷ ms) (suc w) x rest e =
+    let p = next-mark ms w x rest e in
+    (ap (_∷_ m) (p .0), p .1)
+
+module _ (l : List Mark) (w : ℕ) (x : Mark) (rest : List Mark) (here : drop w l ≡ x ∷ rest) (room : w < 64) (held : w < length l) where
+  pub walk-rest : drop (w + 1) l ≡ rest
+  walk-rest = rw (add-one w) (next-mark l w x rest here .1)
+
+  pub walk-front : set (take w l ++ replicate (64 - w) blank) w x ≡ take (w + 1) l ++ replicate (64 - (w + 1)) blank
+  walk-front =
+      let e : take (w + 1) l ≡ take w l ++ x ∷ [] = rw (add-one w) (next-mark l w x rest here .0) in
+      keep-turn (take w l) x w (omega (arith, length-take w l)) room
+      ∙ ap (λ (y : List Mark). y ++ replicate (64 - (w + 1)) blank) (sym e)
+
+-- the end of the walk
+pub walk-end : (l marks : List Mark) (w : ℕ) → w ≡ length l → marks ≡ take w l ++ replicate (64 - w) blank → _≡_ {A = Styles} (record { count = w; marks = marks }) (stylesOf l)
+walk-end l marks w e f =
+    let g : marks ≡ l ++ replicate (64 - length l) blank =
+    f ∙ ap (λ (y : List Mark). y ++ replicate (64 - w) blank) (take-all w l (omega arith)) ∙ ap (λ (n : ℕ). l ++ replicate (64 - n) blank) e
+    in
+    λ i. record { count = e i; marks = g i }

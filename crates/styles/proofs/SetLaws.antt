@@ -1,0 +1,239 @@
+-- The operations on sets are what their names say: they keep sets sorted, carry what they should, and the winner is the greatest.
+use Prim.Native.Nat.{ℕ, zero, suc, _<_}
+use mathlib.Core.Path.{_≡_, refl, sym, ap, _∙_}
+use mathlib.Core.Bool.{Bool, true, false, cond, false≢true, true≢false}
+use mathlib.Core.List.{List, [], _∷_}
+use native.Mathlib.Omega.{arith}
+use lib.Dec.{eqb}
+use lib.ListN.{length, getD}
+use borrow.Author.Tests.{eqb-true, eqb-false}
+use Rattle.styles.specs.declared.Identity.{Identity}
+use Rattle.styles.specs.declared.Mark.{Mark}
+use Rattle.styles.specs.declared.Stand.{Stand}
+use Rattle.styles.specs.declared.Stand.the-variants.{Before, Same, After}
+use Rattle.styles.specs.declared.Winner.{Winner}
+use Rattle.styles.specs.declared.Winner.the-variants.{Nothing, Shows}
+use Rattle.styles.specs.Order.{stands, idOf, isBefore, less, sameId}
+use Rattle.styles.specs.Marks.{Above, Sorted, member, insertStep, insertMark, removeMark, common, later, better, winner}
+use Rattle.styles.proofs.OrderLaws.{num-same, is-before-of, is-same-of, less-trans, less-flip, more-flip, same-eq, same-self}
+use Rattle.styles.proofs.PickLaws.{above-trans}
+use Rattle.styles.proofs.UnionLaws.{above-insert}
+
+-- ---- sets stay sorted
+sorted-step : (s : Stand) (m x : Mark) (xs rest : List Mark) → stands (idOf m) (idOf x) ≡ s → Sorted (x ∷ xs) → (s ≡ After → Above (idOf x) rest) → Sorted rest
+    → Sorted (insertStep s m x xs rest)
+unfolding Sorted Above
+sorted-step Before m x xs rest e h k l = ((e, above-trans (idOf m) (idOf x) xs e (h .0)), h)
+sorted-step Same m x xs rest e h k l = h
+sorted-step After m x xs rest e h k l = (k refl, l)
+
+pub sorted-insert : (m : Mark) (l : List Mark) → Sorted l → Sorted (insertMark m l)
+unfolding Sorted Above insertMark
+sorted-insert m [] h = (tt, tt)
+sorted-insert m (x ∷ xs) h =
+    sorted-step (stands (idOf m) (idOf x)) m x xs (insertMark m xs) refl h
+    (λ e. above-insert (idOf x) m xs (more-flip (idOf m) (idOf x) e) (h .0))
+    (sorted-insert m xs (h .1))
+
+above-less : (a : Bool) (i : Identity) (x : Mark) (xs : List Mark) → stands i (idOf x) ≡ Before → Above i xs → Above i (cond a xs (x ∷ xs))
+unfolding Above
+above-less true i x xs h k = k
+above-less false i x xs h k = (h, k)
+
+sorted-less : (a : Bool) (x : Mark) (xs : List Mark) → Above (idOf x) xs → Sorted xs → Sorted (cond a xs (x ∷ xs))
+unfolding Sorted
+sorted-less true x xs h k = k
+sorted-less false x xs h k = (h, k)
+
+above-remove : (j i : Identity) (l : List Mark) → Above j l → Above j (removeMark i l)
+unfolding Above removeMark
+above-remove j i [] h = tt
+above-remove j i (x ∷ xs) h = above-less (sameId i (idOf x)) j x (removeMark i xs) (h .0) (above-remove j i xs (h .1))
+
+pub sorted-remove : (i : Identity) (l : List Mark) → Sorted l → Sorted (removeMark i l)
+unfolding Sorted removeMark
+sorted-remove i [] h = tt
+sorted-remove i (x ∷ xs) h = sorted-less (sameId i (idOf x)) x (removeMark i xs) (above-remove (idOf x) i xs (h .0)) (sorted-remove i xs (h .1))
+
+above-more : (a : Bool) (i : Identity) (x : Mark) (xs : List Mark) → stands i (idOf x) ≡ Before → Above i xs → Above i (cond a (x ∷ xs) xs)
+unfolding Above
+above-more true i x xs h k = (h, k)
+above-more false i x xs h k = k
+
+sorted-more : (a : Bool) (x : Mark) (xs : List Mark) → Above (idOf x) xs → Sorted xs → Sorted (cond a (x ∷ xs) xs)
+unfolding Sorted
+sorted-more true x xs h k = (h, k)
+sorted-more false x xs h k = k
+
+above-common : (j : Identity) (a b : List Mark) → Above j a → Above j (common a b)
+unfolding Above common
+above-common j [] b h = tt
+above-common j (x ∷ xs) b h = above-more (member (idOf x) b) j x (common xs b) (h .0) (above-common j xs b (h .1))
+
+pub sorted-common : (a b : List Mark) → Sorted a → Sorted (common a b)
+unfolding Sorted common
+sorted-common [] b h = tt
+sorted-common (x ∷ xs) b h = sorted-more (member (idOf x) b) x (common xs b) (above-common (idOf x) xs b (h .0)) (sorted-common xs b (h .1))
+
+-- ---- what they carry
+swap : (a b c : Bool) → cond a true (cond b true c) ≡ cond b true (cond a true c)
+swap true true c = refl
+swap true false c = refl
+swap false true c = refl
+swap false false c = refl
+
+again : (a c : Bool) → cond a true c ≡ cond a true (cond a true c)
+again true c = refl
+again false c = refl
+
+carries-step : (s : Stand) (j : Identity) (m x : Mark) (xs rest : List Mark) → stands (idOf m) (idOf x) ≡ s → member j rest ≡ cond (sameId j (idOf m)) true (member j xs)
+    → member j (insertStep s m x xs rest) ≡ cond (sameId j (idOf m)) true (member j (x ∷ xs))
+unfolding member
+carries-step Before j m x xs rest e h = refl
+carries-step Same j m x xs rest e h =
+    again (sameId j (idOf x)) (member j xs)
+    ∙ ap (λ (i : Identity). cond (sameId j i) true (cond (sameId j (idOf x)) true (member j xs))) (sym (same-eq (idOf m) (idOf x) e))
+carries-step After j m x xs rest e h = ap (cond (sameId j (idOf x)) true) h ∙ swap (sameId j (idOf x)) (sameId j (idOf m)) (member j xs)
+
+-- with one mark more: that identity, and what it carried
+pub member-insert : (j : Identity) (m : Mark) (l : List Mark) → member j (insertMark m l) ≡ cond (sameId j (idOf m)) true (member j l)
+unfolding member insertMark
+member-insert j m [] = refl
+member-insert j m (x ∷ xs) = carries-step (stands (idOf m) (idOf x)) j m x xs (insertMark m xs) refl (member-insert j m xs)
+
+-- what is said of one of two identities that are the same is said of the other
+same-to : (i j k : Identity) → sameId i j ≡ true → sameId k i ≡ sameId k j
+same-to i j k e = ap (sameId k) (same-eq i j (is-same-of (stands i j) e))
+
+same-from : (i j k : Identity) → sameId i j ≡ true → sameId i k ≡ sameId j k
+same-from i j k e = ap (λ (x : Identity). sameId x k) (same-eq i j (is-same-of (stands i j) e))
+
+same-in : (i j : Identity) (l : List Mark) → sameId i j ≡ true → member i l ≡ member j l
+same-in i j l e = ap (λ (x : Identity). member x l) (same-eq i j (is-same-of (stands i j) e))
+
+none-either : (a : Bool) → false ≡ cond a false false
+none-either true = refl
+none-either false = refl
+
+less-step : (a : Bool) (i j : Identity) (x : Mark) (xs rest : List Mark) → sameId i (idOf x) ≡ a → member j rest ≡ cond (sameId j i) false (member j xs)
+    → member j (cond a rest (x ∷ rest)) ≡ cond (sameId j i) false (member j (x ∷ xs))
+unfolding member
+less-step true i j x xs rest e h = h ∙ gone (sameId j i) (sameId j (idOf x)) (member j xs) (same-to i (idOf x) j e)
+  where
+    gone : (a b c : Bool) → a ≡ b → cond a false c ≡ cond a false (cond b true c)
+    gone true b c p = refl
+    gone false true c p = absurd (false≢true p)
+    gone false false c p = refl
+less-step false i j x xs rest e h =
+    kept (sameId j i) (sameId j (idOf x)) (member j xs) (member j rest) (λ p q. true≢false (sym q ∙ same-from j i (idOf x) p ∙ e)) h
+  where
+    kept : (a b c r : Bool) → (a ≡ true → b ≡ true → ⊥) → r ≡ cond a false c → cond b true r ≡ cond a false (cond b true c)
+    kept true true c r f p = absurd (f refl refl)
+    kept true false c r f p = p
+    kept false true c r f p = refl
+    kept false false c r f p = p
+
+-- without an identity: all that it carried but that
+pub member-remove : (j i : Identity) (l : List Mark) → member j (removeMark i l) ≡ cond (sameId j i) false (member j l)
+unfolding member removeMark
+member-remove j i [] = none-either (sameId j i)
+member-remove j i (x ∷ xs) = less-step (sameId i (idOf x)) i j x xs (removeMark i xs) refl (member-remove j i xs)
+
+keep-both : (s p q r : Bool) → (s ≡ true → p ≡ true) → r ≡ cond p q false → cond s true r ≡ cond p (cond s true q) false
+keep-both true true q r f h = refl
+keep-both true false q r f h = absurd (false≢true (f refl))
+keep-both false p q r f h = h
+
+drop-both : (s p q r : Bool) → (s ≡ true → p ≡ false) → r ≡ cond p q false → r ≡ cond p (cond s true q) false
+drop-both true true q r f h = absurd (true≢false (f refl))
+drop-both true false q r f h = h
+drop-both false p q r f h = h
+
+both-step : (c : Bool) (j : Identity) (x : Mark) (xs rest b : List Mark) → member (idOf x) b ≡ c → member j rest ≡ cond (member j b) (member j xs) false
+    → member j (cond c (x ∷ rest) rest) ≡ cond (member j b) (member j (x ∷ xs)) false
+unfolding member
+both-step true j x xs rest b e h = keep-both (sameId j (idOf x)) (member j b) (member j xs) (member j rest) (λ p. same-in j (idOf x) b p ∙ e) h
+both-step false j x xs rest b e h = drop-both (sameId j (idOf x)) (member j b) (member j xs) (member j rest) (λ p. same-in j (idOf x) b p ∙ e) h
+
+-- in common: what both carry
+pub member-common : (j : Identity) (a b : List Mark) → member j (common a b) ≡ cond (member j b) (member j a) false
+unfolding member common
+member-common j [] b = none-either (member j b)
+member-common j (x ∷ xs) b = both-step (member (idOf x) b) j x xs (common xs b) b refl (member-common j xs b)
+
+-- ---- the winner
+-- for marks of one key, later is the order of identities
+later-is : (a b : Mark) → a .key ≡ b .key → later a b ≡ less (idOf a) (idOf b)
+unfolding stands
+later-is a b e = rw (num-same (a .key) (b .key) e)
+
+not-less : (s t : Stand) (a b c : Identity) → stands a b ≡ s → stands a c ≡ t → isBefore s ≡ false → less b c ≡ false → isBefore t ≡ false
+not-less Before t a b c e f h k = absurd (true≢false h)
+not-less Same t a b c e f h k = ap isBefore (sym f) ∙ ap (λ (x : Identity). less x c) (same-eq a b e) ∙ k
+not-less After Before a b c e f h k = sym (ap isBefore (less-trans b a c (more-flip a b e) f)) ∙ k
+not-less After Same a b c e f h k = refl
+not-less After After a b c e f h k = refl
+
+-- the best of a set for a key: a mark with the key than which no mark with the key is later, or nothing where no mark has it
+unfoldable pub Best : ℕ → List Mark → Winner → Type 0
+Best k l Nothing = (i : ℕ) (d : Mark) → i < length l → getD l i d .key ≡ k → ⊥
+Best k l (Shows w) = (w .key ≡ k) × ((i : ℕ) (d : Mark) → i < length l → getD l i d .key ≡ k → later w (getD l i d) ≡ false)
+
+not-self : (m : Mark) → later m m ≡ false
+not-self m = later-is m m refl ∙ ap isBefore (same-self (idOf m))
+
+best-other : (k : ℕ) (x : Mark) (xs : List Mark) (v : Winner) → eqb (x .key) k ≡ false → Best k xs v → Best k (x ∷ xs) v
+unfolding Best
+best-other k x xs Nothing e h = other
+  where
+    other : (i : ℕ) (d : Mark) → i < suc (length xs) → getD (x ∷ xs) i d .key ≡ k → ⊥
+    other zero d l f = eqb-false (x .key) k e f
+    other (suc i) d l f = h i d (omega arith) f
+best-other k x xs (Shows w) e h = (h .0, other)
+  where
+    other : (i : ℕ) (d : Mark) → i < suc (length xs) → getD (x ∷ xs) i d .key ≡ k → later w (getD (x ∷ xs) i d) ≡ false
+    other zero d l f = absurd (eqb-false (x .key) k e f)
+    other (suc i) d l f = h .1 i d (omega arith) f
+
+best-two : (b : Bool) (k : ℕ) (x y : Mark) (xs : List Mark) → x .key ≡ k → later x y ≡ b → Best k xs (Shows y) → Best k (x ∷ xs) (cond b (Shows y) (Shows x))
+unfolding Best
+best-two true k x y xs e f h = (h .0, behind)
+  where
+    xy : x .key ≡ y .key
+    xy = e ∙ sym (h .0)
+
+    behind : (i : ℕ) (d : Mark) → i < suc (length xs) → getD (x ∷ xs) i d .key ≡ k → later y (getD (x ∷ xs) i d) ≡ false
+    behind zero d l g = later-is y x (sym xy) ∙ ap isBefore (less-flip (idOf x) (idOf y) (is-before-of (stands (idOf x) (idOf y)) (sym (later-is x y xy) ∙ f)))
+    behind (suc i) d l g = h .1 i d (omega arith) g
+best-two false k x y xs e f h = (e, behind)
+  where
+    xy : x .key ≡ y .key
+    xy = e ∙ sym (h .0)
+
+    behind : (i : ℕ) (d : Mark) → i < suc (length xs) → getD (x ∷ xs) i d .key ≡ k → later x (getD (x ∷ xs) i d) ≡ false
+    behind zero d l g = not-self x
+    behind (suc i) d l g =
+        let z : Mark = getD xs i d in
+        later-is x z (e ∙ sym g)
+        ∙ not-less (stands (idOf x) (idOf y)) (stands (idOf x) (idOf z)) (idOf x) (idOf y) (idOf z) refl refl
+        (sym (later-is x y xy) ∙ f)
+        (sym (later-is y z (h .0 ∙ sym g)) ∙ h .1 i d (omega arith) g)
+
+best-key : (k : ℕ) (x : Mark) (xs : List Mark) (v : Winner) → x .key ≡ k → Best k xs v → Best k (x ∷ xs) (better x v)
+unfolding Best
+best-key k x xs Nothing e h = (e, alone)
+  where
+    alone : (i : ℕ) (d : Mark) → i < suc (length xs) → getD (x ∷ xs) i d .key ≡ k → later x (getD (x ∷ xs) i d) ≡ false
+    alone zero d l g = not-self x
+    alone (suc i) d l g = absurd (h i d (omega arith) g)
+best-key k x xs (Shows y) e h = best-two (later x y) k x y xs e refl h
+
+best-step : (a : Bool) (k : ℕ) (x : Mark) (xs : List Mark) (v : Winner) → eqb (x .key) k ≡ a → Best k xs v → Best k (x ∷ xs) (cond a (better x v) v)
+best-step true k x xs v e h = best-key k x xs v (eqb-true (x .key) k e) h
+best-step false k x xs v e h = best-other k x xs v e h
+
+-- the winner is the best
+pub winner-best : (k : ℕ) (l : List Mark) → Best k l (winner k l)
+unfolding Best winner
+winner-best k [] = λ i d h e. absurd (omega arith)
+winner-best k (x ∷ xs) = best-step (eqb (x .key) k) k x xs (winner k xs) refl (winner-best k xs)

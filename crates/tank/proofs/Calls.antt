@@ -1,0 +1,70 @@
+-- What a call hands back, for every edit at once: the number by its tests, the very same tank where it is refused, and one result.
+use Prim.Native.Nat.{ℕ, suc, _-_}
+use mathlib.Core.Path.{_≡_, sym, _∙_}
+use mathlib.Core.Bool.{true, false}
+use native.Mathlib.Omega.{arith}
+use lib.Dec.{eqb}
+use borrow.Author.Tests.{ne-eqb}
+use Rattle.tank.specs.declared.Tank.{Tank}
+use Rattle.tank.specs.Rules.{View, Edit, after, empty, over, long, notNumber, clashes, full, refusal}
+use Rattle.tank.specs.State.{view, Formed, Sound, Called}
+use Rattle.tank.proofs.Unique.{same-tank}
+
+-- ---- the number of the first test that holds
+module _ (e : Edit) (v : View) where
+  pub number-3 : empty e ≡ true → refusal e v ≡ 3
+  unfolding refusal
+  number-3 a = simp a
+
+  module _ (a : empty e ≡ false) where
+    pub number-4 : over e v ≡ true → refusal e v ≡ 4
+    unfolding refusal
+    number-4 b = simp (a, b)
+
+    module _ (b : over e v ≡ false) where
+      pub number-5 : long e v ≡ true → refusal e v ≡ 5
+      unfolding refusal
+      number-5 c = simp (a, b, c)
+
+      module _ (c : long e v ≡ false) where
+        pub number-6 : notNumber e ≡ true → refusal e v ≡ 6
+        unfolding refusal
+        number-6 d = simp (a, b, c, d)
+
+        module _ (d : notNumber e ≡ false) where
+          pub number-7 : clashes e v ≡ true → refusal e v ≡ 7
+          unfolding refusal
+          number-7 f = simp (a, b, c, d, f)
+
+          module _ (f : clashes e v ≡ false) where
+            pub number-8 : full e v ≡ true → refusal e v ≡ 8
+            unfolding refusal
+            number-8 g = simp (a, b, c, d, f, g)
+
+            pub number-0 : full e v ≡ false → refusal e v ≡ 0
+            unfolding refusal
+            number-0 g = simp (a, b, c, d, f, g)
+
+module _ {e : Edit} {t : Tank} where
+  -- a refused call
+  pub refused : Sound t → (n : ℕ) → refusal e (view t) ≡ suc n → Called e t (suc n) t
+  refused s n r =
+      let z : eqb (refusal e (view t)) 0 ≡ false = ne-eqb (refusal e (view t)) 0 (λ q. omega arith) in
+      record { number-is = sym r; formed = s .formed; is = simp z }
+
+  -- an edit that is made
+  pub made : {u : Tank} → refusal e (view t) ≡ 0 → Formed u → view u ≡ after e (view t) → Called e t 0 u
+  made r f q = record { number-is = sym r; formed = f; is = simp r q }
+
+  -- any two results are equal
+  pub one-number : {n m : ℕ} {u w : Tank} → Called e t n u → Called e t m w → n ≡ m
+  one-number c d = c .number-is ∙ sym (d .number-is)
+
+  pub one-tank : {n m : ℕ} {u w : Tank} → Called e t n u → Called e t m w → u ≡ w
+  one-tank c d = same-tank (c .formed) (d .formed) (c .is ∙ sym (d .is))
+
+  -- a refused call hands the very same tank back
+  pub refused-same : {n : ℕ} {u : Tank} → Sound t → Called e t n u → (n ≡ 0 → ⊥) → u ≡ t
+  refused-same s c h =
+      let z : eqb (refusal e (view t)) 0 ≡ false = ne-eqb (refusal e (view t)) 0 (λ q. h (c .number-is ∙ q)) in
+      same-tank (c .formed) (s .formed) (c .is ∙ simp z)

@@ -1,0 +1,52 @@
+-- Positions taken away: what `cut` asks of the run edit, and what it then means.
+use Prim.Native.Nat.{ℕ, _-_, _≤_}
+use mathlib.Core.Path.{_≡_, ap, _∙_}
+use mathlib.Core.Bool.{true}
+use mathlib.Core.List.{List}
+use native.Mathlib.Omega.{arith}
+use lib.Bits.{and-le-r}
+use lib.ListN.{length}
+use Rattle.runs.specs.Runs.{runs, total, Spare}
+use Rattle.runs.specs.Edits.{deleted, CanEdit}
+use Rattle.runs.specs.Gather.{gather}
+use Rattle.runs.proofs.Laws.{length-runs}
+use Rattle.runs.proofs.CountLaws.{deleted-runs}
+use Rattle.runs.proofs.EditLaws.{total-deleted, canon-deleted}
+use Rattle.runs.proofs.GatherLaws.{gather-deleted}
+use Rattle.tank.specs.declared.Tank.{Tank}
+use Rattle.tank.specs.Rules.{afterDelete}
+use Rattle.tank.specs.State.{runsOf, tableOf, view, Laid}
+use Rattle.tank.specs.Steps.{CanCut}
+use Rattle.tank.proofs.Shape.{can-edit, over-runs, view-touched}
+use Rattle.tank.proofs.ViewLaws.{view-deleted}
+
+module _ {t : Tank} (start end : ℕ) (h : CanCut t start end) where
+  fits : end ≤ total (runsOf t)
+  fits = let a = h .fits in let b = h .laid .sum in omega arith
+
+  pub cut-can : (olens osets : List ℕ) → length olens ≡ 514 → length osets ≡ 514
+      → CanEdit (deleted (runsOf t) start end) olens osets (t .lens) (t .sets) (t .runs) (t .length)
+  cut-can olens osets l l′ =
+      let a = h .laid .sum in
+      let b = h .laid .small in
+      can-edit (h .laid) (h .room) _ olens osets l l′ (omega (arith, deleted-runs (runsOf t) start end (h .up) fits))
+      (omega (arith, total-deleted (runsOf t) start end (h .up) fits))
+
+  pub cut-done : (lens sets : List ℕ) (n : ℕ) → runs lens sets n ≡ deleted (runsOf t) start end → Spare lens sets n
+      → length lens ≡ 514 → length sets ≡ 514
+      → let r : Tank = record { touched = true; length = t .length - (end - start); runs = n; marks = t .marks; lens = lens; sets = sets; table = t .table } in
+      (Laid r) × (view r ≡ afterDelete start end (view t))
+  cut-done lens sets n e sp l l′ =
+      let f = h .laid in
+      let a = f .sum in
+      let b = f .small in
+      let c = h .room in
+      let d = f .inside in
+      let out = deleted (runsOf t) start end in
+      let z = total-deleted (runsOf t) start end (h .up) fits in
+      let s =
+      over-runs f true lens sets n (t .length - (end - start)) out e (canon-deleted (runsOf t) start end) (omega arith) sp l l′
+      (omega (arith, deleted-runs (runsOf t) start end (h .up) fits, length-runs (t .lens) (t .sets) (t .runs))) (omega arith)
+      (omega (arith, gather-deleted (runsOf t) start end (h .up) fits, and-le-r (gather out) (gather (runsOf t))))
+      in
+      (s .laid, s .is ∙ view-deleted (runsOf t) start end (h .up) fits (tableOf t) ∙ ap (afterDelete start end) (view-touched f (h .touched)))

@@ -1,0 +1,108 @@
+-- New positions: what `grow` asks of the run edit, and what it then means.
+use Prim.Native.Nat.{ℕ, _+_, _-_, _≤_}
+use mathlib.Core.Path.{_≡_, ap, _∙_}
+use mathlib.Core.Bool.{true}
+use mathlib.Core.List.{List}
+use native.Mathlib.Omega.{arith}
+use native.Mathlib.Decide.{decLt}
+use lib.Bits.{bitAnd, and-zero-l}
+use lib.ListN.{length}
+use borrow.Author.Tests.{eq-eqb, ne-eqb}
+use Rattle.styles.specs.declared.Mark.{Mark}
+use Rattle.styles.specs.Marks.{Sorted, common}
+use Rattle.styles.specs.Bits.{pick}
+use Rattle.styles.proofs.PickLaws.{pick-both}
+use Rattle.styles.proofs.UnionLaws.{pick-none}
+use Rattle.runs.specs.Runs.{Run, runs, total, setAt, Spare}
+use Rattle.runs.specs.Edits.{inserted, CanEdit}
+use Rattle.runs.specs.Gather.{gather}
+use Rattle.runs.specs.Scan.{commonAt}
+use Rattle.runs.proofs.Laws.{length-runs}
+use Rattle.runs.proofs.CountLaws.{inserted-runs}
+use Rattle.runs.proofs.Digits.{and-digit, digit-within, within-digit}
+use Rattle.runs.proofs.EditLaws.{total-inserted, canon-inserted}
+use Rattle.runs.proofs.GatherLaws.{set-within, gather-inserted}
+use Rattle.runs.proofs.ScanLaws.{common-end, common-inside}
+use Rattle.tank.specs.declared.Tank.{Tank}
+use Rattle.tank.specs.Rules.{inherited, afterInsert}
+use Rattle.tank.specs.State.{runsOf, tableOf, viewOf, view}
+use Rattle.tank.specs.Steps.{Stepped, CanGrow}
+use Rattle.tank.proofs.Shape.{can-edit, over-runs, view-touched, stepped}
+use Rattle.tank.proofs.ViewLaws.{view-inserted}
+
+-- ---- what the neighbours of pos have in common
+module _ (rs : List Run) (pos : ℕ) (fits : pos ≤ total rs) where
+  -- it is carried
+  pub common-there : bitAnd (commonAt rs pos) (gather rs) ≡ commonAt rs pos
+  unfolding commonAt
+  common-there =
+      elim (decLt 0 pos) [
+        | yes h ↦
+            elim (decLt pos (total rs)) [
+              | yes k ↦
+                  let x = setAt rs (pos - 1) in
+                  let y = setAt rs pos in
+                  let e = common-inside rs pos (λ q. omega arith) in
+                  rw e
+                  (digit-within (bitAnd x y) (gather rs)
+                  (λ i. omega (arith, and-digit x y i, within-digit y (gather rs) (set-within rs pos k) i)))
+              | no k ↦ let e = common-end rs pos (omega arith) in rw e (and-zero-l (gather rs))
+            ]
+        | no h ↦ let e : pos ≡ 0 = omega arith in rw e (and-zero-l (gather rs))
+      ]
+
+  -- and its marks are the inherited ones
+  pub common-inherited : (ms : List Mark) → Sorted ms → pick ms (commonAt rs pos) ≡ inherited pos (viewOf true (total rs) ms rs)
+  unfolding inherited commonAt
+  common-inherited ms sorted =
+      elim (decLt 0 pos) [
+        | yes h ↦
+            elim (decLt pos (total rs)) [
+              | yes k ↦
+                  let e = common-inside rs pos (λ q. omega arith) in
+                  let a = ne-eqb pos 0 (λ q. omega arith) in
+                  let b = ne-eqb pos (total rs) (λ q. omega arith) in
+                  rw (e, a, b) (pick-both ms (setAt rs (pos - 1)) (setAt rs pos) sorted)
+              | no k ↦
+                  let e = common-end rs pos (omega arith) in
+                  let a = ne-eqb pos 0 (λ q. omega arith) in
+                  let b = eq-eqb pos (total rs) (omega arith) in
+                  rw (e, a, b) (pick-none ms)
+            ]
+        | no h ↦ let e : pos ≡ 0 = omega arith in rw e (pick-none ms)
+      ]
+
+module _ {t : Tank} (pos len set : ℕ) (h : CanGrow t pos len set) where
+  fits : pos ≤ total (runsOf t)
+  fits = let a = h .fits in let b = h .laid .sum in omega arith
+
+  pub grow-can : (olens osets : List ℕ) → length olens ≡ 514 → length osets ≡ 514
+      → CanEdit (inserted (runsOf t) pos len set) olens osets (t .lens) (t .sets) (t .runs) (t .length)
+  grow-can olens osets l l′ =
+      let a = h .laid .sum in
+      let b = h .small in
+      can-edit (h .laid) (h .room) _ olens osets l l′ (inserted-runs (runsOf t) pos len set fits)
+      (omega (arith, total-inserted (runsOf t) pos len set fits))
+
+  pub grow-done : (lens sets : List ℕ) (n : ℕ) → runs lens sets n ≡ inserted (runsOf t) pos len set → Spare lens sets n
+      → length lens ≡ 514 → length sets ≡ 514
+      → Stepped (afterInsert pos len (view t)) (tableOf t) (gather (runsOf t))
+      (record { touched = true; length = t .length + len; runs = n; marks = t .marks; lens = lens; sets = sets; table = t .table })
+  grow-done lens sets n e sp l l′ =
+      let f = h .laid in
+      let a = f .sum in
+      let b = h .small in
+      let c = h .room in
+      let out = inserted (runsOf t) pos len set in
+      let z = total-inserted (runsOf t) pos len set fits in
+      let g : gather out ≡ gather (runsOf t) =
+      gather-inserted (runsOf t) pos len set (f .canon) fits (rw (h .common) (common-there (runsOf t) pos fits))
+      in
+      stepped
+      (over-runs f true lens sets n (t .length + len) out e (canon-inserted (runsOf t) pos len set) (omega arith) sp l l′
+      (omega (arith, inserted-runs (runsOf t) pos len set fits, length-runs (t .lens) (t .sets) (t .runs))) (omega arith)
+      (rw g (f .inside)))
+      (view-inserted (runsOf t) pos len set fits (tableOf t)
+      (ap (pick (tableOf t)) (h .common) ∙ common-inherited (runsOf t) pos fits (tableOf t) (f .sorted))
+      ∙ ap (afterInsert pos len) (view-touched f (h .touched)))
+      g

@@ -1,0 +1,137 @@
+-- An insertion by its cases.
+use Prim.Native.Nat.{ℕ, suc, _+_, _-_, _≤_, _<_, _^_}
+use mathlib.Core.Path.{_≡_, refl, sym, ap, _∙_}
+use mathlib.Core.Bool.{true, false}
+use mathlib.Core.List.{[]}
+use native.Mathlib.Omega.{arith}
+use lib.Bits.{and-le-r}
+use lib.ListN.{length}
+use borrow.Author.Tests.{lt-ltb, le-ltb, eq-eqb, ne-eqb}
+use Rattle.styles.specs.declared.Styles.{Styles}
+use Rattle.styles.specs.Answers.{stylesOf}
+use Rattle.styles.specs.Bits.{pick}
+use Rattle.runs.specs.Runs.{runs, total}
+use Rattle.runs.specs.Gather.{gather}
+use Rattle.runs.specs.Scan.{commonAt, CanLook}
+use Rattle.tank.specs.declared.Tank.{Tank}
+use Rattle.tank.specs.declared.Inserted.{Inserted}
+use Rattle.tank.specs.Rules.{inserting, after, inherited, forInsert, afterInsert, empty, over, largest, long, notNumber, clashes, full, refusal, insertedSet}
+use Rattle.tank.specs.State.{runsOf, tableOf, view, Sound, Called}
+use Rattle.tank.specs.Steps.{Stepped, CanGrow}
+use Rattle.tank.proofs.AnnotateLaws.{formed-of}
+use Rattle.tank.proofs.Calls.{number-3, number-4, number-5, number-0, refused, made}
+use Rattle.tank.proofs.GrowLaws.{common-there, common-inherited}
+use Rattle.tank.proofs.Shape.{view-touched}
+use Rattle.tank.proofs.Unique.{table-length}
+
+-- what an insertion hands back
+abbrev pub Gives : Tank → ℕ → ℕ → Inserted → Type 0
+Gives t pos len r = (Called (inserting pos len) t (r .number) (r .tank)) × (r .styles ≡ stylesOf (insertedSet pos len (view t)))
+
+-- the tank as it was, beside a number and the empty set
+abbrev pub Kept : Tank → ℕ → Inserted → Type 0
+Kept t n r = (r .number ≡ n) × (r .styles ≡ stylesOf []) × (r .tank ≡ t)
+
+module _ {t : Tank} (s : Sound t) (pos len : ℕ) where
+  kept : {n : ℕ} {r : Inserted} → Kept t n r → Called (inserting pos len) t n t → insertedSet pos len (view t) ≡ [] → Gives t pos len r
+  kept {n} {r} g c e = (rw (g .0, g .2) c, g .1 ∙ ap stylesOf (sym e))
+
+  -- refused: the empty set
+  none-beside : (n : ℕ) → refusal (inserting pos len) (view t) ≡ suc n → insertedSet pos len (view t) ≡ []
+  none-beside n e = let z = ne-eqb (refusal (inserting pos len) (view t)) 0 (λ q. omega arith) in simp z
+
+  refused-as : (n : ℕ) {r : Inserted} → refusal (inserting pos len) (view t) ≡ suc n → Kept t (suc n) r → Gives t pos len r
+  refused-as n e g = kept g (refused s n e) (none-beside n e)
+
+  pub insert-3 : {r : Inserted} → len ≡ 0 → Kept t 3 r → Gives t pos len r
+  unfolding empty
+  insert-3 h = refused-as 2 (number-3 (inserting pos len) (view t) (eq-eqb len 0 h))
+
+  module _ (some : len ≡ 0 → ⊥) where
+    not-empty : empty (inserting pos len) ≡ false
+    unfolding empty
+    not-empty = ne-eqb len 0 some
+
+    pub insert-4 : {r : Inserted} → t .length < pos → Kept t 4 r → Gives t pos len r
+    unfolding over view
+    insert-4 h = refused-as 3 (number-4 (inserting pos len) (view t) not-empty (lt-ltb (t .length) pos h))
+
+    module _ (fits : pos ≤ t .length) where
+      inside : over (inserting pos len) (view t) ≡ false
+      unfolding over view
+      inside = le-ltb (t .length) pos fits
+
+      accepted : long (inserting pos len) (view t) ≡ false → refusal (inserting pos len) (view t) ≡ 0
+      unfolding notNumber clashes full
+      accepted l = number-0 (inserting pos len) (view t) not-empty inside l refl refl refl
+
+      -- ---- an untouched tank stays as it is
+      module _ (e : t .touched ≡ false) where
+        never-long : long (inserting pos len) (view t) ≡ false
+        unfolding long view
+        never-long = simp e
+
+        pub insert-untouched : {r : Inserted} → Kept t 0 r → Gives t pos len r
+        unfolding after afterInsert forInsert view
+        insert-untouched g =
+            let a = accepted never-long in
+            kept g (made a (s .formed) (simp e)) (simp (a, e))
+
+      module _ (e : t .touched ≡ true) where
+        pub insert-5 : {r : Inserted} → largest - t .length < len → Kept t 5 r → Gives t pos len r
+        unfolding long view
+        insert-5 h =
+            let q = lt-ltb largest (t .length + len) (omega arith) in
+            refused-as 4 (number-5 (inserting pos len) (view t) not-empty inside (simp (e, q)))
+
+        module _ (room : len ≤ largest - t .length) where
+          small : t .length + len ≤ largest
+          small = let a = s .formed .laid .small in omega arith
+
+          not-long : long (inserting pos len) (view t) ≡ false
+          unfolding long view
+          not-long = let q = le-ltb largest (t .length + len) small in simp (e, q)
+
+          pub can-look : CanLook (t .lens) (t .sets) (t .runs)
+          can-look =
+              let f = s .formed .laid in
+              let a = f .lens-514 in
+              let b = f .sets-514 in
+              let c = f .most in
+              let d = f .sum in
+              let g = f .small in
+              record { lens-n = omega arith; sets-n = omega arith; small = omega arith }
+
+          module _ (set : ℕ) (q : set ≡ commonAt (runsOf t) pos) where
+            reach : pos ≤ total (runsOf t)
+            reach = let a = s .formed .laid .sum in omega arith
+
+            pub set-inside : set < 2 ^ t .marks
+            set-inside =
+                let a = s .formed .laid .inside in
+                omega (arith, common-there (runsOf t) pos reach, and-le-r (commonAt (runsOf t) pos) (gather (runsOf t)))
+
+            pub can-grow : CanGrow t pos len set
+            can-grow =
+                let a = small in
+                record { laid = s .formed .laid; touched = e; room = s .within; fits = fits; small = omega arith; common = q }
+
+            set-is : pick (tableOf t) set ≡ insertedSet pos len (view t)
+            unfolding forInsert view
+            set-is =
+                let a = accepted not-long in
+                ap (pick (tableOf t)) q ∙ common-inherited (runsOf t) pos reach (tableOf t) (s .formed .laid .sorted)
+                ∙ ap (inherited pos) (view-touched (s .formed .laid) e) ∙ sym (simp (a, e))
+
+            still : (afterInsert pos len (view t)) .touched ≡ true
+            unfolding afterInsert view
+            still = simp e
+
+            pub insert-done : {styles : Styles} {u : Tank} → styles ≡ stylesOf (pick (tableOf t) set)
+                → Stepped (afterInsert pos len (view t)) (tableOf t) (gather (runsOf t)) u
+                → Gives t pos len (record { number = 0; styles = styles; tank = u })
+            unfolding after
+            insert-done g d = (
+              made (accepted not-long) (formed-of d still (s .formed .whole ∙ ap (λ n. 2 ^ n - 1) (sym (table-length (s .formed .laid))))) (d .is),
+              g ∙ ap stylesOf set-is,
+            )

@@ -1,0 +1,147 @@
+-- How a mark stands to a sorted table, and what each case says.
+use Prim.Native.Nat.{ℕ, suc, _<_}
+use mathlib.Core.Path.{_≡_, refl, sym, ap, _∙_}
+use mathlib.Core.Bool.{Bool, true, false, cond, not}
+use mathlib.Core.List.{List, [], _∷_}
+use native.Mathlib.Omega.{arith}
+use native.Mathlib.Decide.{decLt}
+use lib.Dec.{leb}
+use lib.ListN.{length, getD}
+use borrow.Author.Tests.{lt-ltb, le-ltb, le-leb, lt-leb}
+use Rattle.styles.specs.declared.Identity.{Identity}
+use Rattle.styles.specs.declared.Mark.{Mark}
+use Rattle.styles.specs.declared.Stand.{Stand}
+use Rattle.styles.specs.declared.Stand.the-variants.{Before, Same, After}
+use Rattle.styles.specs.Order.{idOf, stands, sameId, isBefore}
+use Rattle.styles.specs.Marks.{Sorted, Above, member, placeOf, sameContent, blank}
+use Rattle.styles.proofs.OrderLaws.{is-same-of, less-flip, more-flip, same-eq, same-self}
+use Rattle.styles.proofs.PickLaws.{above-trans, not-member}
+use Rattle.styles.proofs.StyleLaws.{mark-eq}
+use Rattle.styles.proofs.TableLaws.{member-at}
+use Rattle.styles.proofs.ValueLaws.{content-eq}
+use Rattle.tank.specs.declared.Room.the-variants.{Known, New, Clash, Full}
+use Rattle.tank.specs.Rules.{clash}
+use Rattle.tank.specs.Steps.{roomFor}
+use Rattle.tank.proofs.Shape.{no-path}
+
+-- ---- a table that has not the identity has no clash with it
+no-clash-step : (a b c d : Bool) → cond a true b ≡ false → (b ≡ false → c ≡ false) → cond a d c ≡ false
+no-clash-step true b c d e h = no-path e
+no-clash-step false b c d e h = h e
+
+pub no-clash : (m : Mark) (ms : List Mark) → member (idOf m) ms ≡ false → clash m ms ≡ false
+unfolding member clash
+no-clash m [] e = refl
+no-clash m (x ∷ xs) e = no-clash-step (sameId (idOf m) (idOf x)) (member (idOf m) xs) (clash m xs) (not (sameContent m x)) e (no-clash m xs)
+
+-- ---- an identity that the table has stands at its place
+place-there : (ms : List Mark) (id : Identity) → Sorted ms → member id ms ≡ true → (placeOf id ms < length ms) × (sameId id (idOf (getD ms (placeOf id ms) blank)) ≡ true)
+place-there ms id sorted e =
+    let q = sym (member-at id ms blank sorted) ∙ e in
+    elim (decLt (placeOf id ms) (length ms)) [
+      | yes h ↦ (h, rw (lt-ltb (placeOf id ms) (length ms) h) at q)
+      | no h ↦ no-path (sym (rw (le-ltb (placeOf id ms) (length ms) (omega arith)) at q))
+    ]
+
+pub place-in : (ms : List Mark) (id : Identity) → Sorted ms → member id ms ≡ true → placeOf id ms < length ms
+place-in ms id sorted e = place-there ms id sorted e .0
+
+pub place-id : (ms : List Mark) (id : Identity) → Sorted ms → member id ms ≡ true → idOf (getD ms (placeOf id ms) blank) ≡ id
+place-id ms id sorted e = sym (same-eq id _ (is-same-of _ (place-there ms id sorted e .1)))
+
+-- there is the one mark to clash with
+clash-step : (s : Stand) (m x : Mark) (c n r : Bool) (p : ℕ) (xs : List Mark) → stands (idOf x) (idOf m) ≡ s
+    → (member (idOf m) xs ≡ true → c ≡ not (sameContent m (getD xs p blank))) → Sorted (x ∷ xs)
+    → cond (sameId (idOf m) (idOf x)) true (member (idOf m) xs) ≡ true
+    → cond (sameId (idOf m) (idOf x)) (not (sameContent m x)) c ≡ not (sameContent m (getD (x ∷ xs) (cond (isBefore s) (suc p) 0) blank))
+unfolding Sorted Above
+clash-step Before m x c n r p xs e ih h k =
+    let g = less-flip (idOf x) (idOf m) e in
+    rw g (ih (rw g at k))
+clash-step Same m x c n r p xs e ih h k =
+    let g : stands (idOf m) (idOf x) ≡ Same = rw (same-eq (idOf x) (idOf m) e) (same-self (idOf m)) in
+    rw g
+clash-step After m x c n r p xs e ih h k =
+    let g = more-flip (idOf x) (idOf m) e in
+    no-path (sym (rw g at k) ∙ not-member (idOf m) xs (above-trans (idOf m) (idOf x) xs g (h .0)))
+
+pub clash-at : (m : Mark) (ms : List Mark) → Sorted ms → member (idOf m) ms ≡ true → clash m ms ≡ not (sameContent m (getD ms (placeOf (idOf m) ms) blank))
+unfolding Sorted member clash placeOf
+clash-at m [] h e = no-path (sym e)
+clash-at m (x ∷ xs) h e =
+    clash-step (stands (idOf x) (idOf m)) m x (clash m xs) true true (placeOf (idOf m) xs) xs refl (clash-at m xs (h .1)) h e
+
+-- ---- the cases
+module _ (m : Mark) (ms : List Mark) where
+  known-by : (a b c : Bool) (i q : ℕ) → cond a (cond b Clash (Known q)) (cond c Full (New q)) ≡ Known i → (a ≡ true) × (b ≡ false) × (i ≡ q)
+  known-by true true c i q e = (cc, cc, cc)
+  known-by true false c i q e = (refl, refl, cc)
+  known-by false b true i q e = (cc, cc, cc)
+  known-by false b false i q e = (cc, cc, cc)
+
+  new-by : (a b c : Bool) (i q : ℕ) → cond a (cond b Clash (Known q)) (cond c Full (New q)) ≡ New i → (a ≡ false) × (c ≡ false) × (i ≡ q)
+  new-by true true c i q e = (cc, cc, cc)
+  new-by true false c i q e = (cc, cc, cc)
+  new-by false b true i q e = (cc, cc, cc)
+  new-by false b false i q e = (refl, refl, cc)
+
+  clash-by : (a b c : Bool) (q : ℕ) → cond a (cond b Clash (Known q)) (cond c Full (New q)) ≡ Clash → (a ≡ true) × (b ≡ true)
+  clash-by true true c q e = (refl, refl)
+  clash-by true false c q e = (cc, cc)
+  clash-by false b true q e = (cc, cc)
+  clash-by false b false q e = (cc, cc)
+
+  full-by : (a b c : Bool) (q : ℕ) → cond a (cond b Clash (Known q)) (cond c Full (New q)) ≡ Full → (a ≡ false) × (c ≡ true)
+  full-by true true c q e = (cc, cc)
+  full-by true false c q e = (cc, cc)
+  full-by false b true q e = (refl, refl)
+  full-by false b false q e = (cc, cc)
+
+  pub room-known : {i : ℕ} → roomFor m ms ≡ Known i → (member (idOf m) ms ≡ true) × (clash m ms ≡ false) × (i ≡ placeOf (idOf m) ms)
+  unfolding roomFor
+  room-known {i} e = known-by (member (idOf m) ms) (clash m ms) (leb 64 (length ms)) i (placeOf (idOf m) ms) e
+
+  pub room-new : {i : ℕ} → roomFor m ms ≡ New i → (member (idOf m) ms ≡ false) × (leb 64 (length ms) ≡ false) × (i ≡ placeOf (idOf m) ms)
+  unfolding roomFor
+  room-new {i} e = new-by (member (idOf m) ms) (clash m ms) (leb 64 (length ms)) i (placeOf (idOf m) ms) e
+
+  pub room-clash : roomFor m ms ≡ Clash → clash m ms ≡ true
+  unfolding roomFor
+  room-clash e = clash-by (member (idOf m) ms) (clash m ms) (leb 64 (length ms)) (placeOf (idOf m) ms) e .1
+
+  pub room-full : roomFor m ms ≡ Full → (member (idOf m) ms ≡ false) × (leb 64 (length ms) ≡ true)
+  unfolding roomFor
+  room-full e = full-by (member (idOf m) ms) (clash m ms) (leb 64 (length ms)) (placeOf (idOf m) ms) e
+
+-- a mark that the table has with one content is the table's
+pub known-is : (m : Mark) (ms : List Mark) → Sorted ms → member (idOf m) ms ≡ true → clash m ms ≡ false → getD ms (placeOf (idOf m) ms) blank ≡ m
+known-is m ms sorted e c =
+    let x = getD ms (placeOf (idOf m) ms) blank in
+    let k = content-eq m x (is-true (sameContent m x) (sym (clash-at m ms sorted e) ∙ c)) in
+    sym (mark-eq m x (sym (place-id ms (idOf m) sorted e)) (k .0) (k .1))
+  where
+    is-true : (b : Bool) → not b ≡ false → b ≡ true
+    is-true true q = refl
+    is-true false q = no-path q
+
+-- ---- the answer in each case
+module _ (m : Mark) (ms : List Mark) (sorted : Sorted ms) (at : ℕ) (at-is : at ≡ placeOf (idOf m) ms) where
+  pub known-room : member (idOf m) ms ≡ true → sameContent m (getD ms at blank) ≡ true → Known at ≡ roomFor m ms
+  unfolding roomFor
+  known-room e s =
+      let c : clash m ms ≡ false = clash-at m ms sorted e ∙ ap (λ i. not (sameContent m (getD ms i blank))) (sym at-is) ∙ ap not s in
+      rw (e, c) (ap Known at-is)
+
+  pub clash-room : member (idOf m) ms ≡ true → sameContent m (getD ms at blank) ≡ false → Clash ≡ roomFor m ms
+  unfolding roomFor
+  clash-room e s =
+      let c : clash m ms ≡ true = clash-at m ms sorted e ∙ ap (λ i. not (sameContent m (getD ms i blank))) (sym at-is) ∙ ap not s in
+      rw (e, c)
+
+  pub full-room : member (idOf m) ms ≡ false → length ms ≡ 64 → Full ≡ roomFor m ms
+  unfolding roomFor
+  full-room e l = rw (e, le-leb 64 (length ms) (omega arith))
+
+  pub new-room : member (idOf m) ms ≡ false → length ms < 64 → New at ≡ roomFor m ms
+  unfolding roomFor
+  new-room e l = rw (e, lt-leb 64 (length ms) l) (ap New at-is)

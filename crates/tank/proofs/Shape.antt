@@ -1,0 +1,99 @@
+-- What a step makes is laid out as a tank should be: the arrays, the table, the bounds.
+use Prim.Native.Nat.{ℕ, zero, suc, _+_, _-_, _≤_, _<_, _^_}
+use mathlib.Core.Path.{_≡_, refl, sym, ap, _∙_, subst}
+use mathlib.Core.Bool.{Bool, true, false}
+use mathlib.Core.List.{List, [], _∷_}
+use native.Mathlib.Omega.{arith}
+use lib.Bits.{or-lt}
+use lib.Dec.{T}
+use lib.ListN.{length, getD, replicate}
+use lib.Pow.{pow-pos}
+use Rattle.styles.specs.declared.Mark.{Mark}
+use Rattle.runs.specs.Runs.{Run, runs, total, setAt, Canon, Spare}
+use Rattle.runs.specs.Edits.{CanEdit}
+use Rattle.runs.specs.Gather.{gather}
+use Rattle.runs.proofs.Laws.{at-in, at-last, length-runs}
+use Rattle.tank.specs.declared.Tank.{Tank}
+use Rattle.tank.specs.Rules.{View}
+use Rattle.tank.specs.State.{runsOf, tableOf, viewOf, view, Laid}
+use Rattle.tank.specs.Steps.{Stepped}
+
+pub no-path : {A : Type 0} → true ≡ false → A
+no-path e = absurd (subst T e tt)
+
+-- a new array is spare from its start
+zeros : (k i : ℕ) → getD {A = ℕ} (replicate k 0) i 0 ≡ 0
+zeros zero i = refl
+zeros (suc k) zero = refl
+zeros (suc k) (suc i) = zeros k i
+
+pub all-spare : (k : ℕ) → Spare (replicate k 0) (replicate k 0) 0
+unfolding Spare
+all-spare k i h = (zeros k i, zeros k i)
+
+-- where each position's set is small, all sets together are
+pub gather-small : (n : ℕ) (rs : List Run) → Canon rs → ((p : ℕ) → p < total rs → setAt rs p < 2 ^ n) → gather rs < 2 ^ n
+unfolding gather Canon total
+gather-small n [] c h = pow-pos n
+gather-small n (r ∷ rs) c h =
+    let some = c .0 in
+    or-lt n (r .set) (gather rs) (rw (at-last r rs (total rs) (omega arith) (omega arith)) at (h (total rs) (omega arith)))
+    (gather-small n rs (c .2) (λ p k. rw (at-in r rs p k) at (h p (omega arith))))
+
+module _ {t : Tank} (f : Laid t) where
+  -- what an edit asks of the tank's runs
+  pub can-edit : t .runs ≤ 512 → (out : List Run) (olens osets : List ℕ) → length olens ≡ 514 → length osets ≡ 514
+      → length out ≤ length (runsOf t) + 2 → total out < 2 ^ 63 → CanEdit out olens osets (t .lens) (t .sets) (t .runs) (t .length)
+  can-edit room out olens osets l l′ few fits =
+      let a = f .lens-514 in
+      let b = f .sets-514 in
+      record {
+        even = omega arith;
+        lens-m = omega arith;
+        sets-m = omega arith;
+        all-is = f .sum;
+        source = f .small;
+        room = omega (arith, length-runs (t .lens) (t .sets) (t .runs));
+        sum = fits;
+      }
+
+  -- the tank's table over other runs
+  module _ (b : Bool) (lens sets : List ℕ) (n len : ℕ) (rs : List Run) (e : runs lens sets n ≡ rs) (canon : Canon rs) (sum : len ≡ total rs) where
+    pub over-runs : Spare lens sets n → length lens ≡ 514 → length sets ≡ 514 → length rs ≤ 514 → total rs < 2 ^ 63 → gather rs < 2 ^ t .marks
+        → Stepped (viewOf b (total rs) (tableOf t) rs) (tableOf t) (gather rs)
+        (record { touched = b; length = len; runs = n; marks = t .marks; lens = lens; sets = sets; table = t .table })
+    unfolding view
+    over-runs sp l l′ few small inside =
+        record {
+          laid =
+              record {
+                most = omega (arith, ap length e, length-runs lens sets n);
+                canon = rw e canon;
+                sum = rw e sum;
+                small = omega arith;
+                spare = sp;
+                lens-514 = l;
+                sets-514 = l′;
+                few = f .few;
+                table-64 = f .table-64;
+                sorted = f .sorted;
+                numbers = f .numbers;
+                blanks = f .blanks;
+                inside = rw e inside;
+              };
+          is = λ i. viewOf b (sum i) (tableOf t) (e i);
+          table-is = refl;
+          all-is = ap gather e;
+        }
+
+  -- the view of a tank, over the sum of its runs
+  pub view-sum : viewOf (t .touched) (total (runsOf t)) (tableOf t) (runsOf t) ≡ view t
+  unfolding view
+  view-sum = sym (λ i. viewOf (t .touched) (f .sum i) (tableOf t) (runsOf t))
+
+  pub view-touched : t .touched ≡ true → viewOf true (total (runsOf t)) (tableOf t) (runsOf t) ≡ view t
+  view-touched e = ap (λ b. viewOf b (total (runsOf t)) (tableOf t) (runsOf t)) (sym e) ∙ view-sum
+
+-- a step put another way
+pub stepped : {u v : View} {ms : List Mark} {a b : ℕ} {r : Tank} → Stepped u ms a r → u ≡ v → a ≡ b → Stepped v ms b r
+stepped s e g = record { laid = s .laid; is = s .is ∙ e; table-is = s .table-is; all-is = s .all-is ∙ g }

@@ -1,0 +1,129 @@
+-- A mark of the table taken off a range: what `strip` asks of the run edit, and what it then means.
+use Prim.Native.Nat.{ℕ, zero, suc, _+_, _-_, _*_, _/_, _%_, _≤_, _<_, _^_}
+use mathlib.Core.Path.{_≡_, sym, ap, _∙_}
+use mathlib.Core.List.{List}
+use native.Mathlib.Omega.{arith}
+use native.Mathlib.Nat.{pow-suc, min-zero}
+use native.Mathlib.Decide.{decLt}
+use lib.Bits.{bitAnd, and-step, and-high, and-zero-r}
+use lib.Dec.{ltb}
+use lib.ListN.{length, getD}
+use lib.Pow.{pow-pos, pow-add}
+use borrow.Author.Tests.{lt-ltb, le-ltb, eq-eqb, ne-eqb}
+use Rattle.styles.specs.declared.Mark.{Mark}
+use Rattle.styles.specs.Order.{idOf}
+use Rattle.styles.specs.Marks.{Sorted, member, removeMark, blank}
+use Rattle.styles.specs.Bits.{pick, hasBit, withBit, withoutBit}
+use Rattle.styles.proofs.PickLaws.{pick-without}
+use Rattle.styles.proofs.MaskLaws.{member-pick}
+use Rattle.runs.specs.Runs.{runs, total, setAt, changing, Spare}
+use Rattle.runs.specs.Edits.{altered, CanEdit}
+use Rattle.runs.specs.Scan.{meets}
+use Rattle.runs.proofs.Laws.{length-runs}
+use Rattle.runs.proofs.CountLaws.{altered-runs}
+use Rattle.runs.proofs.EditLaws.{drop-is, total-altered, altered-in, altered-out, canon-altered}
+use Rattle.tank.specs.declared.Tank.{Tank}
+use Rattle.tank.specs.Rules.{stripped}
+use Rattle.tank.specs.State.{runsOf, tableOf, view, Laid}
+use Rattle.tank.specs.Steps.{CanStrip}
+use Rattle.tank.proofs.Counted.{at-inside}
+use Rattle.tank.proofs.LayLaws.{one-bit}
+use Rattle.tank.proofs.Shape.{can-edit, gather-small, over-runs, view-sum}
+use Rattle.tank.proofs.Unique.{table-length}
+use Rattle.tank.proofs.ViewLaws.{view-stripped}
+
+-- ---- one bit of a set
+-- taken away
+drop-bit : (i s : ℕ) → withoutBit i s + bitAnd s (2 ^ i) ≡ s
+unfolding withoutBit
+drop-bit zero s = omega (arith, and-step s 1, and-zero-r (s / 2))
+drop-bit (suc i) s =
+    let p = pow-suc 2 i in
+    let h : 2 ^ suc i / 2 ≡ 2 ^ i = omega arith in
+    let k : 2 ^ suc i % 2 ≡ 0 = omega arith in
+    omega (arith, drop-bit i (s / 2), rw (h, k, min-zero (s % 2)) at (and-step s (2 ^ suc i)))
+
+pub drops-bit : (i s : ℕ) → changing 0 (withBit i 0) s ≡ withoutBit i s
+drops-bit i s = drop-is (withBit i 0) s ∙ ap (λ b. s - bitAnd s b) (one-bit i) ∙ (omega (arith, drop-bit i s))
+
+-- tested
+pub meets-bit : (i s : ℕ) → meets (withBit i 0) s ≡ hasBit i s
+meets-bit i s =
+    let q = pow-pos i in
+    let d : 2 ^ i ≡ 2 ^ (1 + i) - 2 ^ i = omega (arith, pow-suc 2 i, pow-add 2 1 i) in
+    let e : bitAnd s (2 ^ i) ≡ s / 2 ^ i % 2 * 2 ^ i = ap (bitAnd s) d ∙ and-high s 1 i in
+    ap (λ b. ltb 0 (bitAnd s b)) (one-bit i)
+    ∙ (elim (decLt 0 (s / 2 ^ i % 2)) [
+      | yes h ↦
+          let o : s / 2 ^ i % 2 ≡ 1 = omega arith in
+          lt-ltb 0 (bitAnd s (2 ^ i)) (omega (arith, rw o at e)) ∙ sym (eq-eqb (s / 2 ^ i % 2) 1 o)
+      | no h ↦
+          let o : s / 2 ^ i % 2 ≡ 0 = omega arith in
+          le-ltb 0 (bitAnd s (2 ^ i)) (omega (arith, rw o at e)) ∙ sym (ne-eqb (s / 2 ^ i % 2) 1 (λ x. omega arith))
+    ])
+
+module _ (ms : List Mark) (i : ℕ) (sorted : Sorted ms) (there : i < length ms) where
+  -- taking bit i off a set takes mark i off its marks
+  pub drops-mark : (s : ℕ) → pick ms (changing 0 (withBit i 0) s) ≡ removeMark (idOf (getD ms i blank)) (pick ms s)
+  drops-mark s = ap (pick ms) (drops-bit i s) ∙ pick-without ms i blank s there sorted
+
+  -- a set has bit i where its marks have mark i
+  pub meets-mark : (s : ℕ) → meets (withBit i 0) s ≡ member (idOf (getD ms i blank)) (pick ms s)
+  meets-mark s = meets-bit i s ∙ sym (member-pick ms i blank s there sorted)
+
+module _ {t : Tank} (start end i : ℕ) (h : CanStrip t start end i) where
+  fits : end ≤ total (runsOf t)
+  fits = let a = h .fits in let b = h .laid .sum in omega arith
+
+  pub strip-can : (olens osets : List ℕ) → length olens ≡ 514 → length osets ≡ 514
+      → CanEdit (altered (runsOf t) start end (changing 0 (withBit i 0))) olens osets (t .lens) (t .sets) (t .runs) (t .length)
+  strip-can olens osets l l′ =
+      let a = h .laid .sum in
+      let b = h .laid .small in
+      can-edit (h .laid) (h .room) _ olens osets l l′ (altered-runs (runsOf t) start end (h .up) fits (changing 0 (withBit i 0)))
+      (omega (arith, total-altered (runsOf t) start end (changing 0 (withBit i 0)) (h .up) fits))
+
+  -- no set has got larger
+  at-small : (p : ℕ) → p < total (altered (runsOf t) start end (changing 0 (withBit i 0)))
+      → setAt (altered (runsOf t) start end (changing 0 (withBit i 0))) p < 2 ^ t .marks
+  at-small p k =
+      let old = at-inside (runsOf t) (t .marks) p (h .laid .inside) in
+      let z = total-altered (runsOf t) start end (changing 0 (withBit i 0)) (h .up) fits in
+      elim (decLt p start) [
+        | yes a ↦ omega (arith, altered-out (runsOf t) start end (changing 0 (withBit i 0)) (h .up) fits p (λ x y. omega arith) (omega arith))
+        | no a ↦
+            elim (decLt p end) [
+              | yes b ↦
+                  omega (
+                    arith,
+                    altered-in (runsOf t) start end (changing 0 (withBit i 0)) (h .up) fits p (omega arith) b,
+                    drop-is (withBit i 0) (setAt (runsOf t) p),
+                  )
+              | no b ↦
+                  omega (arith, altered-out (runsOf t) start end (changing 0 (withBit i 0)) (h .up) fits p (λ x y. omega arith) (omega arith))
+            ]
+      ]
+
+  pub strip-done : (lens sets : List ℕ) (n : ℕ) → runs lens sets n ≡ altered (runsOf t) start end (changing 0 (withBit i 0)) → Spare lens sets n
+      → length lens ≡ 514 → length sets ≡ 514
+      → let r : Tank = record { touched = t .touched; length = t .length; runs = n; marks = t .marks; lens = lens; sets = sets; table = t .table } in
+      (Laid r) × (view r ≡ stripped (idOf (getD (tableOf t) i blank)) start end (view t))
+  strip-done lens sets n e sp l l′ =
+      let f = h .laid in
+      let a = f .sum in
+      let b = f .small in
+      let c = h .room in
+      let out = altered (runsOf t) start end (changing 0 (withBit i 0)) in
+      let canon = canon-altered (runsOf t) start end (changing 0 (withBit i 0)) in
+      let z = total-altered (runsOf t) start end (changing 0 (withBit i 0)) (h .up) fits in
+      let s =
+      over-runs f (t .touched) lens sets n (t .length) out e canon (omega arith) sp l l′
+      (omega (arith, altered-runs (runsOf t) start end (h .up) fits (changing 0 (withBit i 0)), length-runs (t .lens) (t .sets) (t .runs))) (omega arith)
+      (gather-small (t .marks) out canon at-small)
+      in (
+        s .laid,
+        s .is
+            ∙ view-stripped (runsOf t) start end (changing 0 (withBit i 0)) (h .up) fits (tableOf t) (idOf (getD (tableOf t) i blank)) (t .touched)
+            (drops-mark (tableOf t) i (f .sorted) (let q = h .there in omega (arith, table-length f)))
+            ∙ ap (stripped (idOf (getD (tableOf t) i blank)) start end) (view-sum f),
+      )

@@ -1,0 +1,152 @@
+-- Marks that no position carries leave the table, and their bits leave every set: the tank means what it meant.
+use Prim.Native.Nat.{ℕ, zero, suc, _+_, _-_, _/_, _%_, _≤_, _<_, _^_}
+use mathlib.Core.Path.{_≡_, refl, sym, ap, _∙_}
+use mathlib.Core.Bool.{true}
+use mathlib.Core.List.{List, [], _∷_, _++_}
+use native.Mathlib.Omega.{arith}
+use native.Mathlib.Nat.{pow-suc}
+use native.Mathlib.Decide.{decLt}
+use lib.Bits.{bitAnd, and-zero-l}
+use lib.Count.{ones}
+use lib.ListN.{length, getD, take, replicate, length-append, length-replicate}
+use lib.Pow.{pow-mono, pow-pos}
+use lib.Seq.{take-at, getD-append-add}
+use Rattle.styles.specs.declared.Mark.{Mark}
+use Rattle.styles.specs.Marks.{blank}
+use Rattle.styles.specs.Bits.{keepBit, pick, squeeze}
+use Rattle.styles.proofs.CountLaws.{half-less, pick-length}
+use Rattle.styles.proofs.SqueezeLaws.{pick-squeeze}
+use Rattle.styles.proofs.UnionLaws.{squeeze-all, squeeze-none}
+use Rattle.styles.proofs.WalkLaws.{sorted-pick, pick-length-le}
+use Rattle.runs.specs.Runs.{runs, total, setAt, mapRuns}
+use Rattle.runs.specs.Gather.{gather, Renumbered}
+use Rattle.runs.proofs.Laws.{at-past}
+use Rattle.runs.proofs.MapLaws.{total-map, at-map, renumber-spare}
+use Rattle.runs.proofs.GatherLaws.{set-within}
+use Rattle.runs.proofs.RenumberLaws.{canon-squeeze, gather-squeeze, sets-within}
+use Rattle.tank.specs.declared.Tank.{Tank}
+use Rattle.tank.specs.State.{runsOf, tableOf, view, Numbers, Laid}
+use Rattle.tank.specs.Steps.{Trimmed}
+use Rattle.tank.proofs.Shape.{no-path}
+use Rattle.tank.proofs.Unique.{table-length, inside-table}
+use Rattle.tank.proofs.ViewLaws.{view-renumbered}
+
+-- a set that keeps every mark of the table has every bit
+length-keep : (b : ℕ) (m : Mark) (ms xs : List Mark) → b < 2 → length xs ≤ length ms → length (keepBit b m xs) ≡ suc (length ms) → (b ≡ 1) × (length xs ≡ length ms)
+length-keep zero m ms xs h l e = absurd (omega arith)
+length-keep (suc b) m ms xs h l e = (omega arith, omega arith)
+
+pick-whole : (ms : List Mark) (s : ℕ) → s < 2 ^ length ms → length (pick ms s) ≡ length ms → s ≡ 2 ^ length ms - 1
+unfolding pick
+pick-whole [] s h e = omega arith
+pick-whole (m ∷ ms) s h e =
+    let k = length-keep (s % 2) m ms (pick ms (s / 2)) (omega arith) (pick-length-le ms (s / 2)) e in
+    omega (arith, k .0, pick-whole ms (s / 2) (half-less (length ms) s h) (k .1), pow-suc 2 (length ms), pow-pos (length ms))
+
+numbers-keep : (b : ℕ) (m : Mark) (xs ms : List Mark) → Numbers (m ∷ ms) → Numbers xs → Numbers (keepBit b m xs)
+unfolding Numbers
+numbers-keep zero m xs ms n k = k
+numbers-keep (suc b) m xs ms n k = (n .0, k)
+
+numbers-pick : (ms : List Mark) (s : ℕ) → Numbers ms → Numbers (pick ms s)
+unfolding Numbers pick
+numbers-pick [] s n = tt
+numbers-pick (m ∷ ms) s n = numbers-keep (s % 2) m (pick ms (s / 2)) ms n (numbers-pick ms (s / 2) (n .1))
+
+pub blank-behind : (k i : ℕ) → getD (replicate k blank) i blank ≡ blank
+blank-behind zero i = refl
+blank-behind (suc k) zero = refl
+blank-behind (suc k) (suc i) = blank-behind k i
+
+module _ {t : Tank} (f : Laid t) (e : t .touched ≡ true) where
+  -- all marks are carried: nothing leaves
+  pub trim-none : (carried : ℕ) → carried ≡ gather (runsOf t) → ones carried ≡ t .marks → Trimmed t t
+  trim-none carried g c =
+      let l = pick-length (tableOf t) (gather (runsOf t)) (inside-table f) in
+      record {
+        formed =
+            record {
+              laid = f;
+              whole =
+                  pick-whole (tableOf t) (gather (runsOf t)) (inside-table f) (l ∙ ap ones (sym g) ∙ c ∙ sym (table-length f))
+                  ∙ ap (λ n. 2 ^ n - 1) (table-length f);
+              fresh = λ q. no-path (sym e ∙ q);
+            };
+        is = refl;
+      }
+
+  module _ (carried : ℕ) (g : carried ≡ gather (runsOf t)) (sets : List ℕ) (squeezed : Renumbered (squeeze 64 carried) (t .runs) (t .sets) sets)
+      (table : List Mark) (count : ℕ) (table-is : table ≡ pick (tableOf t) carried ++ replicate (64 - count) blank)
+      (count-is : count ≡ length (pick (tableOf t) carried)) where
+    small : carried < 2 ^ 64
+    small = let a = f .inside in let b = f .few in omega (arith, pow-mono {i = t .marks} {j = 64} (omega arith))
+
+    runs-are : runs (t .lens) sets (t .runs) ≡ mapRuns (squeeze 64 carried) (runsOf t)
+    runs-are = squeezed .front (t .lens)
+
+    few : count ≤ 64
+    few = let a = f .few in omega (arith, pick-length-le (tableOf t) carried, table-length f)
+
+    front : take count table ≡ pick (tableOf t) carried
+    front = ap (take count) table-is ∙ take-at (pick (tableOf t) carried) (replicate (64 - count) blank) count (sym count-is)
+
+    table-64 : length table ≡ 64
+    table-64 =
+        let a = few in
+        ap length table-is ∙ length-append (pick (tableOf t) carried) (replicate (64 - count) blank)
+        ∙ (omega (arith, length-replicate (64 - count) blank))
+
+    blanks : (i : ℕ) → count ≤ i → getD table i blank ≡ blank
+    blanks i h =
+        let k : length (pick (tableOf t) carried) + (i - count) ≡ i = omega arith in
+        ap (λ ms. getD ms i blank) table-is ∙ ap (λ x. getD (pick (tableOf t) carried ++ replicate (64 - count) blank) x blank) (sym k)
+        ∙ getD-append-add (pick (tableOf t) carried) (replicate (64 - count) blank) (i - count) blank ∙ blank-behind (64 - count) (i - count)
+
+    within : (p : ℕ) → bitAnd (setAt (runsOf t) p) carried ≡ setAt (runsOf t) p
+    within p =
+        elim (decLt p (total (runsOf t))) [
+          | yes h ↦ ap (bitAnd (setAt (runsOf t) p)) g ∙ set-within (runsOf t) p h
+          | no h ↦ let z = at-past (runsOf t) p (omega arith) in rw z (and-zero-l carried)
+        ]
+
+    ones-are : ones carried ≡ count
+    ones-are = sym (pick-length (tableOf t) carried (rw g (inside-table f))) ∙ sym count-is
+
+    whole : gather (runs (t .lens) sets (t .runs)) ≡ 2 ^ count - 1
+    whole =
+        ap gather runs-are ∙ gather-squeeze carried (runsOf t) ∙ ap (squeeze 64 carried) (sym g) ∙ squeeze-all 64 carried small
+        ∙ ap (λ n. 2 ^ n - 1) ones-are
+
+    pub trim-done : Trimmed t (record { touched = true; length = t .length; runs = t .runs; marks = count; lens = t .lens; sets = sets; table = table })
+    unfolding view
+    trim-done =
+        record {
+          formed =
+              record {
+                laid =
+                    record {
+                      most = f .most;
+                      canon = rw runs-are (canon-squeeze carried (runsOf t) small (rw g (sets-within (runsOf t))) (f .canon));
+                      sum = f .sum ∙ sym (ap total runs-are ∙ total-map (squeeze 64 carried) (runsOf t));
+                      small = f .small;
+                      spare = renumber-spare (t .lens) squeezed (f .spare);
+                      lens-514 = f .lens-514;
+                      sets-514 = squeezed .kept ∙ f .sets-514;
+                      few = few;
+                      table-64 = table-64;
+                      sorted = rw front (sorted-pick (tableOf t) carried (f .sorted));
+                      numbers = rw front (numbers-pick (tableOf t) carried (f .numbers));
+                      blanks = blanks;
+                      inside = omega (arith, whole, pow-pos count);
+                    };
+                whole = whole;
+                fresh = λ q. no-path q;
+              };
+          is =
+              ap (λ b. record { length = t .length; touched = b; at = λ p. pick (take count table) (setAt (runs (t .lens) sets (t .runs)) p) }) (sym e)
+              ∙ view-renumbered (t .touched) (t .length) (tableOf t) (take count table) (runsOf t) (runs (t .lens) sets (t .runs))
+              (λ p.
+              ap (λ ms. pick ms (setAt (runs (t .lens) sets (t .runs)) p)) front
+              ∙ ap (pick (pick (tableOf t) carried)) (ap (λ rs. setAt rs p) runs-are ∙ at-map (squeeze 64 carried) (squeeze-none 64 carried) (runsOf t) p)
+              ∙ pick-squeeze 64 (tableOf t) carried (setAt (runsOf t) p) (let a = f .few in omega (arith, table-length f)) (within p));
+        }

@@ -1,0 +1,184 @@
+-- Document 01, "What a tank means" and refusals 3 to 8: a tank by its positions, in the document's order.
+-- A set of marks is a list of them, sorted by identity. Nothing here knows how a tank is stored.
+use Prim.Native.Nat.{ℕ, zero, suc, _+_, _-_}
+use mathlib.Core.Bool.{Bool, true, false, cond, _&&_, not}
+use mathlib.Core.List.{List, [], _∷_}
+use lib.Dec.{ltb, leb, eqb}
+use lib.ListN.{length}
+use Rattle.runs.specs.Count.{stretches}
+use Rattle.runs.specs.Scan.{stretchTo}
+use Rattle.styles.specs.declared.Identity.{Identity}
+use Rattle.styles.specs.declared.Mark.{Mark}
+use Rattle.styles.specs.Order.{idOf, sameId}
+use Rattle.styles.specs.Values.{valueNan}
+use Rattle.styles.specs.Marks.{member, insertMark, removeMark, union, common, sameMarks, sameContent}
+
+-- a length, touched or not, and the marks at each position: none from the length on
+pub record View : Type 0 where
+  pub length : ℕ
+  pub touched : Bool
+  pub at : ℕ → List Mark
+
+-- a ≤ p < b
+abbrev pub within : ℕ → ℕ → ℕ → Bool
+within a b p = leb a p && ltb p b
+
+-- ---- A fresh tank has length T = 2^62 - 1, no marks, untouched
+abbrev pub freshLength : ℕ
+freshLength = 4611686018427387903
+
+unfoldable pub freshView : View
+freshView = record { length = freshLength; touched = false; at = λ p. [] }
+
+-- ---- Annotate a .. b: every position of it gains the mark, the tank becomes touched
+unfoldable pub afterAnnotate : ℕ → ℕ → Mark → View → View
+afterAnnotate a b m v =
+    record { length = v .length; touched = true; at = λ p. cond (within a b p) (insertMark m (v .at p)) (v .at p) }
+
+-- ---- Insert len at pos
+-- at 0 and at the length the empty set; otherwise the marks common to positions pos - 1 and pos, by identity
+unfoldable pub inherited : ℕ → View → List Mark
+inherited pos v = cond (eqb pos 0) [] (cond (eqb pos (v .length)) [] (common (v .at (pos - 1)) (v .at pos)))
+
+-- the new positions carry it, earlier ones keep theirs, later ones move by len; untouched: nothing changes
+unfoldable pub afterInsert : ℕ → ℕ → View → View
+afterInsert pos len v =
+    cond (v .touched)
+    (record {
+      length = v .length + len;
+      touched = true;
+      at = λ p. cond (ltb p pos) (v .at p) (cond (ltb p (pos + len)) (inherited pos v) (v .at (p - len)));
+    })
+    v
+
+-- the answer is that set; untouched: the empty one
+unfoldable pub forInsert : ℕ → View → List Mark
+forInsert pos v = cond (v .touched) (inherited pos v) []
+
+-- ---- Delete a .. b: those positions go and later ones move down; untouched: nothing changes
+unfoldable pub afterDelete : ℕ → ℕ → View → View
+afterDelete a b v =
+    cond (v .touched)
+    (record {
+      length = v .length - (b - a);
+      touched = true;
+      at = λ p. cond (ltb p a) (v .at p) (v .at (p + (b - a)));
+    })
+    v
+
+-- ---- Remove backward of an identity from last
+-- the answer: the first position of the longest stretch ending at last whose positions all carry it, or last + 1
+unfoldable pub backFrom : Identity → ℕ → View → ℕ
+backFrom id last v = stretchTo (λ p. member id (v .at p)) (last + 1)
+
+-- positions a .. b lose an identity
+unfoldable pub stripped : Identity → ℕ → ℕ → View → View
+stripped id a b v =
+    record { length = v .length; touched = v .touched; at = λ p. cond (within a b p) (removeMark id (v .at p)) (v .at p) }
+
+-- that stretch loses it; positions after last keep it
+unfoldable pub afterRemove : Identity → ℕ → View → View
+afterRemove id last v = stripped id (backFrom id last v) (last + 1) v
+
+-- ---- Runs: maximal stretches of neighbouring positions with equal sets
+-- position p and the next have equal sets
+abbrev pub alike : (ℕ → List Mark) → ℕ → Bool
+alike at p = sameMarks (at p) (at (suc p))
+
+-- how many stretches the positions below the length have
+abbrev pub runsHeld : View → ℕ
+runsHeld v = stretches (alike (v .at)) (v .length)
+
+-- ---- The marks that a tank carries: those of any position
+unfoldable pub gathered : (ℕ → List Mark) → ℕ → List Mark
+gathered at zero = []
+gathered at (suc n) = union (at n) (gathered at n)
+
+abbrev pub carried : View → List Mark
+carried v = gathered (v .at) (v .length)
+
+-- ---- The edits as one type: what each leaves and what it answers
+pub data Edit : Type 0 where
+  annotating : ℕ → ℕ → Mark → Edit
+  inserting : ℕ → ℕ → Edit
+  deleting : ℕ → ℕ → Edit
+  removing : Identity → ℕ → Edit
+
+unfoldable pub after : Edit → View → View
+after (annotating a b m) v = afterAnnotate a b m v
+after (inserting pos len) v = afterInsert pos len v
+after (deleting a b) v = afterDelete a b v
+after (removing id last) v = afterRemove id last v
+
+-- ---- Refusals
+-- 3: an empty range, or inserted length 0
+unfoldable pub empty : Edit → Bool
+empty (annotating a b m) = leb b a
+empty (inserting pos len) = eqb len 0
+empty (deleting a b) = leb b a
+empty (removing id last) = false
+
+-- 4: range end over the length; insert position over it; last at or over it
+unfoldable pub over : Edit → View → Bool
+over (annotating a b m) v = ltb (v .length) b
+over (inserting pos len) v = ltb (v .length) pos
+over (deleting a b) v = ltb (v .length) b
+over (removing id last) v = leb (v .length) last
+
+-- the largest length, 2^63 - 1
+abbrev pub largest : ℕ
+largest = 9223372036854775807
+
+-- 5: touched tank, insert would pass the largest length
+unfoldable pub long : Edit → View → Bool
+long (annotating a b m) v = false
+long (inserting pos len) v = v .touched && ltb largest (v .length + len)
+long (deleting a b) v = false
+long (removing id last) v = false
+
+-- 6: the value is NaN
+unfoldable pub notNumber : Edit → Bool
+notNumber (annotating a b m) = valueNan (m .value)
+notNumber (inserting pos len) = false
+notNumber (deleting a b) = false
+notNumber (removing id last) = false
+
+-- the set has the mark's identity with another value or flag byte
+unfoldable pub clash : Mark → List Mark → Bool
+clash m [] = false
+clash m (x ∷ xs) = cond (sameId (idOf m) (idOf x)) (not (sameContent m x)) (clash m xs)
+
+-- 7: identity carried in this tank with another value or flag byte
+unfoldable pub clashes : Edit → View → Bool
+clashes (annotating a b m) v = clash m (carried v)
+clashes (inserting pos len) v = false
+clashes (deleting a b) v = false
+clashes (removing id last) v = false
+
+-- 8: 64 marks carried, this one not among them
+unfoldable pub full : Edit → View → Bool
+full (annotating a b m) v = leb 64 (length (carried v)) && not (member (idOf m) (carried v))
+full (inserting pos len) v = false
+full (deleting a b) v = false
+full (removing id last) v = false
+
+-- the lowest of 3 to 8 that applies, 0 for none
+unfoldable pub refusal : Edit → View → ℕ
+refusal e v =
+    cond (empty e) 3
+    (cond (over e v) 4
+    (cond (long e v) 5
+    (cond (notNumber e) 6
+    (cond (clashes e v) 7
+    (cond (full e v) 8 0)))))
+
+-- the tank after a call: a refused one leaves it as it was
+abbrev pub afterCall : Edit → View → View
+afterCall e v = cond (eqb (refusal e v) 0) (after e v) v
+
+-- what stands beside the number: an insertion's set, a removal's first position; refused: the empty set, 0
+abbrev pub insertedSet : ℕ → ℕ → View → List Mark
+insertedSet pos len v = cond (eqb (refusal (inserting pos len) v) 0) (forInsert pos v) []
+
+abbrev pub removedFirst : Identity → ℕ → View → ℕ
+removedFirst id last v = cond (eqb (refusal (removing id last) v) 0) (backFrom id last v) 0

@@ -1,0 +1,255 @@
+// One tank by value: its runs over a table of marks, and the four edits, each judged by refusals 3 to 8.
+ghost use mathlib.Core.Path.{_≡_};
+ghost use Prim.Native.Nat.{_≤_};
+ghost use lib.ListN.{take};
+ghost use mathlib.Core.List.{[]};
+ghost use Rattle.styles.specs.Marks.{Sorted};
+ghost use Rattle.styles.specs.Answers.{stylesOf};
+ghost use Rattle.tank.specs.Rules.{freshView, annotating, inserting, deleting, removing, insertedSet, removedFirst};
+ghost use Rattle.tank.specs.State.{view, Sound, Called};
+ghost use Rattle.tank.specs.Steps.{roomFor};
+
+mod steps; // steps.rt: what the edits are made of
+
+use styles::Identity;
+use styles::Mark;
+use styles::Styles;
+
+pub struct Tank {
+    pub touched: bool,
+    pub length: u64,
+    pub runs: usize,
+    pub marks: usize,
+    pub lens: [u64; 514],
+    pub sets: [u64; 514],
+    pub table: [Mark; 64],
+}
+
+// What an edit hands back: 0 or the refusal's number, and the tank after the call.
+pub struct Edited {
+    pub number: u64,
+    pub tank: Tank,
+}
+
+// An insertion's result: besides, the set that the new positions got.
+pub struct Inserted {
+    pub number: u64,
+    pub styles: Styles,
+    pub tank: Tank,
+}
+
+// A removal's result: besides, the first position of the stretch that lost the mark.
+pub struct Removed {
+    pub number: u64,
+    pub first: u64,
+    pub tank: Tank,
+}
+
+// How a mark stands to a table: it has its place there, or a place for it; another content stands there; there is no room.
+enum Room {
+    Known(usize),
+    New(usize),
+    Clash,
+    Full,
+}
+
+fn room_for(table: [Mark; 64], n: usize, mark: Mark) -> Room
+    requires { ⌜ (n ≤ 64) × Sorted (take n table) ⌝ }
+    ensures { λ r. ⌜ r ≡ roomFor mark (take n table) ⌝ }
+{
+    let id = styles::order::id_of(mark);
+    let place = styles::table::placed(table, n, id);
+    let at = place.at;
+    if place.there {
+        let old = table[at];
+        if styles::values::same_content(mark, old) {
+            return Room::Known(at);
+        }
+        return Room::Clash;
+    }
+    if n == 64 {
+        return Room::Full;
+    }
+    Room::New(at)
+}
+
+// The empty set.
+fn no_marks() -> Styles
+    ensures { λ r. ⌜ r ≡ stylesOf [] ⌝ }
+{
+    let blank = styles::table::blank();
+    Styles {
+        count: 0,
+        marks: [blank; 64],
+    }
+}
+
+// The tank as it was, beside the refusal's number.
+fn not_inserted(number: u64, tank: Tank) -> Inserted
+    ensures { λ r. ⌜ (r .number ≡ number) × (r .styles ≡ stylesOf []) × (r .tank ≡ tank) ⌝ }
+{
+    Inserted {
+        number: number,
+        styles: no_marks(),
+        tank: tank,
+    }
+}
+
+impl Tank {
+    // A fresh tank.
+    pub fn fresh() -> Tank
+        ensures { λ r. ⌜ (Sound r) × (view r ≡ freshView) ⌝ }
+    {
+        let mut lens = [0u64; 514];
+        let sets = [0u64; 514];
+        let blank = styles::table::blank();
+        lens[0] = 4611686018427387903;
+        Tank {
+            touched: false,
+            length: 4611686018427387903,
+            runs: 1,
+            marks: 0,
+            lens: lens,
+            sets: sets,
+            table: [blank; 64],
+        }
+    }
+
+    // Every position of start .. end gains the mark.
+    pub fn annotate(self, start: u64, end: u64, mark: Mark) -> Edited
+        requires { ⌜ Sound self ⌝ }
+        ensures { λ r. ⌜ Called (annotating start end mark) self (r .number) (r .tank) ⌝ }
+    {
+        if end <= start {
+            return Edited {
+                number: 3,
+                tank: self,
+            };
+        }
+        if self.length < end {
+            return Edited {
+                number: 4,
+                tank: self,
+            };
+        }
+        let value = mark.value;
+        if styles::values::value_is_nan(value) {
+            return Edited {
+                number: 6,
+                tank: self,
+            };
+        }
+        let table = self.table;
+        let room = room_for(table, self.marks, mark);
+        match room {
+            Room::Clash => Edited {
+                number: 7,
+                tank: self,
+            },
+            Room::Full => Edited {
+                number: 8,
+                tank: self,
+            },
+            Room::Known(i) => Edited {
+                number: 0,
+                tank: steps::lay(self, start, end, i),
+            },
+            Room::New(i) => Edited {
+                number: 0,
+                tank: steps::lay(steps::admit(self, i, mark), start, end, i),
+            },
+        }
+    }
+
+    // The positions start .. end go, and later ones move down. An untouched tank stays as it is.
+    pub fn delete(self, start: u64, end: u64) -> Edited
+        requires { ⌜ Sound self ⌝ }
+        ensures { λ r. ⌜ Called (deleting start end) self (r .number) (r .tank) ⌝ }
+    {
+        if end <= start {
+            return Edited {
+                number: 3,
+                tank: self,
+            };
+        }
+        if self.length < end {
+            return Edited {
+                number: 4,
+                tank: self,
+            };
+        }
+        if !self.touched {
+            return Edited {
+                number: 0,
+                tank: self,
+            };
+        }
+        Edited {
+            number: 0,
+            tank: steps::trim(steps::cut(self, start, end)),
+        }
+    }
+
+    // `len` positions more before `pos`, with the marks that both its neighbours carry. An untouched tank stays as it is.
+    pub fn insert(self, pos: u64, len: u64) -> Inserted
+        requires { ⌜ Sound self ⌝ }
+        ensures { λ r. ⌜ Called (inserting pos len) self (r .number) (r .tank) ⌝ }
+        ensures { λ r. ⌜ r .styles ≡ stylesOf (insertedSet pos len (view self)) ⌝ }
+    {
+        if len == 0 {
+            return not_inserted(3, self);
+        }
+        if self.length < pos {
+            return not_inserted(4, self);
+        }
+        if !self.touched {
+            return not_inserted(0, self);
+        }
+        if 9223372036854775807 - self.length < len {
+            return not_inserted(5, self);
+        }
+        let lens = self.lens;
+        let sets = self.sets;
+        let table = self.table;
+        let set = runs::scan::common_at(&lens, &sets, self.runs, pos);
+        let styles = styles::table::styles_of(table, self.marks, set);
+        Inserted {
+            number: 0,
+            styles: styles,
+            tank: steps::grow(self, pos, len, set),
+        }
+    }
+
+    // The longest stretch ending at `last` whose positions all carry the identity loses it.
+    pub fn remove_style_scanning_backward(self, id: Identity, last: u64) -> Removed
+        requires { ⌜ Sound self ⌝ }
+        ensures { λ r. ⌜ Called (removing id last) self (r .number) (r .tank) ⌝ }
+        ensures { λ r. ⌜ r .first ≡ removedFirst id last (view self) ⌝ }
+    {
+        if self.length <= last {
+            return Removed {
+                number: 4,
+                first: 0,
+                tank: self,
+            };
+        }
+        let table = self.table;
+        let place = styles::table::placed(table, self.marks, id);
+        if !place.there {
+            return Removed {
+                number: 0,
+                first: last + 1,
+                tank: self,
+            };
+        }
+        let lens = self.lens;
+        let sets = self.sets;
+        let bit = styles::bits::with_bit(0, place.at);
+        let first = runs::scan::back(&lens, &sets, self.runs, bit, last);
+        Removed {
+            number: 0,
+            first: first,
+            tank: steps::trim(steps::strip(self, first, last + 1, place.at)),
+        }
+    }
+}

@@ -1,0 +1,105 @@
+//! The answers of the console, and their lines.
+
+use std::fmt;
+
+use crate::mark::{Id, Mark, Value};
+
+#[derive(Clone, Debug, PartialEq)]
+pub enum Answer {
+    Refused(u8),
+    Accepted,
+    Marks(Vec<Mark>),
+    None,
+    Mark(Mark),
+    Value(Value),
+    Yes(bool),
+    First(u64),
+    Length(u64),
+    Touched(bool),
+    Runs(u64),
+    Stretches(u64, Vec<Listed>),
+    Needed(u64),
+    Anchors(Vec<Anchor>),
+}
+
+/// A stretch as it is listed: its start, its end and how many marks it carries.
+#[derive(Clone, Copy, Debug, PartialEq, Eq)]
+pub struct Listed {
+    pub from: u64,
+    pub to: u64,
+    pub marks: u64,
+}
+
+#[derive(Clone, Copy, Debug, PartialEq, Eq)]
+pub struct Anchor {
+    pub at: u64,
+    pub start: bool,
+    pub id: Id,
+}
+
+impl Answer {
+    /// The word under which the answer is counted.
+    pub fn kind(&self) -> String {
+        match self {
+            Answer::Refused(number) => format!("refused {number}"),
+            Answer::Accepted => "accepted".into(),
+            Answer::Marks(_) => "a set".into(),
+            Answer::None => "none".into(),
+            Answer::Mark(_) => "a mark".into(),
+            Answer::Value(_) => "a value".into(),
+            Answer::Yes(true) => "yes".into(),
+            Answer::Yes(false) => "no".into(),
+            Answer::Stretches(..) | Answer::Anchors(_) => "a list".into(),
+            _ => "a number".into(),
+        }
+    }
+}
+
+impl fmt::Display for Answer {
+    fn fmt(&self, f: &mut fmt::Formatter<'_>) -> fmt::Result {
+        match self {
+            Answer::Refused(number) => writeln!(f, "refused={number}"),
+            Answer::Accepted => writeln!(f, "accepted=1"),
+            Answer::Marks(marks) => {
+                writeln!(f, "marks={}", marks.len())?;
+                marks.iter().try_for_each(|mark| six_lines(f, mark))
+            }
+            Answer::None => writeln!(f, "none=1"),
+            Answer::Mark(mark) => six_lines(f, mark),
+            Answer::Value(value) => two_lines(f, *value),
+            Answer::Yes(yes) => writeln!(f, "yes={}", *yes as u8),
+            Answer::First(first) => writeln!(f, "first={first}"),
+            Answer::Length(length) => writeln!(f, "length={length}"),
+            Answer::Touched(touched) => writeln!(f, "touched={}", *touched as u8),
+            Answer::Runs(runs) => writeln!(f, "runs={runs}"),
+            Answer::Stretches(tank, list) => {
+                writeln!(f, "tank={tank}")?;
+                let lines = |f: &mut fmt::Formatter<'_>, s: &Listed| {
+                    writeln!(f, "from={}\nto={}\nmarks={}", s.from, s.to, s.marks)
+                };
+                list.iter().try_for_each(|stretch| lines(f, stretch))
+            }
+            Answer::Needed(needed) => writeln!(f, "needed={needed}"),
+            Answer::Anchors(list) => {
+                writeln!(f, "anchors={}", list.len())?;
+                list.iter().try_for_each(|anchor| five_lines(f, anchor))
+            }
+        }
+    }
+}
+
+fn two_lines(f: &mut fmt::Formatter<'_>, value: Value) -> fmt::Result {
+    writeln!(f, "kind={}\nvalue={}", value.kind(), value.text())
+}
+
+fn six_lines(f: &mut fmt::Formatter<'_>, mark: &Mark) -> fmt::Result {
+    let (key, lamport, peer) = mark.id;
+    writeln!(f, "key={key}\nlamport={lamport}\npeer={peer}\nflags={}", mark.content.flags)?;
+    two_lines(f, mark.content.value)
+}
+
+fn five_lines(f: &mut fmt::Formatter<'_>, anchor: &Anchor) -> fmt::Result {
+    let side = if anchor.start { "start" } else { "end" };
+    let (key, lamport, peer) = anchor.id;
+    writeln!(f, "at={}\nside={side}\nkey={key}\nlamport={lamport}\npeer={peer}", anchor.at)
+}

@@ -1,0 +1,131 @@
+//! Writes the fixed sample of calls and answers that can be replayed where no Rust is at hand.
+//!
+//!     sample FOLDER
+//!
+//! The same program writes the same files on every machine. An answer inside the oracle domain is
+//! the Rust's own, held against the model's; any other is the model's.
+
+use std::fs;
+use std::path::Path;
+use std::process::ExitCode;
+
+use compare::call::Call;
+use compare::cases;
+use compare::check::answers;
+use compare::classes::CLASSES;
+use compare::refusals::refusals;
+use compare::script::Script;
+use compare::tally::Tally;
+
+/// How many scripts of each class stand in the sample, and how many calls each has.
+const SHARE: [(&str, u64, usize); 9] = [
+    ("inside", 5, 150),
+    ("dense", 4, 120),
+    ("short", 3, 120),
+    ("ends", 4, 60),
+    ("pool", 1, 60),
+    ("marks", 1, 60),
+    ("runs", 1, 30),
+    ("many", 1, 30),
+    ("wild", 1, 160),
+];
+
+/// The seed of the first script of each class.
+const SEED: u64 = 20;
+
+fn main() -> ExitCode {
+    let Some(folder) = std::env::args().nth(1).filter(|word| !word.starts_with('-')) else {
+        eprintln!("sample FOLDER");
+        return ExitCode::from(2);
+    };
+    let folder = Path::new(&folder);
+    let mut tally = Tally::default();
+    write(folder, "sample", &sample(), &mut tally);
+    println!("{tally}");
+    let missing = tally.missing(&wanted());
+    if !missing.is_empty() {
+        eprintln!("the sample lacks {missing:?}");
+        return ExitCode::FAILURE;
+    }
+    write(folder, "malformed", &malformed(), &mut Tally::default());
+    ExitCode::SUCCESS
+}
+
+fn sample() -> Script {
+    let mut calls = cases::cases();
+    calls.extend(refusals());
+    for (name, scripts, length) in SHARE {
+        let class = CLASSES.iter().find(|class| class.name == name).expect("a class");
+        for seed in SEED..SEED + scripts {
+            calls.extend(class.script(seed, length).calls);
+        }
+    }
+    Script { class: "sample", seed: SEED, calls, tail: Vec::new() }
+}
+
+/// A short script of which a line in the middle is malformed: what follows it isn't read.
+fn malformed() -> Script {
+    let good = CLASSES[0].script(SEED, 12);
+    let spoilt =
+        good.calls.iter().map(Call::to_string).collect::<String>() + "op=length\ntank=00\n";
+    let rest = good.text();
+    Script::of_text("malformed", SEED, &[spoilt.as_bytes(), &rest].concat())
+}
+
+fn write(folder: &Path, name: &str, script: &Script, tally: &mut Tally) {
+    let expected = answers(0, script, tally).unwrap_or_else(|found| panic!("{found:?}"));
+    let mut output = String::new();
+    for entry in &expected {
+        output += &entry.answer;
+        tally.count(entry.kind.clone(), entry.rust);
+    }
+    tally.scripts += 1;
+    output += &script.ending();
+    fs::create_dir_all(folder).expect("a folder to write to");
+    fs::write(folder.join(format!("{name}.calls")), script.text()).expect("the calls");
+    fs::write(folder.join(format!("{name}.answers")), output).expect("the answers");
+}
+
+/// What has to stand in the sample: each refusal, and each kind of answer to each call.
+fn wanted() -> Vec<&'static str> {
+    vec![
+        "refused 1",
+        "refused 2",
+        "refused 3",
+        "refused 4",
+        "refused 5",
+        "refused 6",
+        "refused 7",
+        "refused 8",
+        "refused 9",
+        "refused 10",
+        "refused 11",
+        "open: accepted",
+        "annotate: accepted",
+        "delete: accepted",
+        "insert: a set",
+        "remove: a number",
+        "length: a number",
+        "touched: a number",
+        "runs: a number",
+        "value: a value",
+        "value: none",
+        "has_key: yes",
+        "has_key: no",
+        "all_value: yes",
+        "all_value: no",
+        "same: a set",
+        "same: none",
+        "marks: a set",
+        "mark: a mark",
+        "mark: none",
+        "inherit: a set",
+        "inherited: a mark",
+        "inherited: none",
+        "stretches: a list",
+        "stretches_needed: a number",
+        "whole: a list",
+        "whole_needed: a number",
+        "anchors: a list",
+    ]
+}

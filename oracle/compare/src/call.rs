@@ -1,0 +1,217 @@
+//! The calls of the console, and their lines.
+
+use std::fmt;
+
+use crate::mark::{Content, Id, Mark, Value};
+
+pub type Settings = [(u64, u64); 8];
+
+#[derive(Clone, Copy, Debug, PartialEq)]
+pub enum Call {
+    Open { settings: Settings },
+    Annotate { tank: u64, start: u64, end: u64, mark: Mark },
+    Insert { tank: u64, at: u64, len: u64 },
+    Delete { tank: u64, start: u64, end: u64 },
+    Remove { tank: u64, id: Id, last: u64 },
+    Length { tank: u64 },
+    Touched { tank: u64 },
+    Runs { tank: u64 },
+    Value { tank: u64, at: u64, key: u16 },
+    HasKey { tank: u64, start: u64, end: u64, key: u16 },
+    AllValue { tank: u64, start: u64, end: u64, key: u16, value: Value },
+    Same { tank: u64, start: u64, end: u64 },
+    Marks { tank: u64, at: u64 },
+    Inherit { tank: u64, at: u64 },
+    Mark { tank: u64, at: u64, rank: u64 },
+    Inherited { tank: u64, at: u64, rank: u64 },
+    Stretches { tank: u64, start: u64, end: u64, room: u64 },
+    StretchesNeeded { tank: u64, start: u64, end: u64 },
+    Whole { tank: u64, room: u64 },
+    WholeNeeded { tank: u64 },
+    Anchors { tank: u64, room: u64 },
+}
+
+/// Each op and its fields, in the order of their lines.
+pub const SHAPES: [(&str, &[&str]); 21] = [
+    ("open", &OPEN),
+    ("annotate", &["tank", "start", "end", "key", "lamport", "peer", "flags", "kind", "value"]),
+    ("insert", &["tank", "at", "len"]),
+    ("delete", &["tank", "start", "end"]),
+    ("remove", &["tank", "key", "lamport", "peer", "last"]),
+    ("length", &["tank"]),
+    ("touched", &["tank"]),
+    ("runs", &["tank"]),
+    ("value", &["tank", "at", "key"]),
+    ("has_key", &["tank", "start", "end", "key"]),
+    ("all_value", &["tank", "start", "end", "key", "kind", "value"]),
+    ("same", &["tank", "start", "end"]),
+    ("marks", &["tank", "at"]),
+    ("inherit", &["tank", "at"]),
+    ("mark", &["tank", "at", "rank"]),
+    ("inherited", &["tank", "at", "rank"]),
+    ("stretches", &["tank", "start", "end", "room"]),
+    ("stretches_needed", &["tank", "start", "end"]),
+    ("whole", &["tank", "room"]),
+    ("whole_needed", &["tank"]),
+    ("anchors", &["tank", "room"]),
+];
+
+const OPEN: [&str; 16] = [
+    "share0", "limit0", "share1", "limit1", "share2", "limit2", "share3", "limit3", "share4",
+    "limit4", "share5", "limit5", "share6", "limit6", "share7", "limit7",
+];
+
+/// What a field's line holds.
+#[derive(Clone, Copy, Debug, PartialEq)]
+pub enum Field {
+    Number(u64),
+    Value(Value),
+}
+
+impl Call {
+    /// The op's place in `SHAPES`.
+    pub fn shape(&self) -> usize {
+        match self {
+            Call::Open { .. } => 0,
+            Call::Annotate { .. } => 1,
+            Call::Insert { .. } => 2,
+            Call::Delete { .. } => 3,
+            Call::Remove { .. } => 4,
+            Call::Length { .. } => 5,
+            Call::Touched { .. } => 6,
+            Call::Runs { .. } => 7,
+            Call::Value { .. } => 8,
+            Call::HasKey { .. } => 9,
+            Call::AllValue { .. } => 10,
+            Call::Same { .. } => 11,
+            Call::Marks { .. } => 12,
+            Call::Inherit { .. } => 13,
+            Call::Mark { .. } => 14,
+            Call::Inherited { .. } => 15,
+            Call::Stretches { .. } => 16,
+            Call::StretchesNeeded { .. } => 17,
+            Call::Whole { .. } => 18,
+            Call::WholeNeeded { .. } => 19,
+            Call::Anchors { .. } => 20,
+        }
+    }
+
+    pub fn name(&self) -> &'static str {
+        SHAPES[self.shape()].0
+    }
+
+    pub fn tank(&self) -> Option<u64> {
+        match self.fields()[0] {
+            Field::Number(tank) if self.shape() > 0 => Some(tank),
+            _ => None,
+        }
+    }
+
+    /// How many lines the call's group has.
+    pub fn lines(&self) -> u64 {
+        1 + SHAPES[self.shape()].1.len() as u64
+    }
+
+    /// The fields in the order of `SHAPES`; a value stands for its two lines.
+    pub fn fields(&self) -> Vec<Field> {
+        let numbers = |list: &[u64]| list.iter().copied().map(Field::Number).collect::<Vec<_>>();
+        match *self {
+            Call::Open { settings } => {
+                let pairs = settings.iter().flat_map(|&(share, limit)| [share, limit]);
+                pairs.map(Field::Number).collect()
+            }
+            Call::Annotate { tank, start, end, mark } => {
+                let Mark { id, content } = mark;
+                let (key, lamport, peer) = (id.0 as u64, id.1 as u64, id.2);
+                let flags = content.flags as u64;
+                let mut list = numbers(&[tank, start, end, key, lamport, peer, flags]);
+                list.push(Field::Value(content.value));
+                list
+            }
+            Call::AllValue { tank, start, end, key, value } => {
+                let mut list = numbers(&[tank, start, end, key as u64]);
+                list.push(Field::Value(value));
+                list
+            }
+            Call::Insert { tank, at, len } => numbers(&[tank, at, len]),
+            Call::Remove { tank, id, last } => {
+                numbers(&[tank, id.0 as u64, id.1 as u64, id.2, last])
+            }
+            Call::Value { tank, at, key } => numbers(&[tank, at, key as u64]),
+            Call::HasKey { tank, start, end, key } => numbers(&[tank, start, end, key as u64]),
+            Call::Length { tank }
+            | Call::Touched { tank }
+            | Call::Runs { tank }
+            | Call::WholeNeeded { tank } => numbers(&[tank]),
+            Call::Delete { tank, start, end }
+            | Call::Same { tank, start, end }
+            | Call::StretchesNeeded { tank, start, end } => numbers(&[tank, start, end]),
+            Call::Marks { tank, at } | Call::Inherit { tank, at } => numbers(&[tank, at]),
+            Call::Mark { tank, at, rank } | Call::Inherited { tank, at, rank } => {
+                numbers(&[tank, at, rank])
+            }
+            Call::Stretches { tank, start, end, room } => numbers(&[tank, start, end, room]),
+            Call::Whole { tank, room } | Call::Anchors { tank, room } => numbers(&[tank, room]),
+        }
+    }
+
+    /// The call of an op from its fields: the inverse of `shape` and `fields`.
+    pub fn of(shape: usize, fields: &[Field]) -> Call {
+        let n = |place: usize| match fields[place] {
+            Field::Number(number) => number,
+            Field::Value(_) => unreachable!("a number stands here"),
+        };
+        let v = |place: usize| match fields[place] {
+            Field::Value(value) => value,
+            Field::Number(_) => unreachable!("a value stands here"),
+        };
+        let id = |place: usize| (n(place) as u16, n(place + 1) as u32, n(place + 2));
+        let (tank, start, end) = (n(0), 1, 2);
+        match shape {
+            0 => Call::Open { settings: std::array::from_fn(|t| (n(2 * t), n(2 * t + 1))) },
+            1 => {
+                let content = Content { flags: n(6) as u8, value: v(7) };
+                let mark = Mark { id: id(3), content };
+                Call::Annotate { tank, start: n(start), end: n(end), mark }
+            }
+            2 => Call::Insert { tank, at: n(1), len: n(2) },
+            3 => Call::Delete { tank, start: n(start), end: n(end) },
+            4 => Call::Remove { tank, id: id(1), last: n(4) },
+            5 => Call::Length { tank },
+            6 => Call::Touched { tank },
+            7 => Call::Runs { tank },
+            8 => Call::Value { tank, at: n(1), key: n(2) as u16 },
+            9 => Call::HasKey { tank, start: n(start), end: n(end), key: n(3) as u16 },
+            10 => {
+                let key = n(3) as u16;
+                Call::AllValue { tank, start: n(start), end: n(end), key, value: v(4) }
+            }
+            11 => Call::Same { tank, start: n(start), end: n(end) },
+            12 => Call::Marks { tank, at: n(1) },
+            13 => Call::Inherit { tank, at: n(1) },
+            14 => Call::Mark { tank, at: n(1), rank: n(2) },
+            15 => Call::Inherited { tank, at: n(1), rank: n(2) },
+            16 => Call::Stretches { tank, start: n(start), end: n(end), room: n(3) },
+            17 => Call::StretchesNeeded { tank, start: n(start), end: n(end) },
+            18 => Call::Whole { tank, room: n(1) },
+            19 => Call::WholeNeeded { tank },
+            _ => Call::Anchors { tank, room: n(1) },
+        }
+    }
+}
+
+impl fmt::Display for Call {
+    fn fmt(&self, f: &mut fmt::Formatter<'_>) -> fmt::Result {
+        let (name, names) = SHAPES[self.shape()];
+        writeln!(f, "op={name}")?;
+        for (name, field) in names.iter().zip(self.fields()) {
+            match field {
+                Field::Number(number) => writeln!(f, "{name}={number}")?,
+                Field::Value(value) => {
+                    writeln!(f, "kind={}\nvalue={}", value.kind(), value.text())?
+                }
+            }
+        }
+        Ok(())
+    }
+}

@@ -1,0 +1,215 @@
+//! The classes of random scripts.
+
+use crate::answer::Answer;
+use crate::author::{identity, usual, Author, Habit};
+use crate::call::{Call, Settings};
+use crate::mark::Mark;
+use crate::script::Script;
+use crate::tank::{LONGEST, T};
+
+pub struct Class {
+    pub name: &'static str,
+    /// What its scripts are for.
+    pub about: &'static str,
+    write: fn(seed: u64, calls: usize) -> Author,
+}
+
+pub const CLASSES: [Class; 10] = [
+    Class { name: "inside", about: "one tank with room, the oracle domain", write: inside },
+    Class { name: "dense", about: "small positions, many collisions", write: dense },
+    Class { name: "short", about: "tanks of few positions, down to none", write: short },
+    Class { name: "ends", about: "positions near T and near 2^63 - 1", write: ends },
+    Class { name: "pool", about: "shares and limits around 512 runs", write: pool },
+    Class { name: "marks", about: "64 marks and one more", write: marks },
+    Class { name: "runs", about: "hundreds of runs in one tank", write: runs },
+    Class { name: "many", about: "hundreds of runs, the oracle domain", write: many },
+    Class { name: "wild", about: "any number anywhere", write: wild },
+    Class { name: "fresh", about: "no opening, or a refused one", write: fresh },
+];
+
+impl Class {
+    pub fn script(&self, seed: u64, calls: usize) -> Script {
+        let author = (self.write)(seed, calls);
+        Script { class: self.name, seed, calls: author.calls, tail: Vec::new() }
+    }
+}
+
+const HABIT: Habit = Habit { tanks: 1, reach: 10, marks: 16, wild: 0, inside: false, questions: 3 };
+
+/// All room for tank 0.
+pub const ROOMY: Settings = {
+    let mut settings = [(1, 1); 8];
+    settings[0] = (1, 505);
+    settings
+};
+
+fn inside(seed: u64, calls: usize) -> Author {
+    let mut author = Author::new(seed, Habit { inside: true, ..HABIT });
+    author.open(ROOMY);
+    author.go_on(calls);
+    author
+}
+
+fn dense(seed: u64, calls: usize) -> Author {
+    let mut author = Author::new(seed, Habit { tanks: 3, wild: 60, ..HABIT });
+    author.open([(20, 60); 8]);
+    author.go_on(calls);
+    author
+}
+
+fn short(seed: u64, calls: usize) -> Author {
+    let mut author = Author::new(seed, Habit { tanks: 2, marks: 6, ..HABIT });
+    author.open([(20, 60); 8]);
+    for tank in 0..2 {
+        let mark = author.mark();
+        let left = author.random.below(13);
+        author.say(Call::Annotate { tank, start: 0, end: 1, mark });
+        author.say(Call::Delete { tank, start: left, end: T });
+    }
+    author.go_on(calls);
+    author
+}
+
+fn ends(seed: u64, calls: usize) -> Author {
+    let inside = seed % 2 == 1;
+    let wild = if inside { 0 } else { 12 };
+    let mut author = Author::new(seed, Habit { tanks: 2, wild, inside, ..HABIT });
+    author.open([(20, 60); 8]);
+    for tank in 0..2 {
+        let mark = author.mark();
+        let (start, room) = (author.random.below(9), author.random.below(9));
+        author.say(Call::Annotate { tank, start: T - start - 2, end: T - inside as u64, mark });
+        author.say(Call::Insert { tank, at: T - 1, len: LONGEST - T - room });
+    }
+    author.go_on(calls);
+    author
+}
+
+/// Eight pairs that the opening accepts, with a sum of shares that is often 512.
+fn pairs(author: &mut Author) -> Settings {
+    let mut left = 512;
+    std::array::from_fn(|tank| {
+        let later = 7 - tank as u64;
+        let most = left - later;
+        let fair = (2 * most / (later + 2)).max(1);
+        let share =
+            if author.random.one_in(4) { 1 } else { 1 + author.random.below(fair.min(most)) };
+        let share = if later == 0 && author.random.one_in(2) { most } else { share };
+        left -= share;
+        (share, share + author.random.below(513 - share))
+    })
+}
+
+fn pool(seed: u64, calls: usize) -> Author {
+    let mut author = Author::new(seed, Habit { tanks: 8, marks: 5, questions: 1, ..HABIT });
+    let settings = pairs(&mut author);
+    author.open(settings);
+    for _ in 0..24 {
+        let tank = author.random.below(8);
+        let (share, limit) = settings[tank as usize];
+        let goal = share + author.random.below(60);
+        fill(&mut author, tank, goal.min(limit));
+    }
+    author.go_on(calls);
+    author
+}
+
+/// Marks every other position until the tank holds about so many runs, or may not.
+fn fill(author: &mut Author, tank: u64, runs: u64) {
+    while author.tanks.tanks[tank as usize].runs() + 1 < runs {
+        let start = author.tanks.tanks[tank as usize].runs() + 1;
+        let id = identity(author.random.below(author.habit.marks.min(60)));
+        let mark = Mark { id, content: usual(id) };
+        let call = Call::Annotate { tank, start, end: start + 1, mark };
+        if author.say(call) != Answer::Accepted {
+            break;
+        }
+    }
+}
+
+/// 64 marks on few positions; those that were lost come back from time to time, and others try.
+fn marks(seed: u64, calls: usize) -> Author {
+    let mut author = Author::new(seed, Habit { marks: 80, questions: 2, wild: 80, ..HABIT });
+    author.open([(40, 200); 8]);
+    let end = author.calls.len() + calls;
+    while author.calls.len() < end {
+        let first = author.random.below(80);
+        for number in first..first + 80 {
+            if author.tanks.tanks[0].carried().len() < 64 {
+                annotate(&mut author, number % 80);
+            }
+        }
+        let number = author.random.below(88);
+        annotate(&mut author, number);
+        author.go_on(12);
+    }
+    author
+}
+
+/// A mark by its number on some of the first 80 positions.
+fn annotate(author: &mut Author, number: u64) {
+    let id = identity(number);
+    let start = author.random.below(20);
+    let end = start + 1 + author.random.below(60);
+    author.say(Call::Annotate { tank: 0, start, end, mark: Mark { id, content: usual(id) } });
+}
+
+fn runs(seed: u64, calls: usize) -> Author {
+    let habit = Habit { marks: 70, wild: 100, ..HABIT };
+    let mut author = Author::new(seed, habit);
+    author.open(ROOMY);
+    let goal = [200, 400, 500, 504, 505][(seed % 5) as usize];
+    fill(&mut author, 0, goal);
+    author.go_on(calls);
+    author
+}
+
+fn many(seed: u64, calls: usize) -> Author {
+    let habit = Habit { marks: 24, inside: true, ..HABIT };
+    let mut author = Author::new(seed, habit);
+    author.open(ROOMY);
+    let goal = 100 + author.random.below(350);
+    fill(&mut author, 0, goal);
+    author.go_on(calls);
+    author
+}
+
+fn wild(seed: u64, calls: usize) -> Author {
+    let mut author = Author::new(seed, Habit { tanks: 8, wild: 4, marks: 40, ..HABIT });
+    author.open([(20, 60); 8]);
+    while author.calls.len() < calls {
+        if author.random.one_in(4) {
+            let settings = spoilt(&mut author);
+            author.open(settings);
+        }
+        author.go_on(40);
+    }
+    author
+}
+
+/// Pairs with one number changed, perhaps into a bad one.
+fn spoilt(author: &mut Author) -> Settings {
+    let mut settings = pairs(author);
+    let place = author.random.below(8) as usize;
+    let number = author.random.pick(&[0, 1, 511, 512, 513, 65537, 1 << 32, u64::MAX]);
+    match author.random.below(3) {
+        0 => settings[place].0 = number,
+        1 => settings[place].1 = number,
+        _ => {}
+    }
+    settings
+}
+
+/// Before an opening, and after a refused one, each tank has a share and a limit of 1.
+fn fresh(seed: u64, calls: usize) -> Author {
+    let mut author = Author::new(seed, Habit { tanks: 8, wild: 10, ..HABIT });
+    if seed % 2 == 1 {
+        author.open([(20, 60); 8]);
+        author.go_on(10);
+        author.open([(2, 1); 8]);
+    }
+    let mark = author.mark();
+    author.say(Call::Annotate { tank: 3, start: 0, end: T, mark });
+    author.go_on(calls);
+    author
+}

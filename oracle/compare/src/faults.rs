@@ -1,0 +1,277 @@
+//! A console with one fault in it. Each fault is a mistake that a map could make; the comparison
+//! has to notice every one of them.
+
+use std::collections::BTreeMap;
+
+use crate::answer::Answer;
+use crate::call::Call;
+use crate::mark::{listed, Content, Id, Value};
+use crate::tanks::Tanks;
+
+/// The name of a fault, and what it gets wrong.
+pub const FAULTS: [(&str, &str); 41] = [
+    ("refusal1", "answers for tank 0 in place of refusal 1"),
+    ("refusal2", "accepts settings that break the rule"),
+    ("refusal3", "accepts an empty edit"),
+    ("refusal4", "accepts what lies past the length"),
+    ("refusal5", "accepts an insert past the largest length"),
+    ("refusal6", "accepts a NaN"),
+    ("refusal7", "accepts another content under a carried identity"),
+    ("refusal8", "accepts a 65th mark"),
+    ("refusal9", "accepts runs over the limit"),
+    ("refusal10", "accepts runs over the pool"),
+    ("refusal11", "accepts a short buffer"),
+    ("refusal-order", "gives 10 where 9 applies as well"),
+    ("left-inherit", "new positions inherit from the left neighbour alone"),
+    ("inherit-answer", "leaves the last mark out of an inherited set that has several"),
+    ("fixed-slices", "gives 10 as soon as a tank passes its share"),
+    ("early-count", "counts the runs of an annotate before joining them"),
+    ("stale-content", "gives 7 for an identity that no position carries any more"),
+    ("stale-marks", "gives 8 when 64 marks were ever carried"),
+    ("idle-annotate", "accepts every eighth annotate and changes nothing"),
+    ("idle-delete", "accepts every eighth delete and changes nothing"),
+    ("past-last", "removal strips the rest of the stretch after last"),
+    ("remove-index", "removal answers last + 1 where it removed something"),
+    ("untouched-again", "an emptied tank becomes untouched"),
+    ("untouched-insert", "an insert into an untouched tank counts in its length"),
+    ("other-tank", "an edit of tank 1 touches tank 2"),
+    ("set-order", "lists a set by lamport first"),
+    ("same-none", "same-marks answers none for the empty set"),
+    ("same-set", "same-marks answers the empty set for none"),
+    ("rank", "the j-th mark counts from 1"),
+    ("null-none", "a winning null shows nothing"),
+    ("winner", "shows the value of the least mark of a key"),
+    ("zero-bits", "all_value compares decimals by their bits"),
+    ("has-key", "has_key looks at the first position only"),
+    ("stretch-clip", "the first stretch of a list isn't clipped"),
+    ("stretch-extra", "a stretch list has an unmarked stretch too many"),
+    ("needed-count", "counts stretches where u64 are asked for"),
+    ("whole-unmarked", "the whole-tank list has unmarked stretches in it"),
+    ("anchor-order", "starts come before ends"),
+    ("anchor-end", "an end stands one past the last position"),
+    ("run-count", "counts one run too many in a tank of 100 runs or more"),
+    ("malformed-line", "names the line after the malformed one"),
+];
+
+pub struct Faulty {
+    pub tanks: Tanks,
+    fault: String,
+    turn: u64,
+    seen: BTreeMap<(u64, Id), Content>,
+}
+
+impl Faulty {
+    /// Without a name there is no fault.
+    pub fn new(fault: &str) -> Self {
+        let known = fault.is_empty() || FAULTS.iter().any(|known| known.0 == fault);
+        assert!(known, "no fault is called {fault}");
+        Self { tanks: Tanks::default(), fault: fault.into(), turn: 0, seen: BTreeMap::new() }
+    }
+
+    pub fn malformed(&self, line: u64) -> u64 {
+        line + (self.fault == "malformed-line") as u64
+    }
+
+    pub fn call(&mut self, call: &Call) -> Answer {
+        let before = self.tanks.clone();
+        if let Some(answer) = self.instead(call) {
+            return answer;
+        }
+        let answer = self.tanks.call(call);
+        let answer = match answer {
+            Answer::Refused(number) => return self.refused(number, call, &before),
+            other => other,
+        };
+        self.afterwards(call, &before);
+        self.told(call, answer)
+    }
+
+    /// Faults that answer without carrying the call out.
+    fn instead(&mut self, call: &Call) -> Option<Answer> {
+        let eighth = |turn: &mut u64| {
+            *turn += 1;
+            *turn % 8 == 0
+        };
+        match (self.fault.as_str(), call) {
+            ("idle-annotate", Call::Annotate { .. }) | ("idle-delete", Call::Delete { .. }) => {
+                let accepted = self.tanks.clone().call(call) == Answer::Accepted;
+                (accepted && eighth(&mut self.turn)).then_some(Answer::Accepted)
+            }
+            ("fixed-slices", Call::Annotate { tank, .. }) => {
+                let mut after = self.tanks.clone();
+                let accepted = after.call(call) == Answer::Accepted;
+                let tank = *tank as usize;
+                let over = accepted && after.tanks[tank].runs() > after.settings[tank].0;
+                over.then_some(Answer::Refused(10))
+            }
+            ("early-count", Call::Annotate { tank, start, end, .. }) => {
+                let accepted = self.tanks.clone().call(call) == Answer::Accepted;
+                let place = *tank as usize;
+                let cut = |at: &u64| !self.tanks.tanks[place].boundaries().contains(at);
+                let early = |runs: u64| runs + cut(start) as u64 + cut(end) as u64;
+                let over = accepted
+                    && *end < self.tanks.tanks[place].length
+                    && early(self.tanks.tanks[place].runs()) > self.tanks.settings[place].1;
+                over.then_some(Answer::Refused(9))
+            }
+            ("stale-content" | "stale-marks", Call::Annotate { tank, mark, .. }) => {
+                let accepted = self.tanks.clone().call(call) == Answer::Accepted;
+                if !accepted {
+                    return None;
+                }
+                let place = (*tank, mark.id);
+                let other = self.seen.get(&place).is_some_and(|seen| *seen != mark.content);
+                let many = self.seen.keys().filter(|seen| seen.0 == *tank).count() >= 64;
+                if self.fault == "stale-content" && other {
+                    return Some(Answer::Refused(7));
+                }
+                if self.fault == "stale-marks" && many && !self.seen.contains_key(&place) {
+                    return Some(Answer::Refused(8));
+                }
+                self.seen.insert(place, mark.content);
+                None
+            }
+            (_, Call::Open { .. }) => {
+                self.seen.clear();
+                None
+            }
+            _ => None,
+        }
+    }
+
+    /// Faults in a refusal. The tanks stay as they were.
+    fn refused(&self, number: u8, call: &Call, before: &Tanks) -> Answer {
+        let nine = number == 9 && self.fault == "refusal-order";
+        if nine && before.pooled() >= 511 {
+            return Answer::Refused(10);
+        }
+        if self.fault != format!("refusal{number}") {
+            return Answer::Refused(number);
+        }
+        match call {
+            Call::Insert { .. } | Call::Marks { .. } | Call::Inherit { .. } => {
+                Answer::Marks(Vec::new())
+            }
+            Call::Remove { .. } => Answer::First(0),
+            Call::HasKey { .. } | Call::AllValue { .. } => Answer::Yes(false),
+            Call::Stretches { tank, .. } | Call::Whole { tank, .. } => {
+                Answer::Stretches(*tank, Vec::new())
+            }
+            Call::Anchors { .. } => Answer::Anchors(Vec::new()),
+            Call::Open { .. } | Call::Annotate { .. } | Call::Delete { .. } => Answer::Accepted,
+            _ => Answer::None,
+        }
+    }
+
+    /// Faults in what an accepted edit leaves.
+    fn afterwards(&mut self, call: &Call, before: &Tanks) {
+        match (self.fault.as_str(), *call) {
+            ("left-inherit", Call::Insert { tank, at, len }) => {
+                let old = &before.tanks[tank as usize];
+                if old.touched && 0 < at && at < old.length {
+                    for mark in listed(old.at(at - 1)) {
+                        self.tanks.call(&Call::Annotate { tank, start: at, end: at + len, mark });
+                    }
+                }
+            }
+            ("past-last", Call::Remove { tank, id, last }) => {
+                let old = &before.tanks[tank as usize];
+                let carried = old.at(last).contains_key(&id);
+                let ends = old.anchors().into_iter();
+                let end =
+                    ends.filter(|a| !a.start && a.id == id && a.at > last).map(|a| a.at).next();
+                if let (true, Some(last)) = (carried, end) {
+                    self.tanks.call(&Call::Remove { tank, id, last });
+                }
+            }
+            ("untouched-again", Call::Delete { tank, .. }) => {
+                let tank = &mut self.tanks.tanks[tank as usize];
+                tank.touched &= tank.length > 0;
+            }
+            ("untouched-insert", Call::Insert { tank, len, .. }) => {
+                let tank = &mut self.tanks.tanks[tank as usize];
+                if !tank.touched {
+                    tank.length = tank.length.saturating_add(len);
+                }
+            }
+            ("other-tank", Call::Annotate { tank: 1, .. }) => self.tanks.tanks[2].touched = true,
+            _ => {}
+        }
+    }
+
+    /// Faults in what is told.
+    fn told(&self, call: &Call, answer: Answer) -> Answer {
+        let tank = call.tank().unwrap_or(0) as usize;
+        let state = &self.tanks.tanks[tank];
+        match (self.fault.as_str(), call, answer) {
+            ("left-inherit", Call::Insert { at, .. }, Answer::Marks(_))
+                if *at > 0 && state.touched =>
+            {
+                Answer::Marks(listed(state.at(*at)))
+            }
+            (
+                "inherit-answer",
+                Call::Insert { .. } | Call::Inherit { .. },
+                Answer::Marks(mut marks),
+            ) => {
+                if marks.len() > 1 {
+                    marks.pop();
+                }
+                Answer::Marks(marks)
+            }
+            ("remove-index", Call::Remove { last, .. }, _) => Answer::First(last + 1),
+            ("set-order", _, Answer::Marks(mut marks)) => {
+                marks.sort_by_key(|mark| (mark.id.1, mark.id.2, mark.id.0));
+                Answer::Marks(marks)
+            }
+            ("same-none", Call::Same { .. }, Answer::Marks(marks)) if marks.is_empty() => {
+                Answer::None
+            }
+            ("same-set", Call::Same { .. }, Answer::None) => Answer::Marks(Vec::new()),
+            ("rank", Call::Mark { at, rank, .. }, _) => {
+                let marks = listed(state.at(*at));
+                let place = rank.saturating_sub(1) as usize;
+                marks.get(place).map_or(Answer::None, |mark| Answer::Mark(*mark))
+            }
+            ("null-none", _, Answer::Value(Value::Null)) => Answer::None,
+            ("winner", Call::Value { at, key, .. }, Answer::Value(_)) => {
+                let least = state.at(*at).iter().find(|(id, _)| id.0 == *key);
+                least.map_or(Answer::None, |(_, content)| Answer::Value(content.value))
+            }
+            ("zero-bits", Call::AllValue { start, key, value, .. }, Answer::Yes(true)) => {
+                Answer::Yes(state.value(*start, *key) == Some(*value))
+            }
+            ("has-key", Call::HasKey { start, key, .. }, Answer::Yes(true)) => {
+                Answer::Yes(state.has_key(*start, *start + 1, *key))
+            }
+            ("stretch-clip", Call::Stretches { .. }, Answer::Stretches(tank, mut list)) => {
+                if let Some(first) = list.first_mut() {
+                    let boundaries = state.boundaries().into_iter();
+                    first.from = boundaries.filter(|&at| at <= first.from).max().unwrap_or(0);
+                }
+                Answer::Stretches(tank, list)
+            }
+            ("stretch-extra", Call::Whole { .. }, Answer::Stretches(tank, mut list)) => {
+                if let Some(&last) = list.last() {
+                    list.push(crate::answer::Listed { from: last.to, to: last.to + 1, marks: 0 });
+                }
+                Answer::Stretches(tank, list)
+            }
+            ("needed-count", _, Answer::Needed(needed)) => Answer::Needed(needed / 3),
+            ("whole-unmarked", Call::Whole { .. }, Answer::Stretches(tank, _)) => {
+                let all = state.stretches(0, state.length);
+                Answer::Stretches(tank, crate::tank::listed(&all))
+            }
+            ("anchor-order", _, Answer::Anchors(mut list)) => {
+                list.sort_by_key(|a| (a.at + !a.start as u64, !a.start, a.id));
+                Answer::Anchors(list)
+            }
+            ("anchor-end", _, Answer::Anchors(mut list)) => {
+                list.iter_mut().for_each(|a| a.at += !a.start as u64);
+                Answer::Anchors(list)
+            }
+            ("run-count", _, Answer::Runs(runs)) if runs >= 100 => Answer::Runs(runs + 1),
+            (_, _, answer) => answer,
+        }
+    }
+}

@@ -1,0 +1,30 @@
+//! Comparing a console with the rules of document 01 and, inside the oracle domain, with the Rust.
+//!
+//! - `mark`, `call`, `answer`, `reader`: the console's protocol, lines in and lines out.
+//! - `tank`, `tanks`: the rules, as a model of positions.
+//! - `mirror`: the Rust beside the model, and the oracle domain.
+//! - `random`, `author`, `classes`, `exhaust`, `text`: scripts.
+//! - `console`, `check`, `shrink`, `tally`: running a console, comparing, making a finding small.
+//! - `faults`: wrong answers on purpose, to see that the comparison notices them.
+//! - `cases`: document 01's checked examples as calls.
+
+pub mod answer;
+pub mod author;
+pub mod call;
+pub mod cases;
+pub mod check;
+pub mod classes;
+pub mod console;
+pub mod exhaust;
+pub mod faults;
+pub mod mark;
+pub mod mirror;
+pub mod random;
+pub mod reader;
+pub mod refusals;
+pub mod script;
+pub mod shrink;
+pub mod tally;
+pub mod tank;
+pub mod tanks;
+pub mod text;

@@ -1,0 +1,301 @@
+//! The original beside the model: eight maps of the Rust, one for each tank, each of which gets
+//! the edits that lie inside document 01's oracle domain. An edit outside it that changes a tank
+//! takes that tank out of the comparison until the next opening.
+
+use std::cell::Cell;
+use std::collections::BTreeMap;
+use std::panic::{catch_unwind, set_hook, take_hook, AssertUnwindSafe};
+
+use original::{join_neighbours, LoroValue};
+
+use crate::answer::{Anchor, Answer, Listed};
+use crate::call::Call;
+use crate::mark::{Content, Id, Mark, Value};
+use crate::tank::Tank;
+use crate::tanks::Tanks;
+
+/// The Rust's answer to a call.
+#[derive(Clone, Debug, PartialEq)]
+pub enum Said {
+    /// The call lies outside the domain, or the answer isn't compared there.
+    Nothing,
+    /// An edit was carried out that answers nothing to compare.
+    Done,
+    Answer(Answer),
+    Panic(String),
+}
+
+pub struct Mirror {
+    joined: bool,
+    tanks: [Option<Original>; 8],
+}
+
+/// A map of the Rust, with the content under which each identity was first handed to it.
+struct Original {
+    map: original::Tank,
+    contents: BTreeMap<Id, Content>,
+}
+
+impl Mirror {
+    /// `joined` says which stand-in for the tree is used: one that joins equal neighbours or not.
+    pub fn new(joined: bool) -> Self {
+        Self { joined, tanks: fresh(joined) }
+    }
+
+    /// Follows a call that the model answers with `answer`, from the state `before` it.
+    pub fn call(&mut self, before: &Tanks, call: &Call, answer: &Answer) -> Said {
+        if let Call::Open { .. } = call {
+            self.tanks = fresh(self.joined);
+            return Said::Nothing;
+        }
+        if matches!(answer, Answer::Refused(_)) {
+            return Said::Nothing;
+        }
+        let place = call.tank().expect("every call but open names a tank") as usize;
+        let Some(original) = &mut self.tanks[place] else { return Said::Nothing };
+        let tank = &before.tanks[place];
+        if !inside(tank, call) || !original.one_content(call) {
+            if changes(tank, call) {
+                self.tanks[place] = None;
+            }
+            return Said::Nothing;
+        }
+        quietly(|| original.answer(tank, call, answer)).unwrap_or_else(Said::Panic)
+    }
+
+    /// Whether the Rust's map of a tank means what the model's tank means; nothing where the tank
+    /// has left the comparison.
+    pub fn agrees(&self, place: usize, tank: &Tank) -> Option<bool> {
+        let original = self.tanks[place].as_ref()?;
+        let ours = tank.stretches(0, tank.length);
+        let ours = ours.iter().map(|s| (s.from, s.to, crate::mark::listed(&s.set)));
+        let theirs = joined(original.map.elements());
+        Some(
+            tank.length == original.map.length() as u64
+                && tank.touched == original.map.has_style()
+                && ours.eq(theirs),
+        )
+    }
+}
+
+fn fresh(joined: bool) -> [Option<Original>; 8] {
+    join_neighbours(joined);
+    std::array::from_fn(|_| {
+        Some(Original { map: original::Tank::new(), contents: BTreeMap::new() })
+    })
+}
+
+/// Document 01's oracle domain, for a call that isn't refused.
+pub fn inside(tank: &Tank, call: &Call) -> bool {
+    match *call {
+        Call::Annotate { start, end, .. }
+        | Call::Delete { start, end, .. }
+        | Call::HasKey { start, end, .. }
+        | Call::AllValue { start, end, .. }
+        | Call::Same { start, end, .. }
+        | Call::Stretches { start, end, .. }
+        | Call::StretchesNeeded { start, end, .. } => start < end && end < tank.length,
+        Call::Insert { len, .. } => len >= 1,
+        Call::Remove { id, last, .. } => {
+            let after = last + 1;
+            let carries = |at: u64| tank.at(at).contains_key(&id);
+            after < tank.length && carries(last) && !carries(after)
+        }
+        Call::Value { at, .. } => at + 1 < tank.length,
+        Call::Marks { at, .. } | Call::Mark { at, .. } => tank.touched && at + 1 < tank.length,
+        Call::Inherit { at, .. } | Call::Inherited { at, .. } => at < tank.length,
+        Call::Anchors { .. } => one_anchor_of_a_kind(tank),
+        Call::Length { .. }
+        | Call::Touched { .. }
+        | Call::Runs { .. }
+        | Call::Whole { .. }
+        | Call::WholeNeeded { .. } => true,
+        Call::Open { .. } => false,
+    }
+}
+
+/// At most one end and one start at each boundary: neighbours in the list differ.
+fn one_anchor_of_a_kind(tank: &Tank) -> bool {
+    let list = tank.anchors();
+    list.windows(2).all(|two| (two[0].at, two[0].start) != (two[1].at, two[1].start))
+}
+
+fn changes(tank: &Tank, call: &Call) -> bool {
+    match *call {
+        Call::Annotate { .. } => true,
+        Call::Insert { .. } | Call::Delete { .. } => tank.touched,
+        Call::Remove { id, last, .. } => tank.at(last).contains_key(&id),
+        _ => false,
+    }
+}
+
+impl Original {
+    /// Keeps the content of an annotated identity; says no where it had another one before.
+    fn one_content(&mut self, call: &Call) -> bool {
+        match call {
+            Call::Annotate { mark, .. } => {
+                *self.contents.entry(mark.id).or_insert(mark.content) == mark.content
+            }
+            _ => true,
+        }
+    }
+
+    fn answer(&mut self, tank: &Tank, call: &Call, expected: &Answer) -> Said {
+        let map = &mut self.map;
+        match *call {
+            Call::Annotate { start, end, mark, .. } => {
+                map.annotate(start as usize..end as usize, &theirs(mark));
+                Said::Done
+            }
+            Call::Insert { at, len, .. } => {
+                let set = map.insert(at as usize, len as usize);
+                Said::Answer(Answer::Marks(ours(set)))
+            }
+            Call::Delete { start, end, .. } => {
+                map.delete(start as usize..end as usize);
+                Said::Done
+            }
+            Call::Remove { id, last, .. } => {
+                let first = map.remove(id, last as usize) as u64;
+                // The index is compared only where the stretch starts at 0.
+                match expected {
+                    Answer::First(0) => Said::Answer(Answer::First(first)),
+                    _ => Said::Done,
+                }
+            }
+            _ => asked(map, tank, call),
+        }
+    }
+}
+
+fn asked(map: &original::Tank, tank: &Tank, call: &Call) -> Said {
+    let number = call.tank().expect("a question names a tank");
+    Said::Answer(match *call {
+        Call::Length { .. } => Answer::Length(map.length() as u64),
+        Call::Touched { .. } => Answer::Touched(map.has_style()),
+        Call::Runs { .. } => Answer::Runs(joined(map.elements()).len() as u64),
+        Call::Value { at, key, .. } => match map.winner(at as usize, key) {
+            Some(mark) => Answer::Value(our_value(&mark.value)),
+            None => Answer::None,
+        },
+        Call::HasKey { start, end, key, .. } => {
+            Answer::Yes(map.has_key(start as usize..end as usize, key))
+        }
+        Call::AllValue { start, end, key, value, .. } => {
+            let value = their_value(value);
+            Answer::Yes(map.has_key_value(start as usize..end as usize, key, &value))
+        }
+        Call::Same { start, end, .. } => match map.styles_of_range(start as usize..end as usize) {
+            Some(set) => Answer::Marks(ours(set)),
+            None => return Said::Nothing,
+        },
+        Call::Marks { at, .. } => Answer::Marks(at_position(map, at)),
+        Call::Mark { at, rank, .. } => ranked(at_position(map, at), rank),
+        Call::Inherit { at, .. } => Answer::Marks(ours(map.styles_for_insert(at as usize))),
+        Call::Inherited { at, rank, .. } => ranked(ours(map.styles_for_insert(at as usize)), rank),
+        Call::Stretches { start, end, .. } => {
+            Answer::Stretches(number, listed(map.iter_range(start as usize..end as usize)))
+        }
+        Call::StretchesNeeded { start, end, .. } => {
+            Answer::Needed(3 * listed(map.iter_range(start as usize..end as usize)).len() as u64)
+        }
+        Call::Whole { .. } => Answer::Stretches(number, listed(map.iter())),
+        Call::WholeNeeded { .. } => Answer::Needed(3 * listed(map.iter()).len() as u64),
+        Call::Anchors { .. } => {
+            Answer::Anchors(map.anchors().into_iter().map(our_anchor).collect())
+        }
+        _ => unreachable!("{tank:?}: {call:?} is no question"),
+    })
+}
+
+fn at_position(map: &original::Tank, at: u64) -> Vec<Mark> {
+    let at = at as usize;
+    ours(map.styles_of_range(at..at + 1).expect("a touched tank answers a set"))
+}
+
+fn ranked(marks: Vec<Mark>, rank: u64) -> Answer {
+    marks.get(rank as usize).map_or(Answer::None, |mark| Answer::Mark(*mark))
+}
+
+/// The Rust's stretches with equal neighbours joined.
+fn joined(stretches: Vec<original::Stretch>) -> Vec<(u64, u64, Vec<Mark>)> {
+    let mut list: Vec<(u64, u64, Vec<Mark>)> = Vec::new();
+    for stretch in stretches {
+        let (from, to) = (stretch.range.start as u64, stretch.range.end as u64);
+        let marks = ours(stretch.marks);
+        match list.last_mut() {
+            Some(before) if before.1 == from && before.2 == marks => before.1 = to,
+            _ => list.push((from, to, marks)),
+        }
+    }
+    list
+}
+
+fn listed(stretches: Vec<original::Stretch>) -> Vec<Listed> {
+    let entry = |(from, to, marks): (u64, u64, Vec<Mark>)| {
+        let marks = marks.len() as u64;
+        Listed { from, to, marks }
+    };
+    joined(stretches).into_iter().map(entry).collect()
+}
+
+fn ours(marks: Vec<original::Mark>) -> Vec<Mark> {
+    let mark = |mark: original::Mark| Mark {
+        id: mark.id,
+        content: Content { flags: mark.flags, value: our_value(&mark.value) },
+    };
+    marks.into_iter().map(mark).collect()
+}
+
+fn theirs(mark: Mark) -> original::Mark {
+    let Mark { id, content } = mark;
+    original::Mark { id, flags: content.flags, value: their_value(content.value) }
+}
+
+fn our_anchor(anchor: original::Anchor) -> Anchor {
+    Anchor { at: anchor.at as u64, start: anchor.start, id: anchor.id }
+}
+
+fn our_value(value: &LoroValue) -> Value {
+    match *value {
+        LoroValue::Null => Value::Null,
+        LoroValue::Bool(yes) => Value::Bool(yes),
+        LoroValue::I64(whole) => Value::Whole(whole),
+        LoroValue::Double(decimal) => Value::Decimal(decimal.to_bits()),
+    }
+}
+
+fn their_value(value: Value) -> LoroValue {
+    match value {
+        Value::Null => LoroValue::Null,
+        Value::Bool(yes) => LoroValue::Bool(yes),
+        Value::Whole(whole) => LoroValue::I64(whole),
+        Value::Decimal(bits) => LoroValue::Double(f64::from_bits(bits)),
+    }
+}
+
+thread_local! {
+    /// Whether the Rust is being asked, so that a panic is an answer.
+    static ASKING: Cell<bool> = const { Cell::new(false) };
+}
+
+/// Lets the panics of `quietly` print nothing, and all others print as ever.
+pub fn hush() {
+    let usual = take_hook();
+    set_hook(Box::new(move |panic| {
+        if !ASKING.get() {
+            usual(panic);
+        }
+    }));
+}
+
+/// What the Rust answers, or the text of its panic.
+pub fn quietly<A>(ask: impl FnOnce() -> A) -> Result<A, String> {
+    ASKING.set(true);
+    let answer = catch_unwind(AssertUnwindSafe(ask));
+    ASKING.set(false);
+    answer.map_err(|cause| match cause.downcast::<String>() {
+        Ok(text) => *text,
+        Err(cause) => cause.downcast_ref::<&str>().unwrap_or(&"").to_string(),
+    })
+}

@@ -1,0 +1,124 @@
+//! The console's input: bytes to calls, or the number of the first malformed line.
+
+use crate::call::{Call, Field, SHAPES};
+use crate::mark::Value;
+
+/// A line's bytes before its newline, at most.
+const LONGEST_LINE: usize = 64;
+
+/// What an input holds: its whole groups, where they end, and the malformed line after them.
+pub struct Read {
+    pub calls: Vec<Call>,
+    pub whole: usize,
+    pub malformed: Option<u64>,
+}
+
+pub fn read(input: &[u8]) -> Read {
+    let mut read = Read { calls: Vec::new(), whole: 0, malformed: None };
+    let mut group: Option<Group> = None;
+    let mut at = 0;
+    let mut newlines = 0;
+    while let Some(len) = input[at..].iter().position(|&byte| byte == b'\n') {
+        let line = &input[at..at + len];
+        let Some(step) = taken(group.take(), line) else {
+            read.malformed = Some(newlines + 1);
+            return read;
+        };
+        at += len + 1;
+        newlines += 1;
+        match step {
+            Step::Within(more) => group = Some(more),
+            Step::Whole(call) => {
+                read.calls.push(call);
+                read.whole = at;
+            }
+        }
+    }
+    if at < input.len() || group.is_some() {
+        read.malformed = Some(newlines + 1);
+    }
+    read
+}
+
+/// A group of which some lines have come.
+struct Group {
+    shape: usize,
+    lines: usize,
+    fields: Vec<Field>,
+    kind: String,
+}
+
+enum Step {
+    Within(Group),
+    Whole(Call),
+}
+
+/// One more line; nothing where it is malformed.
+fn taken(group: Option<Group>, line: &[u8]) -> Option<Step> {
+    if line.len() > LONGEST_LINE {
+        return None;
+    }
+    let (name, text) = std::str::from_utf8(line).ok()?.split_once('=')?;
+    let Some(mut group) = group else {
+        let shape = SHAPES.iter().position(|shape| name == "op" && shape.0 == text)?;
+        let fields = Vec::new();
+        return Some(Step::Within(Group { shape, lines: 0, fields, kind: String::new() }));
+    };
+    let names = SHAPES[group.shape].1;
+    if names[group.lines] != name {
+        return None;
+    }
+    match name {
+        "kind" => {
+            group.kind =
+                ["null", "bool", "whole", "decimal"].contains(&text).then(|| text.into())?
+        }
+        "value" => group.fields.push(Field::Value(value(&group.kind, text)?)),
+        _ => group.fields.push(Field::Number(number(text, largest(name))?)),
+    }
+    group.lines += 1;
+    if group.lines == names.len() {
+        return Some(Step::Whole(Call::of(group.shape, &group.fields)));
+    }
+    Some(Step::Within(group))
+}
+
+fn largest(name: &str) -> u64 {
+    match name {
+        "key" => u16::MAX as u64,
+        "lamport" => u32::MAX as u64,
+        "flags" => u8::MAX as u64,
+        _ => u64::MAX,
+    }
+}
+
+/// Decimal digits without leading zeros.
+fn number(text: &str, largest: u64) -> Option<u64> {
+    let digits = !text.is_empty() && text.bytes().all(|byte| byte.is_ascii_digit());
+    let plain = digits && (text == "0" || !text.starts_with('0'));
+    text.parse().ok().filter(|&number| plain && number <= largest)
+}
+
+fn value(kind: &str, text: &str) -> Option<Value> {
+    match kind {
+        "null" => text.is_empty().then_some(Value::Null),
+        "bool" => number(text, 1).map(|bit| Value::Bool(bit == 1)),
+        "whole" => whole(text).map(Value::Whole),
+        _ => {
+            let hex = |byte: u8| byte.is_ascii_digit() || (b'a'..=b'f').contains(&byte);
+            let sixteen = text.len() == 16 && text.bytes().all(hex);
+            sixteen.then(|| u64::from_str_radix(text, 16).ok())?.map(Value::Decimal)
+        }
+    }
+}
+
+/// A signed number, never -0.
+fn whole(text: &str) -> Option<i64> {
+    match text.strip_prefix('-') {
+        Some(digits) => {
+            let size = number(digits, 1 << 63).filter(|&size| size > 0)?;
+            Some((size as i64).wrapping_neg())
+        }
+        None => number(text, i64::MAX as u64).map(|size| size as i64),
+    }
+}

@@ -1,0 +1,213 @@
+//! Every refusal of every call that can get it, and what lies just beside it.
+
+use crate::call::{Call, Settings};
+use crate::classes::ROOMY;
+use crate::mark::{Content, Id, Mark, Value};
+use crate::tank::{LONGEST, T};
+
+const ID: Id = (1, 5, 1);
+const NAN: Value = Value::Decimal(0x7ff8_0000_0000_0000);
+
+fn mark(number: u64) -> Mark {
+    Mark { id: (1, 5, number), content: Content { flags: 0x84, value: Value::Whole(-1) } }
+}
+
+fn with(value: Value, flags: u8) -> Mark {
+    Mark { id: ID, content: Content { flags, value } }
+}
+
+fn annotate(tank: u64, start: u64, end: u64, mark: Mark) -> Call {
+    Call::Annotate { tank, start, end, mark }
+}
+
+/// All calls but the opening, with these numbers.
+fn every(tank: u64, start: u64, end: u64) -> Vec<Call> {
+    let (at, last, len, key, room, rank) = (end, end, end - start, 1, 1536, 0);
+    vec![
+        annotate(tank, start, end, mark(1)),
+        Call::Insert { tank, at, len },
+        Call::Delete { tank, start, end },
+        Call::Remove { tank, id: ID, last },
+        Call::Length { tank },
+        Call::Touched { tank },
+        Call::Runs { tank },
+        Call::Value { tank, at, key },
+        Call::HasKey { tank, start, end, key },
+        Call::AllValue { tank, start, end, key, value: Value::Null },
+        Call::Same { tank, start, end },
+        Call::Marks { tank, at },
+        Call::Inherit { tank, at },
+        Call::Mark { tank, at, rank },
+        Call::Inherited { tank, at, rank },
+        Call::Stretches { tank, start, end, room },
+        Call::StretchesNeeded { tank, start, end },
+        Call::Whole { tank, room },
+        Call::WholeNeeded { tank },
+        Call::Anchors { tank, room },
+    ]
+}
+
+/// Openings that the rule allows and does not allow.
+fn openings() -> Vec<Call> {
+    let mut list: Vec<Settings> = vec![[(64, 64); 8], [(1, 512); 8], ROOMY];
+    for (place, pair) in [(0, (0, 1)), (7, (2, 1)), (3, (1, 513)), (5, (65537, 65537))] {
+        let mut settings = [(1, 1); 8];
+        settings[place] = pair;
+        list.push(settings);
+    }
+    let mut over = [(64, 512); 8];
+    over[7].0 = 65;
+    list.push(over);
+    list.push([(u64::MAX, u64::MAX); 8]);
+    list.into_iter().map(|settings| Call::Open { settings }).collect()
+}
+
+/// Refusal 1, 3 and 4, untouched and touched.
+fn ranges() -> Vec<Call> {
+    let mut calls = vec![Call::Open { settings: [(1, 8); 8] }];
+    for tank in [8, 256, 1 << 32, u64::MAX] {
+        calls.extend(every(tank, 0, 1));
+    }
+    for touch in [None, Some(annotate(0, 0, T, with(Value::Null, 0)))] {
+        calls.extend(touch);
+        calls.extend(every(0, 5, 5));
+        calls.extend(every(0, T - 1, T));
+        calls.extend(every(0, T, T + 1));
+        calls.extend(every(0, 0, u64::MAX));
+    }
+    calls.push(Call::HasKey { tank: 0, start: u64::MAX, end: 0, key: 1 });
+    calls.push(Call::Stretches { tank: 0, start: u64::MAX, end: T + 1, room: 0 });
+    calls
+}
+
+/// Refusal 5 around the largest length.
+fn longest() -> Vec<Call> {
+    let tank = 0;
+    vec![
+        Call::Open { settings: ROOMY },
+        Call::Insert { tank, at: T, len: u64::MAX },
+        annotate(tank, 1, 2, mark(1)),
+        Call::Insert { tank, at: 0, len: LONGEST - T + 1 },
+        Call::Insert { tank, at: 0, len: u64::MAX },
+        Call::Insert { tank, at: 2, len: LONGEST - T },
+        Call::Length { tank },
+        Call::Insert { tank, at: LONGEST, len: 1 },
+        Call::Insert { tank, at: LONGEST + 1, len: 1 },
+        Call::Delete { tank, start: LONGEST - 1, end: LONGEST },
+        Call::Insert { tank, at: LONGEST - 1, len: 1 },
+        Call::Whole { tank, room: 3 },
+        Call::Delete { tank, start: 0, end: LONGEST },
+        Call::Length { tank },
+        Call::Runs { tank },
+        Call::Touched { tank },
+        Call::Inherit { tank, at: 0 },
+        Call::Marks { tank, at: 0 },
+        Call::Anchors { tank, room: 0 },
+        annotate(tank, 0, 1, mark(1)),
+        Call::Insert { tank, at: 0, len: 1 },
+    ]
+}
+
+/// Refusals 6, 7 and 8.
+fn contents() -> Vec<Call> {
+    let tank = 0;
+    let zero = Value::Decimal(0);
+    let minus = Value::Decimal(0x8000_0000_0000_0000);
+    let ask = |start, end, value| Call::AllValue { tank, start, end, key: 1, value };
+    let mut calls = vec![
+        Call::Open { settings: ROOMY },
+        annotate(tank, 0, 4, with(NAN, 0x84)),
+        ask(0, 4, NAN),
+        ask(4, 4, NAN),
+        annotate(tank, 0, 4, with(zero, 0x84)),
+        annotate(tank, 4, 6, with(minus, 0x84)),
+        annotate(tank, 4, 6, with(zero, 0x04)),
+        annotate(tank, 4, 6, with(Value::Whole(0), 0x84)),
+        annotate(tank, 4, 6, with(NAN, 0x84)),
+        ask(0, 4, minus),
+        ask(0, 4, Value::Whole(0)),
+        ask(0, 5, zero),
+        Call::Value { tank, at: 3, key: 1 },
+        Call::Remove { tank, id: ID, last: 3 },
+        annotate(tank, 4, 6, with(minus, 0x84)),
+        Call::Value { tank, at: 5, key: 1 },
+        annotate(1, 0, 1, with(zero, 0x00)),
+        Call::Delete { tank, start: 4, end: 6 },
+    ];
+    calls.extend((1..=65).map(|peer| annotate(tank, peer, peer + 70, mark(peer))));
+    calls.push(annotate(tank, 0, 9, mark(64)));
+    calls.push(Call::Marks { tank, at: 70 });
+    calls.push(Call::Mark { tank, at: 70, rank: 63 });
+    calls.push(Call::Mark { tank, at: 70, rank: 64 });
+    calls.push(Call::Delete { tank, start: 0, end: 2 });
+    calls.push(annotate(tank, 0, 9, mark(65)));
+    calls.push(Call::Delete { tank, start: 0, end: 70 });
+    calls.push(annotate(tank, 0, 9, mark(65)));
+    calls.push(Call::Anchors { tank, room: 127 });
+    calls.push(Call::Anchors { tank, room: 1 << 40 });
+    calls
+}
+
+/// Refusal 9 of each edit, and refusal 11 of each list.
+fn limit() -> Vec<Call> {
+    let tank = 0;
+    vec![
+        Call::Open { settings: [(1, 4); 8] },
+        annotate(tank, 10, 20, mark(1)),
+        annotate(tank, 12, 18, mark(2)),
+        annotate(tank, 10, 30, mark(2)),
+        annotate(tank, 40, 50, mark(1)),
+        Call::Insert { tank, at: 10, len: 1 },
+        Call::Remove { tank, id: ID, last: 15 },
+        Call::Remove { tank, id: (1, 5, 2), last: 25 },
+        annotate(tank, 21, 26, mark(1)),
+        Call::Runs { tank },
+        Call::Stretches { tank, start: 0, end: 40, room: 11 },
+        Call::Stretches { tank, start: 0, end: 40, room: 12 },
+        Call::Stretches { tank, start: 13, end: 25, room: 6 },
+        Call::StretchesNeeded { tank, start: 13, end: 25 },
+        Call::Whole { tank, room: 5 },
+        Call::Whole { tank, room: 6 },
+        Call::Anchors { tank, room: 3 },
+        Call::Anchors { tank, room: 4 },
+        Call::Delete { tank, start: 18, end: 22 },
+        annotate(tank, 1, 2, mark(1)),
+        annotate(tank, 0, T - 4, mark(1)),
+        annotate(tank, 0, T - 4, mark(2)),
+        Call::Runs { tank },
+    ]
+}
+
+/// Refusal 10 of each edit: tank 7 takes what the others leave of 512 runs.
+fn pool() -> Vec<Call> {
+    let tank = 7;
+    let mut settings = [(1, 4); 8];
+    settings[7] = (1, 512);
+    let mut calls = vec![
+        Call::Open { settings },
+        annotate(0, 10, 20, mark(1)),
+        annotate(0, 20, 30, mark(2)),
+        annotate(tank, 2000, 2010, mark(1)),
+        annotate(tank, 2000, 2010, mark(2)),
+    ];
+    let alone = |number: u64| {
+        let start = 2 * number + 1;
+        annotate(tank, start, start + 1, mark(number % 3 + 1))
+    };
+    calls.extend((0..251).map(alone));
+    calls.push(annotate(tank, 498, 499, mark(5)));
+    calls.extend((0..8).map(|tank| Call::Runs { tank }));
+    calls.push(annotate(1, 0, 1, mark(1)));
+    calls.push(Call::Insert { tank, at: 498, len: 1 });
+    calls.push(Call::Remove { tank, id: ID, last: 2004 });
+    calls.push(annotate(0, 40, 50, mark(1)));
+    calls.push(Call::Remove { tank: 0, id: ID, last: 19 });
+    calls.push(Call::Remove { tank, id: ID, last: 2004 });
+    calls.push(Call::Whole { tank, room: 750 });
+    calls.push(Call::WholeNeeded { tank });
+    calls
+}
+
+pub fn refusals() -> Vec<Call> {
+    [openings(), ranges(), longest(), contents(), limit(), pool()].concat()
+}

@@ -1,0 +1,199 @@
+//! Eight tanks with shares and limits, and the answer to every call: document 01's refusal table
+//! over the rules of one tank. The tests of a call stand in the order of their numbers.
+
+use crate::answer::Answer;
+use crate::call::{Call, Settings};
+use crate::mark::{listed, Mark, Set};
+use crate::tank::{self, Tank, LONGEST};
+
+/// Runs in all.
+pub const POOL: u64 = 512;
+/// Different marks that one tank carries at most.
+pub const MARKS: usize = 64;
+/// The console's own buffers, in u64 and in anchor records.
+const STRETCH_ROOM: u64 = 1536;
+const ANCHOR_ROOM: u64 = 32768;
+
+#[derive(Clone, Debug, PartialEq)]
+pub struct Tanks {
+    pub settings: Settings,
+    pub tanks: [Tank; 8],
+}
+
+impl Default for Tanks {
+    fn default() -> Self {
+        Self { settings: [(1, 1); 8], tanks: Default::default() }
+    }
+}
+
+/// A refusal's number ends the call.
+type Judged<A> = Result<A, u8>;
+
+fn refuse_if(applies: bool, number: u8) -> Judged<()> {
+    if applies {
+        Err(number)
+    } else {
+        Ok(())
+    }
+}
+
+impl Tanks {
+    /// Carries a call out and answers it.
+    pub fn call(&mut self, call: &Call) -> Answer {
+        self.judged(call).unwrap_or_else(Answer::Refused)
+    }
+
+    fn judged(&mut self, call: &Call) -> Judged<Answer> {
+        if let Call::Open { settings } = *call {
+            return self.open(settings);
+        }
+        let tank = call.tank().expect("every call but open names a tank");
+        refuse_if(tank >= 8, 1)?;
+        match *call {
+            Call::Annotate { start, end, mark, .. } => self.annotate(tank, start, end, mark),
+            Call::Insert { at, len, .. } => self.insert(tank, at, len),
+            Call::Delete { start, end, .. } => {
+                self.edit_range(tank, start, end)?;
+                self.edit(tank, |t| t.delete(start, end))?;
+                Ok(Answer::Accepted)
+            }
+            Call::Remove { id, last, .. } => {
+                refuse_if(last >= self.tank(tank).length, 4)?;
+                Ok(Answer::First(self.edit(tank, |t| t.remove(id, last))?))
+            }
+            _ => self.asked(tank, call),
+        }
+    }
+
+    fn tank(&self, tank: u64) -> &Tank {
+        &self.tanks[tank as usize]
+    }
+
+    fn open(&mut self, settings: Settings) -> Judged<Answer> {
+        *self = Tanks::default();
+        let pair = |&(share, limit): &(u64, u64)| 1 <= share && share <= limit && limit <= POOL;
+        refuse_if(!settings.iter().all(pair), 2)?;
+        refuse_if(settings.iter().map(|pair| pair.0).sum::<u64>() > POOL, 2)?;
+        self.settings = settings;
+        Ok(Answer::Accepted)
+    }
+
+    fn edit_range(&self, tank: u64, start: u64, end: u64) -> Judged<()> {
+        refuse_if(start >= end, 3)?;
+        refuse_if(end > self.tank(tank).length, 4)
+    }
+
+    fn annotate(&mut self, tank: u64, start: u64, end: u64, mark: Mark) -> Judged<Answer> {
+        self.edit_range(tank, start, end)?;
+        refuse_if(mark.content.value.is_nan(), 6)?;
+        let carried = self.tank(tank).carried();
+        let known = carried.get(&mark.id);
+        refuse_if(known.is_some_and(|content| *content != mark.content), 7)?;
+        refuse_if(known.is_none() && carried.len() >= MARKS, 8)?;
+        self.edit(tank, |t| t.annotate(start, end, mark))?;
+        Ok(Answer::Accepted)
+    }
+
+    fn insert(&mut self, tank: u64, at: u64, len: u64) -> Judged<Answer> {
+        refuse_if(len == 0, 3)?;
+        let Tank { length, touched, .. } = *self.tank(tank);
+        refuse_if(at > length, 4)?;
+        refuse_if(touched && len > LONGEST - length, 5)?;
+        let inherited = self.edit(tank, |t| t.insert(at, len))?;
+        Ok(Answer::Marks(listed(&inherited)))
+    }
+
+    /// Tries an edit on a copy of the tank, and keeps it where the runs after it are allowed.
+    fn edit<A>(&mut self, tank: u64, edit: impl FnOnce(&mut Tank) -> A) -> Judged<A> {
+        let mut after = self.tank(tank).clone();
+        let answer = edit(&mut after);
+        refuse_if(after.runs() > self.settings[tank as usize].1, 9)?;
+        let before = std::mem::replace(&mut self.tanks[tank as usize], after);
+        if self.pooled() > POOL {
+            self.tanks[tank as usize] = before;
+            return Err(10);
+        }
+        Ok(answer)
+    }
+
+    /// The sum, over tanks, of the larger of runs held and share.
+    pub fn pooled(&self) -> u64 {
+        let larger = |(tank, pair): (&Tank, &(u64, u64))| tank.runs().max(pair.0);
+        self.tanks.iter().zip(&self.settings).map(larger).sum()
+    }
+
+    fn asked(&self, number: u64, call: &Call) -> Judged<Answer> {
+        let tank = self.tank(number);
+        let position = |at: u64| refuse_if(at >= tank.length, 4);
+        let place = |at: u64| refuse_if(at > tank.length, 4);
+        let inside = |start: u64, end: u64| refuse_if(start < end && end > tank.length, 4);
+        Ok(match *call {
+            Call::Length { .. } => Answer::Length(tank.length),
+            Call::Touched { .. } => Answer::Touched(tank.touched),
+            Call::Runs { .. } => Answer::Runs(tank.runs()),
+            Call::Value { at, key, .. } => {
+                position(at)?;
+                tank.value(at, key).map_or(Answer::None, Answer::Value)
+            }
+            Call::HasKey { start, end, key, .. } => {
+                inside(start, end)?;
+                Answer::Yes(tank.has_key(start, end, key))
+            }
+            Call::AllValue { start, end, key, value, .. } => {
+                inside(start, end)?;
+                refuse_if(start < end && value.is_nan(), 6)?;
+                Answer::Yes(tank.all_value(start, end, key, value))
+            }
+            Call::Same { start, end, .. } => {
+                self.edit_range(number, start, end)?;
+                tank.same(start, end).map_or(Answer::None, |set| Answer::Marks(listed(&set)))
+            }
+            Call::Marks { at, .. } => {
+                position(at)?;
+                Answer::Marks(listed(tank.at(at)))
+            }
+            Call::Mark { at, rank, .. } => {
+                position(at)?;
+                ranked(tank.at(at), rank)
+            }
+            Call::Inherit { at, .. } => {
+                place(at)?;
+                Answer::Marks(listed(&tank.inherited(at)))
+            }
+            Call::Inherited { at, rank, .. } => {
+                place(at)?;
+                ranked(&tank.inherited(at), rank)
+            }
+            Call::Stretches { start, end, room, .. } => {
+                inside(start, end)?;
+                lent(number, &tank.stretches(start, end), room)?
+            }
+            Call::StretchesNeeded { start, end, .. } => {
+                inside(start, end)?;
+                Answer::Needed(3 * tank.stretches(start, end).len() as u64)
+            }
+            Call::Whole { room, .. } => lent(number, &tank.whole(), room)?,
+            Call::WholeNeeded { .. } => Answer::Needed(3 * tank.whole().len() as u64),
+            Call::Anchors { room, .. } => {
+                let list = tank.anchors();
+                refuse_if(list.len() as u64 > room.min(ANCHOR_ROOM), 11)?;
+                Answer::Anchors(list)
+            }
+            Call::Open { .. }
+            | Call::Annotate { .. }
+            | Call::Insert { .. }
+            | Call::Delete { .. }
+            | Call::Remove { .. } => unreachable!("an edit is no question"),
+        })
+    }
+}
+
+fn ranked(set: &Set, rank: u64) -> Answer {
+    let place = usize::try_from(rank).unwrap_or(usize::MAX);
+    listed(set).get(place).map_or(Answer::None, |mark| Answer::Mark(*mark))
+}
+
+fn lent(tank: u64, stretches: &[tank::Stretch], room: u64) -> Judged<Answer> {
+    refuse_if(3 * stretches.len() as u64 > room.min(STRETCH_ROOM), 11)?;
+    Ok(Answer::Stretches(tank, tank::listed(stretches)))
+}

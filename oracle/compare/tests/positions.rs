@@ -1,0 +1,127 @@
+//! The model keeps equal neighbours in one entry. Here each position of a short tank has a set of
+//! its own, and every rule is written out position by position; both must tell the same.
+
+use std::collections::BTreeSet;
+
+use compare::author::{identity, usual};
+use compare::mark::{Id, Mark};
+use compare::random::Random;
+use compare::tank::{Tank, T};
+
+type Positions = Vec<BTreeSet<Id>>;
+
+fn inherited(all: &Positions, at: usize) -> BTreeSet<Id> {
+    if at == 0 || at == all.len() {
+        return BTreeSet::new();
+    }
+    all[at - 1].intersection(&all[at]).copied().collect()
+}
+
+fn removed(all: &mut Positions, id: Id, last: usize) -> usize {
+    let mut first = last + 1;
+    while first > 0 && all[first - 1].remove(&id) {
+        first -= 1;
+    }
+    first
+}
+
+/// A touched tank of a few positions without marks, and its positions.
+fn short(random: &mut Random) -> (Tank, Positions) {
+    let mut tank = Tank::default();
+    let id = identity(0);
+    tank.annotate(0, 1, Mark { id, content: usual(id) });
+    let left = random.below(9);
+    tank.delete(0, T - left);
+    (tank, vec![BTreeSet::new(); left as usize])
+}
+
+fn edit(random: &mut Random, tank: &mut Tank, all: &mut Positions) {
+    let length = all.len() as u64;
+    let id = identity(random.below(4));
+    let start = random.below(length);
+    let end = start + 1 + random.below(length - start.min(length));
+    match random.below(5) {
+        _ if length == 0 => {
+            tank.insert(0, 3);
+            all.extend([const { BTreeSet::new() }; 3]);
+        }
+        0 | 1 => {
+            tank.annotate(start, end, Mark { id, content: usual(id) });
+            all[start as usize..end as usize].iter_mut().for_each(|set| {
+                set.insert(id);
+            });
+        }
+        2 => {
+            let at = random.below(length + 1);
+            let set = inherited(all, at as usize);
+            let answer = tank.insert(at, 2);
+            assert!(answer.keys().eq(set.iter()));
+            all.splice(at as usize..at as usize, [set.clone(), set]);
+        }
+        3 => {
+            tank.delete(start, end);
+            all.drain(start as usize..end as usize);
+        }
+        _ => assert_eq!(tank.remove(id, start), removed(all, id, start as usize) as u64),
+    }
+}
+
+fn same(tank: &Tank, all: &Positions) {
+    assert_eq!(tank.length, all.len() as u64);
+    for (at, set) in all.iter().enumerate() {
+        assert!(tank.at(at as u64).keys().eq(set.iter()));
+    }
+    let starts = |at: &usize| *at == 0 || all[*at] != all[*at - 1];
+    assert_eq!(tank.runs(), (0..all.len()).filter(starts).count() as u64);
+    let mut anchors = Vec::new();
+    for at in 0..=all.len() {
+        let nothing = BTreeSet::new();
+        let left = if at == 0 { &nothing } else { &all[at - 1] };
+        let right = all.get(at).unwrap_or(&nothing);
+        anchors.extend(left.difference(right).map(|&id| (at as u64 - 1, false, id)));
+        anchors.extend(right.difference(left).map(|&id| (at as u64, true, id)));
+    }
+    let told: Vec<_> = tank.anchors().iter().map(|a| (a.at, a.start, a.id)).collect();
+    assert_eq!(told, anchors);
+    for start in 0..all.len() {
+        for end in start + 1..=all.len() {
+            range(tank, all, start, end);
+        }
+    }
+}
+
+fn range(tank: &Tank, all: &Positions, start: usize, end: usize) {
+    let part = &all[start..end];
+    let list = tank.stretches(start as u64, end as u64);
+    let told = list.iter().flat_map(|s| (s.from..s.to).map(|_| s.set.keys().copied().collect()));
+    assert_eq!(told.collect::<Positions>(), part);
+    assert!(list.windows(2).all(|two| two[0].to == two[1].from && two[0].set != two[1].set));
+    for key in 0..4 {
+        let winner = |set: &BTreeSet<Id>| set.iter().filter(|id| id.0 == key).max().copied();
+        let any = part.iter().any(|set| winner(set).is_some());
+        assert_eq!(tank.has_key(start as u64, end as u64, key), any);
+        let Some(id) = winner(&part[0]) else { continue };
+        let value = usual(id).value;
+        assert_eq!(tank.value(start as u64, key), Some(value));
+        let shown = |set| winner(set).is_some_and(|id| usual(id).value.shows(value));
+        assert_eq!(tank.all_value(start as u64, end as u64, key, value), part.iter().all(shown));
+    }
+    let shared = part.iter().all(|set| *set == part[0]);
+    assert_eq!(tank.same(start as u64, end as u64).is_some(), shared);
+}
+
+#[test]
+fn entries_mean_positions() {
+    for seed in 0..300 {
+        let mut random = Random::new(seed);
+        let (mut tank, mut all) = short(&mut random);
+        for _ in 0..30 {
+            edit(&mut random, &mut tank, &mut all);
+            same(&tank, &all);
+            if all.len() > 12 {
+                tank.delete(12, all.len() as u64);
+                all.truncate(12);
+            }
+        }
+    }
+}

@@ -1,0 +1,78 @@
+//! The console's lines: what is written is read back, and what is malformed is named.
+
+use compare::call::SHAPES;
+use compare::classes::CLASSES;
+use compare::reader::read;
+
+#[test]
+fn calls_are_read_as_they_were_written() {
+    for class in &CLASSES {
+        let script = class.script(5, 400);
+        let read = read(&script.text());
+        assert_eq!(read.malformed, None);
+        assert_eq!(read.calls, script.calls);
+    }
+}
+
+#[test]
+fn every_op_is_written_by_some_class() {
+    let mut seen = vec![false; SHAPES.len()];
+    for class in &CLASSES {
+        class.script(2, 400).calls.iter().for_each(|call| seen[call.shape()] = true);
+    }
+    assert!(seen.iter().all(|&seen| seen));
+}
+
+#[test]
+fn malformed_lines_are_counted_from_one() {
+    let malformed = |text: &str| read(text.as_bytes()).malformed;
+    assert_eq!(malformed(""), None);
+    assert_eq!(malformed("op=length\ntank=0\n"), None);
+    assert_eq!(malformed("\n"), Some(1));
+    assert_eq!(malformed("op=length"), Some(1));
+    assert_eq!(malformed("op=length\n"), Some(2));
+    assert_eq!(malformed("op=length\ntank=0"), Some(2));
+    assert_eq!(malformed("op=length\ntank=00\n"), Some(2));
+    assert_eq!(malformed("op=length\ntank=18446744073709551615\n"), None);
+    assert_eq!(malformed("op=length\ntank=18446744073709551616\n"), Some(2));
+    assert_eq!(malformed("op=length\ntank=0\nop=length\nat=0\n"), Some(4));
+    assert_eq!(malformed(&format!("op=length\n{}\n", "0".repeat(65))), Some(2));
+}
+
+#[test]
+fn values_are_read_by_their_kind() {
+    let text = |kind: &str, value: &str| {
+        format!("op=all_value\ntank=0\nstart=0\nend=1\nkey=65535\nkind={kind}\nvalue={value}\n")
+    };
+    let good = [
+        ("null", ""),
+        ("bool", "0"),
+        ("bool", "1"),
+        ("whole", "0"),
+        ("whole", "-1"),
+        ("whole", "-9223372036854775808"),
+        ("whole", "9223372036854775807"),
+        ("decimal", "7ff8000000000000"),
+    ];
+    let bad = [
+        ("null", "0"),
+        ("bool", ""),
+        ("bool", "2"),
+        ("bool", "01"),
+        ("whole", "-0"),
+        ("whole", "00"),
+        ("whole", "+1"),
+        ("whole", "-9223372036854775809"),
+        ("whole", "9223372036854775808"),
+        ("decimal", "7FF8000000000000"),
+        ("decimal", "7ff800000000000"),
+        ("decimal", "7ff80000000000000"),
+    ];
+    for (kind, value) in good {
+        assert_eq!(read(text(kind, value).as_bytes()).malformed, None, "{kind} {value}");
+    }
+    for (kind, value) in bad {
+        assert_eq!(read(text(kind, value).as_bytes()).malformed, Some(7), "{kind} {value}");
+    }
+    assert_eq!(read(text("real", "0").as_bytes()).malformed, Some(6));
+}

@@ -1,0 +1,2 @@
+// Stands in for container.rs: the one child that is compiled.
+pub mod richtext;
