@@ -16,3 +16,7 @@ pub mod GrowLaws
 pub mod StripLaws
 pub mod InsertLaws
 pub mod RemoveLaws
+pub mod Sequences
+pub mod Ranges
+pub mod OnRuns
+pub mod Examples

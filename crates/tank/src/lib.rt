@@ -73,24 +73,13 @@ fn room_for(table: [Mark; 64], n: usize, mark: Mark) -> Room
     Room::New(at)
 }
 
-// The empty set.
-fn no_marks() -> Styles
-    ensures { λ r. ⌜ r ≡ stylesOf [] ⌝ }
-{
-    let blank = styles::table::blank();
-    Styles {
-        count: 0,
-        marks: [blank; 64],
-    }
-}
-
 // The tank as it was, beside the refusal's number.
 fn not_inserted(number: u64, tank: Tank) -> Inserted
     ensures { λ r. ⌜ (r .number ≡ number) × (r .styles ≡ stylesOf []) × (r .tank ≡ tank) ⌝ }
 {
     Inserted {
         number: number,
-        styles: no_marks(),
+        styles: styles::table::no_marks(),
         tank: tank,
     }
 }

@@ -1,0 +1,35 @@
+-- `list_range` meets its contract: no such tank, or the tank taken out writes its list.
+use mathlib.Core.Path.{refl}
+use lib.ListN.{length}
+use borrow.Author.Needs.{needs}
+use Rattle.lists.specs.Lists.{rangeList, rangeNumber, unlessRefused, inFront, answered}
+use Rattle.ask.specs.Asks.{noList}
+use Rattle.ask.proofs.AskLaws.{past, inside}
+use Rattle.ask.proofs.list_range.Statement.{statement}
+use Rattle.ask.proofs.list_range.Tie as tie
+use Rattle.ask.proofs.list_range.Reads as reads
+use Rattle.ask.proofs.list_range.Lts as lts
+
+returns : tie.Need-returns
+returns c =
+    let s = c .before .before .before in (
+      past (s .args .s) (s .args .tank) noList (λ v. answered (rangeNumber (s .args .start) (s .args .end) (length (s .args .out .now)) v) (rangeList (s .args .start) (s .args .end) v)) (c .before .if1 .taken) (c .no-list .ensures),
+      past (s .args .s) (s .args .tank) (s .args .out .now) (λ v. inFront (unlessRefused (rangeNumber (s .args .start) (s .args .end) (length (s .args .out .now)) v) (rangeList (s .args .start) (s .args .end) v)) (s .args .out .now)) (c .before .if1 .taken) refl,
+    )
+
+returns-2 : tie.Need-returns-2
+returns-2 c =
+    let w = c .before .before in
+    let k = w .before .before in
+    let n = k .before in
+    let e = n .before in
+    let s = e .before .before in (
+      inside (s .args .s) (s .args .tank) noList (λ v. answered (rangeNumber (s .args .start) (s .args .end) (length (s .args .out .now)) v) (rangeList (s .args .start) (s .args .end) v)) (n .narrow .result) (e .if1 .left) (n .narrow .ensures) (k .take .ensures)
+          (w .list-range .ensures .0),
+      inside (s .args .s) (s .args .tank) (s .args .out .now) (λ v. inFront (unlessRefused (rangeNumber (s .args .start) (s .args .end) (length (s .args .out .now)) v) (rangeList (s .args .start) (s .args .end) v)) (s .args .out .now)) (n .narrow .result) (e .if1 .left) (n .narrow .ensures) (k .take .ensures)
+          (w .list-range .ensures .1),
+    )
+
+pub list-range-spec : {M : Type 1} → statement M
+list-range-spec =
+    tie.close (tie.spec (λ c κs. search needs) returns (λ c κs. search needs) (λ c κs. search needs) (λ c κs. search needs) (λ c. search needs) returns-2)

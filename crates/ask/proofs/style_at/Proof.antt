@@ -1,0 +1,25 @@
+-- `style_at` meets its contract: no such tank, or the tank taken out answers for the one that it is.
+use mathlib.Core.Path.{refl}
+use Rattle.questions.specs.declared.Asked.{Asked}
+use borrow.Author.Needs.{needs}
+use Rattle.questions.specs.Questions.{styleAt}
+use Rattle.ask.proofs.AskLaws.{past, inside}
+use Rattle.ask.proofs.style_at.Statement.{statement}
+use Rattle.ask.proofs.style_at.Tie as tie
+
+returns : tie.Need-returns
+returns c =
+    let s = c .before in
+    past (s .args .s) (s .args .tank) (Asked.Refused 1) (styleAt (s .args .pos) (s .args .rank)) (c .if1 .taken) refl
+
+returns-2 : tie.Need-returns-2
+returns-2 c =
+    let k = c .before in
+    let n = k .before in
+    let e = n .before in
+    let s = e .before in
+    inside (s .args .s) (s .args .tank) (Asked.Refused 1) (styleAt (s .args .pos) (s .args .rank)) (n .narrow .result) (e .if1 .left) (n .narrow .ensures) (k .take .ensures)
+    (c .style-at .ensures)
+
+pub style-at-spec : {M : Type 1} → statement M
+style-at-spec = tie.close (tie.spec returns (λ c κs. search needs) (λ c κs. search needs) (λ c κs. search needs) returns-2)

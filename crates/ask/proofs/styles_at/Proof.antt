@@ -1,0 +1,24 @@
+-- `styles_at` meets its contract: no such tank, or the tank taken out answers for the one that it is.
+use mathlib.Core.List.{[]}
+use borrow.Author.Needs.{needs}
+use Rattle.questions.specs.Questions.{setOf, stylesAt}
+use Rattle.ask.proofs.AskLaws.{past, inside}
+use Rattle.ask.proofs.styles_at.Statement.{statement}
+use Rattle.ask.proofs.styles_at.Tie as tie
+
+returns : tie.Need-returns
+returns c =
+    let s = c .before .before in
+    past (s .args .s) (s .args .tank) (setOf 1 []) (stylesAt (s .args .pos)) (c .before .if1 .taken) (c .no-set .ensures)
+
+returns-2 : tie.Need-returns-2
+returns-2 c =
+    let k = c .before in
+    let n = k .before in
+    let e = n .before in
+    let s = e .before in
+    inside (s .args .s) (s .args .tank) (setOf 1 []) (stylesAt (s .args .pos)) (n .narrow .result) (e .if1 .left) (n .narrow .ensures) (k .take .ensures)
+    (c .styles-at .ensures)
+
+pub styles-at-spec : {M : Type 1} → statement M
+styles-at-spec = tie.close (tie.spec (λ c κs. search needs) returns (λ c κs. search needs) (λ c κs. search needs) (λ c κs. search needs) returns-2)

@@ -1,0 +1,42 @@
+-- `whole_needed` meets its contract: no such tank, or the tank taken out answers for the one that it is.
+use borrow.Author.Needs.{needs}
+use Prim.Native.Nat.{ℕ}
+use mathlib.Core.Path.{_≡_, _∙_}
+use Rattle.lists.specs.declared.Listed.{Listed}
+use Rattle.lists.specs.Lists.{wholeList, answered}
+use Rattle.ask.specs.Asks.{noList}
+use Rattle.ask.proofs.AskLaws.{past, inside}
+use Rattle.ask.proofs.whole_needed.Statement.{statement}
+use Rattle.ask.proofs.whole_needed.Tie as tie
+use Rattle.ask.proofs.whole_needed.Reads as reads
+use Rattle.ask.proofs.whole_needed.Lts as lts
+
+returns : tie.Need-returns
+returns c =
+    let s = c .before .before in
+    past (s .args .s) (s .args .tank) noList (λ v. answered 0 (wholeList v)) (c .before .if1 .taken) (c .no-list .ensures)
+
+listed : (r : Listed) (a b : ℕ) → r .number ≡ a → r .count ≡ b → r ≡ record { number = a; count = b }
+listed r a b e g = λ i. record { number = e i; count = g i }
+
+returns-2 : tie.Need-returns-2
+returns-2 c =
+    let w = c .before in
+    let k = w .before in
+    let n = k .before in
+    let e = n .before in
+    let s = e .before in
+    inside (s .args .s) (s .args .tank) noList (λ v. answered 0 (wholeList v)) (n .narrow .result) (e .if1 .left) (n .narrow .ensures) (k .take .ensures)
+    (listed _ _ _ (c .counted .ensures .0) (c .counted .ensures .1 ∙ w .whole-needed .ensures))
+
+pub whole-needed-spec : {M : Type 1} → statement M
+whole-needed-spec =
+    tie.close
+    (tie.spec
+    (λ c κs. search needs)
+    returns
+    (λ c κs. search needs)
+    (λ c κs. search needs)
+    (λ c κs. search needs)
+    (λ c κs. search needs)
+    returns-2)

@@ -1,0 +1,219 @@
+// The questions and lists of eight tanks, with the tank's number in front.
+ghost use mathlib.Core.Path.{_≡_};
+ghost use mathlib.Core.Bool.{false};
+ghost use mathlib.Core.List.{[]};
+ghost use Prim.Native.Nat.{_<_};
+ghost use lib.ListN.{length};
+ghost use Rattle.lists.specs.Lists.{rangeList, wholeList, rangeNeeded, rangeNumber, wholeNumber, unlessRefused, inFront, answered};
+ghost use Rattle.lists.specs.Anchors.{anchors};
+ghost use Rattle.tanks.specs.Pool.{meaning, Sound};
+ghost use Rattle.questions.specs.Questions.{setOf, sharedOf, valueAt, stylesAt, styleAt, stylesForInsert, styleForInsert, rangeContainsKey, rangeHasKeyValue, stylesOfRange};
+ghost use Rattle.ask.specs.Asks.{askAt, noList};
+use lists::Listed;
+use questions::Asked;
+use questions::SetAsked;
+use questions::Shared;
+use questions::Shown;
+use questions::Told;
+use styles::Value;
+use tanks::Tanks;
+
+// The number of a tank that there is.
+fn narrow(tank: u64) -> usize
+    requires { ⌜ tank < 8 ⌝ }
+    ensures { λ r. ⌜ r ≡ tank ⌝ }
+{
+    tank as usize
+}
+
+// No such tank: no set.
+fn no_set() -> SetAsked
+    ensures { λ r. ⌜ r ≡ setOf 1 [] ⌝ }
+{
+    SetAsked {
+        number: 1,
+        styles: styles::table::no_marks(),
+    }
+}
+
+fn not_shared() -> Shared
+    ensures { λ r. ⌜ r ≡ sharedOf 1 false [] ⌝ }
+{
+    Shared {
+        number: 1,
+        agree: false,
+        styles: styles::table::no_marks(),
+    }
+}
+
+// The value shown for a key at a position.
+pub fn value_at(s: Tanks, tank: u64, pos: u64, key: u16) -> Shown
+    requires { ⌜ Sound s ⌝ }
+    ensures { λ r. ⌜ r ≡ askAt (meaning s) tank (Shown.Refused 1) (valueAt pos key) ⌝ }
+{
+    if 8 <= tank {
+        return Shown::Refused(1);
+    }
+    questions::value_at(s.take(narrow(tank)), pos, key)
+}
+
+// The marks that a position carries.
+pub fn styles_at(s: Tanks, tank: u64, pos: u64) -> SetAsked
+    requires { ⌜ Sound s ⌝ }
+    ensures { λ r. ⌜ r ≡ askAt (meaning s) tank (setOf 1 []) (stylesAt pos) ⌝ }
+{
+    if 8 <= tank {
+        return no_set();
+    }
+    questions::styles_at(s.take(narrow(tank)), pos)
+}
+
+// The mark of a rank at a position.
+pub fn style_at(s: Tanks, tank: u64, pos: u64, rank: u64) -> Asked
+    requires { ⌜ Sound s ⌝ }
+    ensures { λ r. ⌜ r ≡ askAt (meaning s) tank (Asked.Refused 1) (styleAt pos rank) ⌝ }
+{
+    if 8 <= tank {
+        return Asked::Refused(1);
+    }
+    questions::style_at(s.take(narrow(tank)), pos, rank)
+}
+
+// The marks that an insertion would get.
+pub fn get_styles_for_insert(s: Tanks, tank: u64, pos: u64) -> SetAsked
+    requires { ⌜ Sound s ⌝ }
+    ensures { λ r. ⌜ r ≡ askAt (meaning s) tank (setOf 1 []) (stylesForInsert pos) ⌝ }
+{
+    if 8 <= tank {
+        return no_set();
+    }
+    questions::get_styles_for_insert(s.take(narrow(tank)), pos)
+}
+
+// The mark of a rank among those that an insertion would get.
+pub fn style_for_insert(s: Tanks, tank: u64, pos: u64, rank: u64) -> Asked
+    requires { ⌜ Sound s ⌝ }
+    ensures { λ r. ⌜ r ≡ askAt (meaning s) tank (Asked.Refused 1) (styleForInsert pos rank) ⌝ }
+{
+    if 8 <= tank {
+        return Asked::Refused(1);
+    }
+    questions::style_for_insert(s.take(narrow(tank)), pos, rank)
+}
+
+// Has any position of start .. end a mark with the key?
+pub fn range_contains_key(s: Tanks, tank: u64, start: u64, end: u64, key: u16) -> Told
+    requires { ⌜ Sound s ⌝ }
+    ensures { λ r. ⌜ r ≡ askAt (meaning s) tank (Told.Refused 1) (rangeContainsKey start end key) ⌝ }
+{
+    if 8 <= tank {
+        return Told::Refused(1);
+    }
+    questions::range_contains_key(s.take(narrow(tank)), start, end, key)
+}
+
+// Does every position of start .. end show the value for the key?
+pub fn range_has_key_value(
+    s: Tanks,
+    tank: u64,
+    start: u64,
+    end: u64,
+    key: u16,
+    value: Value,
+) -> Told
+    requires { ⌜ Sound s ⌝ }
+    ensures { λ r. ⌜ r ≡ askAt (meaning s) tank (Told.Refused 1) (rangeHasKeyValue start end key value) ⌝ }
+{
+    if 8 <= tank {
+        return Told::Refused(1);
+    }
+    questions::range_has_key_value(s.take(narrow(tank)), start, end, key, value)
+}
+
+// The marks that all positions of start .. end share.
+pub fn get_styles_of_range(s: Tanks, tank: u64, start: u64, end: u64) -> Shared
+    requires { ⌜ Sound s ⌝ }
+    ensures { λ r. ⌜ r ≡ askAt (meaning s) tank (sharedOf 1 false []) (stylesOfRange start end) ⌝ }
+{
+    if 8 <= tank {
+        return not_shared();
+    }
+    questions::get_styles_of_range(s.take(narrow(tank)), start, end)
+}
+
+// No such tank: no list.
+fn no_list() -> Listed
+    ensures { λ r. ⌜ r ≡ noList ⌝ }
+{
+    Listed {
+        number: 1,
+        count: 0,
+    }
+}
+
+// A count as an answer.
+fn counted(count: usize) -> Listed
+    ensures { λ r. ⌜ (r .number ≡ 0) × (r .count ≡ count) ⌝ }
+{
+    Listed {
+        number: 0,
+        count: count,
+    }
+}
+
+// How many u64 the list of stretches over start .. end takes.
+pub fn stretches_needed(s: Tanks, tank: u64, start: u64, end: u64) -> Listed
+    requires { ⌜ Sound s ⌝ }
+    ensures { λ r. ⌜ r ≡ askAt (meaning s) tank noList (rangeNeeded start end) ⌝ }
+{
+    if 8 <= tank {
+        return no_list();
+    }
+    lists::stretches_needed(s.take(narrow(tank)), start, end)
+}
+
+// How many u64 the list of the whole tank takes.
+pub fn whole_needed(s: Tanks, tank: u64) -> Listed
+    requires { ⌜ Sound s ⌝ }
+    ensures { λ r. ⌜ r ≡ askAt (meaning s) tank noList (λ v. answered 0 (wholeList v)) ⌝ }
+{
+    if 8 <= tank {
+        return no_list();
+    }
+    counted(lists::whole_needed(s.take(narrow(tank))))
+}
+
+// How many anchors the tank has.
+pub fn anchors_needed(s: Tanks, tank: u64) -> Listed
+    requires { ⌜ Sound s ⌝ }
+    ensures { λ r. ⌜ r ≡ askAt (meaning s) tank noList (λ v. answered 0 (anchors v)) ⌝ }
+{
+    if 8 <= tank {
+        return no_list();
+    }
+    counted(lists::anchors::anchors_needed(s.take(narrow(tank))))
+}
+
+// The stretches over start .. end, at the front of a lent buffer.
+pub fn list_range(s: Tanks, tank: u64, start: u64, end: u64, out: &mut [u64]) -> Listed
+    requires { ⌜ Sound s ⌝ }
+    ensures { λ r. ⌜ r ≡ askAt (meaning s) tank noList (λ v. answered (rangeNumber start end (length (now (out .entry))) v) (rangeList start end v)) ⌝ }
+    ensures { λ r. ⌜ now (out .exit) ≡ askAt (meaning s) tank (now (out .entry)) (λ v. inFront (unlessRefused (rangeNumber start end (length (now (out .entry))) v) (rangeList start end v)) (now (out .entry))) ⌝ }
+{
+    if 8 <= tank {
+        return no_list();
+    }
+    lists::list_range(s.take(narrow(tank)), start, end, out)
+}
+
+// The marked stretches of the whole tank, at the front of a lent buffer.
+pub fn list_whole(s: Tanks, tank: u64, out: &mut [u64]) -> Listed
+    requires { ⌜ Sound s ⌝ }
+    ensures { λ r. ⌜ r ≡ askAt (meaning s) tank noList (λ v. answered (wholeNumber (length (now (out .entry))) v) (wholeList v)) ⌝ }
+    ensures { λ r. ⌜ now (out .exit) ≡ askAt (meaning s) tank (now (out .entry)) (λ v. inFront (unlessRefused (wholeNumber (length (now (out .entry))) v) (wholeList v)) (now (out .entry))) ⌝ }
+{
+    if 8 <= tank {
+        return no_list();
+    }
+    lists::list_whole(s.take(narrow(tank)), out)
+}

@@ -1,0 +1,27 @@
+// Prints document 01's case 5 before the insert, whole tank.
+use styles::Mark;
+use styles::Value;
+use tanks::Setting;
+
+fn mark(key: u16, lamport: u32, peer: u64) -> Mark {
+    Mark {
+        key: key,
+        flags: 132,
+        lamport: lamport,
+        peer: peer,
+        value: Value::Null,
+    }
+}
+
+fn main() {
+    let opened = tanks::open([Setting {
+        share: 40,
+        limit: 200,
+    }; 8]);
+    let s = opened.tanks;
+    let a = s.annotate(0, 10, 20, mark(1, 5, 1));
+    let t = a.tanks;
+    let c = t.annotate(0, 15, 25, mark(2, 3, 1));
+    let u = c.tanks;
+    session::show(u, 0);
+}

@@ -1,0 +1,209 @@
+-- The anchors by position are those at the boundaries of runs, by bits.
+use Prim.Native.Nat.{ℕ, zero, suc, _+_, _-_, _*_, _/_, _%_, _≤_, _<_, _^_, min}
+use mathlib.Core.Path.{_≡_, refl, sym, ap, ap₂, _∙_, subst}
+use mathlib.Core.Bool.{Bool, true, false, cond, not}
+use mathlib.Core.List.{List, [], _∷_, _++_, append-assoc}
+use native.Mathlib.Omega.{arith}
+use native.Mathlib.Decide.{decLt}
+use native.Mathlib.Numerals.{add-one}
+use lib.Bits.{bitAnd, and-step, and-le-l, and-comm, and-self}
+use lib.ListN.{length, getD}
+use borrow.Author.Tests.{lt-ltb, le-ltb}
+use Rattle.styles.specs.declared.Mark.{Mark}
+use Rattle.styles.specs.Order.{stands, idOf}
+use Rattle.styles.specs.Marks.{Above, Sorted, member, only}
+use Rattle.styles.specs.Bits.{keepBit, pick}
+use Rattle.styles.proofs.OrderLaws.{less-flip, same-self}
+use Rattle.styles.proofs.PickLaws.{pick-cons, above-pick, not-member}
+use Rattle.styles.proofs.UnionLaws.{pick-none}
+use Rattle.runs.specs.Runs.{Run, runs, total, setAt, Other, Canon, Spare}
+use Rattle.runs.proofs.Laws.{at-past, total-more, total-mono}
+use Rattle.runs.proofs.ScanLaws.{at-run}
+use Rattle.tank.specs.declared.Tank.{Tank}
+use Rattle.lists.specs.declared.anchors.Anchor.{Anchor}
+use Rattle.lists.specs.declared.anchors.AnchorType.{AnchorType}
+use Rattle.lists.specs.declared.anchors.AnchorType.the-variants.{Start, End}
+use Rattle.tank.specs.Rules.{View}
+use Rattle.tank.specs.State.{runsOf, tableOf, view, Laid}
+use Rattle.tank.proofs.Counted.{at-inside}
+use Rattle.lists.specs.Anchors.{lacking, before, behind, anchorsOf, boundary, boundaries, lackingBits}
+
+-- ---- the marks that another set lacks, by bits
+lacking-skip : (m : Mark) (xs ys : List Mark) → Above (idOf m) xs → lacking xs (m ∷ ys) ≡ lacking xs ys
+unfolding only member Above
+lacking-skip m [] ys h = refl
+lacking-skip m (x ∷ xs) ys h =
+    rw (less-flip (idOf m) (idOf x) (h .0))
+    (ap (λ (l : List Mark). cond (not (member (idOf x) ys)) (x ∷ l) l) (lacking-skip m xs ys (h .1)))
+
+lacking-keep : (b c d : ℕ) (m : Mark) (xs ys : List Mark) → b < 2 → c < 2 → d ≡ b - min b c → Above (idOf m) xs → Above (idOf m) ys
+    → keepBit d m (lacking xs ys) ≡ lacking (keepBit b m xs) (keepBit c m ys)
+unfolding only member
+lacking-keep zero zero d m xs ys p q e h k = let z : d ≡ 0 = omega arith in rw z
+lacking-keep zero (suc c) d m xs ys p q e h k = let z : d ≡ 0 = omega arith in rw z (sym (lacking-skip m xs ys h))
+lacking-keep (suc b) zero d m xs ys p q e h k = let z : d ≡ 1 = omega arith in rw (z, not-member (idOf m) ys k)
+lacking-keep (suc b) (suc c) d m xs ys p q e h k = let z : d ≡ 0 = omega arith in rw (z, same-self (idOf m)) (sym (lacking-skip m xs ys h))
+
+lack-step : (s u : ℕ) → lackingBits s u ≡ lackingBits (s / 2) (u / 2) * 2 + (s % 2 - min (s % 2) (u % 2))
+lack-step s u = omega (arith, and-step s u, and-le-l (s / 2) (u / 2))
+
+pub pick-lacking : (t : List Mark) (s u : ℕ) → Sorted t → pick t (lackingBits s u) ≡ lacking (pick t s) (pick t u)
+unfolding pick Sorted only
+pick-lacking [] s u h = refl
+pick-lacking (m ∷ ms) s u h =
+    ap (pick (m ∷ ms)) (lack-step s u)
+    ∙ pick-cons m ms (lackingBits (s / 2) (u / 2)) (s % 2 - min (s % 2) (u % 2)) (omega arith)
+    ∙ ap (keepBit (s % 2 - min (s % 2) (u % 2)) m) (pick-lacking ms (s / 2) (u / 2) (h .1))
+    ∙ lacking-keep (s % 2) (u % 2) (s % 2 - min (s % 2) (u % 2)) m (pick ms (s / 2)) (pick ms (u / 2)) (omega arith) (omega arith) refl
+    (above-pick (idOf m) ms (s / 2) (h .0)) (above-pick (idOf m) ms (u / 2) (h .0))
+
+-- neither lacks a bit of the other: they are one
+pub lack-none : (s u : ℕ) → lackingBits s u ≡ 0 → lackingBits u s ≡ 0 → s ≡ u
+lack-none s u a b = omega (arith, and-comm s u, and-le-l s u, and-le-l u s)
+
+pub lack-self : (s : ℕ) → lackingBits s s ≡ 0
+lack-self s = omega (arith, and-self s)
+
+-- ---- a boundary by bits
+-- the anchors between a set x and a set y, over a table
+abbrev pub between : List Mark → ℕ → ℕ → ℕ → List Anchor
+between ms p x y = anchorsOf (p - 1) End (pick ms (lackingBits x y)) ++ anchorsOf p Start (pick ms (lackingBits y x))
+
+-- the set before a boundary
+abbrev pub setBefore : List Run → ℕ → ℕ
+setBefore rs zero = 0
+setBefore rs (suc p) = setAt rs p
+
+pub between-same : (ms : List Mark) (p x : ℕ) → between ms p x x ≡ []
+unfolding anchorsOf
+between-same ms p x = rw (lack-self x, pick-none ms)
+
+module _ {t : Tank} (f : Laid t) where
+  before-is : (p : ℕ) → before p (view t) ≡ pick (tableOf t) (setBefore (runsOf t) p)
+  unfolding before view
+  before-is zero = sym (pick-none (tableOf t))
+  before-is (suc p) = refl
+
+  behind-is : (p : ℕ) → behind p (view t) ≡ pick (tableOf t) (setAt (runsOf t) p)
+  unfolding behind view
+  behind-is p =
+      elim (decLt p (t .length)) [
+        | yes h ↦ rw (lt-ltb p (t .length) h)
+        | no h ↦
+            rw (le-ltb p (t .length) (omega arith))
+            (sym (ap (pick (tableOf t)) (at-past (runsOf t) p (omega (arith, f .sum))) ∙ pick-none (tableOf t)))
+      ]
+
+  pub boundary-is : (p : ℕ) → boundary p (view t) ≡ between (tableOf t) p (setBefore (runsOf t) p) (setAt (runsOf t) p)
+  unfolding boundary
+  boundary-is p =
+      let x = setBefore (runsOf t) p in
+      let y = setAt (runsOf t) p in
+      rw (before-is p, behind-is p, pick-lacking (tableOf t) x y (f .sorted), pick-lacking (tableOf t) y x (f .sorted))
+
+-- ---- boundaries without anchors are passed
+pub pass : (p j n : ℕ) (v : View) → ((q : ℕ) → p ≤ q → q < p + j → boundary q v ≡ []) → boundaries p (j + n) v ≡ boundaries (p + j) n v
+unfolding boundaries
+pass p zero n v h = let e : p + 0 ≡ p = omega arith in let g : 0 + n ≡ n = omega arith in rw (e, g)
+pass p (suc j) n v h =
+    let e : p + suc j ≡ suc p + j = omega arith in
+    let g : suc j + n ≡ suc (j + n) = omega arith in
+    let i = pass (suc p) j n v (λ q a b. h q (omega arith) (omega arith)) in
+    rw (e, g) (rw (h p (omega arith) (omega arith)) i)
+
+-- ---- runs in joined form
+module _ (lens sets : List ℕ) where
+  pub canon-some : (n k : ℕ) → Canon (runs lens sets n) → k < n → 0 < getD lens k 0
+  unfolding Canon runs
+  canon-some zero k c h = absurd (omega arith)
+  canon-some (suc n) k c h =
+      elim (decLt k n) [
+        | yes g ↦ canon-some n k (c .2) g
+        | no g ↦ let e : k ≡ n = omega arith in rw e (c .0)
+      ]
+
+  pub canon-next : (n k : ℕ) → Canon (runs lens sets n) → suc k < n → getD sets k 0 ≡ getD sets (suc k) 0 → ⊥
+  unfolding Canon runs Other
+  canon-next zero k c h = absurd (omega arith)
+  canon-next (suc zero) k c h = absurd (omega arith)
+  canon-next (suc (suc n)) k c h =
+      elim (decLt (suc k) (suc n)) [
+        | yes g ↦ canon-next (suc n) k (c .2) g
+        | no g ↦ let e : k ≡ n = omega arith in rw e (c .1)
+      ]
+
+before-some : (rs : List Run) (p : ℕ) → 0 < p → setBefore rs p ≡ setAt rs (p - 1)
+before-some rs zero h = absurd (omega arith)
+before-some rs (suc p) h = let e : suc p - 1 ≡ p = omega arith in rw e
+
+-- ---- the boundary before run k, which may be the one behind the last run
+module _ {t : Tank} (f : Laid t) (k p : ℕ) (in-runs : k ≤ t .runs) (at-is : p ≡ total (runs (t .lens) (t .sets) k)) where
+  pub set-from : setAt (runsOf t) p ≡ getD (t .sets) k 0
+  unfolding Spare
+  set-from =
+      elim (decLt k (t .runs)) [
+        | yes h ↦
+            at-run (t .lens) (t .sets) (t .runs) k p h (omega arith) (omega (arith, canon-some (t .lens) (t .sets) (t .runs) k (f .canon) h))
+        | no h ↦
+            let e : k ≡ t .runs = omega arith in
+            at-past (runsOf t) p (rw (← e) (omega arith)) ∙ sym (f .spare k (omega arith) .1)
+      ]
+
+  pub set-in : getD (t .sets) k 0 < 2 ^ t .marks
+  set-in = subst (λ s. s < 2 ^ t .marks) set-from (at-inside (runsOf t) (t .marks) p (f .inside))
+
+-- ---- from one run's boundary to the next
+module _ {t : Tank} (f : Laid t) (k p : ℕ) (in-runs : k < t .runs) (at-is : p ≡ total (runs (t .lens) (t .sets) k)) where
+  pub run-some : 0 < getD (t .lens) k 0
+  run-some = canon-some (t .lens) (t .sets) (t .runs) k (f .canon) in-runs
+
+  pub next-at : p + getD (t .lens) k 0 ≡ total (runs (t .lens) (t .sets) (k + 1))
+  next-at = omega (arith, total-more (t .lens) (t .sets) k)
+
+  -- the run ends within the tank
+  pub run-fits : p + getD (t .lens) k 0 ≤ t .length
+  run-fits = omega (arith, f .sum, next-at, total-mono (t .lens) (t .sets) (k + 1) (t .runs) (omega arith))
+
+  here : (q : ℕ) → p ≤ q → q < p + getD (t .lens) k 0 → setAt (runsOf t) q ≡ getD (t .sets) k 0
+  here q a b = at-run (t .lens) (t .sets) (t .runs) k q in-runs (omega arith) (omega arith)
+
+  -- inside the run no boundary has an anchor
+  inside : (q : ℕ) → suc p ≤ q → q < p + getD (t .lens) k 0 → boundary q (view t) ≡ []
+  inside zero a b = absurd (omega arith)
+  inside (suc q) a b =
+      boundary-is f (suc q)
+      ∙ ap₂ (between (tableOf t) (suc q)) (here q (omega arith) (omega arith)) (here (suc q) (omega arith) b)
+      ∙ between-same (tableOf t) (suc q) (getD (t .sets) k 0)
+
+  at-next : boundary (p + getD (t .lens) k 0) (view t) ≡ between (tableOf t) (p + getD (t .lens) k 0) (getD (t .sets) k 0) (getD (t .sets) (k + 1) 0)
+  at-next =
+      let q = p + getD (t .lens) k 0 in
+      boundary-is f q
+      ∙ ap₂ (between (tableOf t) q) (before-some (runsOf t) q (omega (arith, run-some)) ∙ here (q - 1) (omega (arith, run-some)) (omega (arith, run-some)))
+      (set-from f (k + 1) q (omega arith) next-at)
+
+  -- what comes behind this boundary: what the next one has, and what comes behind that
+  pub to-next : boundaries (suc p) (t .length - p) (view t)
+      ≡ between (tableOf t) (p + getD (t .lens) k 0) (getD (t .sets) k 0) (getD (t .sets) (k + 1) 0)
+      ++ boundaries (suc (p + getD (t .lens) k 0)) (t .length - (p + getD (t .lens) k 0)) (view t)
+  unfolding boundaries
+  to-next =
+      let l = getD (t .lens) k 0 in
+      let e : t .length - p ≡ l - 1 + suc (t .length - (p + l)) = omega (arith, run-some, run-fits) in
+      let g : suc p + (l - 1) ≡ p + l = omega (arith, run-some) in
+      ap (λ n. boundaries (suc p) n (view t)) e
+      ∙ pass (suc p) (l - 1) (suc (t .length - (p + l))) (view t) (λ q a b. inside q a (omega (arith, run-some)))
+      ∙ ap (λ q. boundaries q (suc (t .length - (p + l))) (view t)) g
+      ∙ ap (λ (l′ : List Anchor). l′ ++ boundaries (suc (p + l)) (t .length - (p + l)) (view t)) at-next
+
+  -- where a run begins at the next boundary, it has an anchor
+  pub differs : k + 1 < t .runs → lackingBits (getD (t .sets) k 0) (getD (t .sets) (k + 1) 0) ≡ 0
+      → lackingBits (getD (t .sets) (k + 1) 0) (getD (t .sets) k 0) ≡ 0 → ⊥
+  differs h a b =
+      canon-next (t .lens) (t .sets) (t .runs) k (f .canon) (omega arith)
+      (lack-none (getD (t .sets) k 0) (getD (t .sets) (k + 1) 0) a b ∙ ap (λ i. getD (t .sets) i 0) (add-one k))
+
+-- before the first position: the first run's marks start
+pub at-first : {t : Tank} → Laid t → boundary 0 (view t) ≡ between (tableOf t) 0 0 (getD (t .sets) 0 0)
+unfolding runs total
+at-first {t} f = boundary-is f 0 ∙ ap (between (tableOf t) 0 0) (set-from f 0 0 (omega arith) refl)

@@ -1,0 +1,117 @@
+-- A lent list of anchors: what the walk has stored after some turns, and what it answers.
+use Prim.Native.Nat.{ℕ, zero, suc, _+_, _-_, _≤_, _<_}
+use mathlib.Core.Path.{_≡_, refl, sym, ap, _∙_, subst}
+use mathlib.Core.Bool.{Bool, true, false, cond}
+use mathlib.Core.List.{List, [], _∷_, _++_}
+use native.Mathlib.Omega.{arith}
+use native.Mathlib.Numerals.{add-one}
+use lib.Dec.{eqb}
+use lib.ListN.{length, getD, set, take, drop, length-set}
+use lib.Seq.{drop-cons, drop-drop, set-at, take-suc, take-length, append-snoc, length-take-le}
+use borrow.Author.Tests.{lt-ltb, le-ltb}
+use Rattle.tank.specs.declared.Tank.{Tank}
+use Rattle.lists.specs.declared.Listed.{Listed}
+use Rattle.lists.specs.declared.anchors.Anchor.{Anchor}
+use Rattle.lists.specs.declared.anchors.AnchorCursor.{AnchorCursor}
+use Rattle.lists.specs.declared.anchors.NextAnchor.{NextAnchor}
+use Rattle.lists.specs.declared.anchors.NextAnchor.the-variants.{NoMore, Found}
+use Rattle.tank.specs.State.{view}
+use Rattle.lists.specs.Lists.{listRefusal, unlessRefused, inFront, answered}
+use Rattle.lists.specs.Anchors.{anchors, anchorsNumber, noAnchor, rest, Stands, Steps}
+
+-- ---- a step, taken apart
+module _ (t : Tank) (c : AnchorCursor) (r : NextAnchor) (h : Steps t c r) where
+  pub step-end : r ≡ NoMore → rest t c ≡ []
+  unfolding Steps
+  step-end e = subst (Steps t c) e h
+
+  pub step-anchor : (a : Anchor) (d : AnchorCursor) → r ≡ Found a d → a ≡ getD (rest t c) 0 noAnchor
+  unfolding Steps
+  step-anchor a d e = sym (ap (λ (l : List Anchor). getD l 0 noAnchor) (subst (Steps t c) e h .0))
+
+  pub step-cursor : (a : Anchor) (d : AnchorCursor) → r ≡ Found a d → Stands t d × (rest t d ≡ drop 1 (rest t c))
+  unfolding Steps
+  step-cursor a d e = let s = subst (Steps t c) e h in (s .1, sym (ap (drop 1) (s .0)))
+
+-- ---- what the list answers
+module _ {A : Type 0} (xs : List A) (room n : ℕ) (is : n ≡ length xs) where
+  pub judged-short : room < n → record { number = 11; count = 0 } ≡ answered (listRefusal 0 room (length xs)) xs
+  unfolding listRefusal
+  judged-short h = let l : room < length xs = omega arith in rw (lt-ltb room (length xs) l)
+
+  pub judged-full : n ≤ room → record { number = 0; count = n } ≡ answered (listRefusal 0 room (length xs)) xs
+  unfolding listRefusal
+  judged-full h = let l : length xs ≤ room = omega arith in rw (le-ltb room (length xs) l, is)
+
+-- ---- the list after j stores
+abbrev pub stored : (ℕ → Anchor) → List Anchor → ℕ → List Anchor
+stored f ys zero = ys
+stored f ys (suc j) = set (stored f ys j) j (f j)
+
+pub length-stored : (f : ℕ → Anchor) (ys : List Anchor) (j : ℕ) → length (stored f ys j) ≡ length ys
+length-stored f ys zero = refl
+length-stored f ys (suc j) = length-set (stored f ys j) j (f j) ∙ length-stored f ys j
+
+-- the anchors that a walk stores, one by one
+abbrev pub nth : List Anchor → ℕ → Anchor
+nth xs j = getD xs j noAnchor
+
+stored-is : (xs ys : List Anchor) (n : ℕ) → n ≤ length xs → n ≤ length ys → stored (nth xs) ys n ≡ take n xs ++ drop n ys
+stored-is xs ys zero h g = refl
+stored-is xs ys (suc n) h g =
+    ap (λ (zs : List Anchor). set zs n (nth xs n))
+    (stored-is xs ys n (omega arith) (omega arith) ∙ ap (λ (zs : List Anchor). take n xs ++ zs) (drop-cons ys n noAnchor (omega arith)))
+    ∙ set-at (take n xs) _ (drop (suc n) ys) (nth xs n) n (length-take-le n xs (omega arith))
+    ∙ sym (ap (λ (zs : List Anchor). zs ++ drop (suc n) ys) (take-suc xs n noAnchor (omega arith)) ∙ append-snoc (take n xs) (nth xs n) (drop (suc n) ys))
+
+front-by : (all : Bool) (xs ys : List Anchor) (n : ℕ) → n ≡ length (cond all xs []) → n ≤ length ys
+    → stored (nth xs) ys n ≡ inFront (cond all xs []) ys
+front-by true xs ys n e h =
+    stored-is xs ys n (omega arith) h ∙ rw e (ap (λ (zs : List Anchor). zs ++ drop (length xs) ys) (take-length xs))
+front-by false xs ys n e h = rw e
+
+-- all of them or none
+pub stored-front : (number : ℕ) (xs ys : List Anchor) (n : ℕ) → n ≡ length (unlessRefused number xs) → n ≤ length ys
+    → stored (nth xs) ys n ≡ inFront (unlessRefused number xs) ys
+stored-front number xs ys n e h = front-by (eqb number 0) xs ys n e h
+
+-- ---- the walk
+-- what each function that the walk calls says of its result
+abbrev pub Said-turns : Tank → ℕ → ℕ → Type 0
+Said-turns t room r = (r ≡ length (unlessRefused (anchorsNumber room (view t)) (anchors (view t)))) × (r ≤ room)
+
+abbrev pub Said-first : Tank → AnchorCursor → Type 0
+Said-first t r = Stands t r × (rest t r ≡ anchors (view t)) × (r .index ≡ 0)
+
+abbrev pub Said-anchor : Tank → AnchorCursor → Anchor → Type 0
+Said-anchor t c r = r ≡ getD (rest t c) 0 noAnchor
+
+abbrev pub Said-advance : Tank → AnchorCursor → AnchorCursor → Type 0
+Said-advance t c r = Stands t r × (rest t r ≡ drop 1 (rest t c))
+
+abbrev pub Said-judged : Tank → ℕ → Listed → Type 0
+Said-judged t room r = r ≡ answered (anchorsNumber room (view t)) (anchors (view t))
+
+-- where the walk stands before turn j of n: at a cursor from which the anchors from the j-th on come
+pub record Standing (t : Tank) (j : ℕ) (c : AnchorCursor) : Type 0 where
+  pub stands : Stands t c
+  pub come : rest t c ≡ drop j (anchors (view t))
+
+pub stand-first : {t : Tank} (c : AnchorCursor) → Said-first t c → Standing t 0 c
+stand-first c g = record { stands = g .0; come = g .1 }
+
+pub stand-next : {t : Tank} (j : ℕ) (c d : AnchorCursor) → Standing t j c → Said-advance t c d → Standing t (suc j) d
+stand-next {t} j c d s g =
+    record {
+      stands = g .0;
+      come = g .1 ∙ ap (drop 1) (s .come) ∙ drop-drop 1 j (anchors (view t)) ∙ ap (λ i. drop i (anchors (view t))) (add-one j);
+    }
+
+pub stand-anchor : {t : Tank} (j : ℕ) (c : AnchorCursor) → Standing t j c → getD (rest t c) 0 noAnchor ≡ nth (anchors (view t)) j
+stand-anchor {t} j c s = ap (λ (l : List Anchor). getD l 0 noAnchor) (s .come) ∙ first-of (anchors (view t)) j
+  where
+    first-of : (xs : List Anchor) (i : ℕ) → getD (drop i xs) 0 noAnchor ≡ nth xs i
+    first-of [] zero = refl
+    first-of [] (suc i) = refl
+    first-of (x ∷ xs) zero = refl
+    first-of (x ∷ xs) (suc i) = first-of xs i

@@ -1,0 +1,322 @@
+-- A cursor runs through exactly the anchors: where it starts, how it goes to the next boundary, and what a step hands over.
+use Prim.Native.Nat.{ℕ, zero, suc, _+_, _-_, _*_, _/_, _%_, _≤_, _<_, _^_}
+use mathlib.Core.Path.{_≡_, refl, sym, ap, ap₂, _∙_, subst}
+use mathlib.Core.Bool.{Bool, true, false}
+use mathlib.Core.List.{List, [], _∷_, _++_, append-assoc}
+use native.Mathlib.Omega.{arith}
+use native.Mathlib.Decide.{decLt}
+use native.Mathlib.Numerals.{add-one}
+use lib.Count.{ones, ones-step, trailingZeros}
+use lib.ListN.{length, getD, length-append}
+use lib.Pow.{pow-pos}
+use lib.Seq.{getD-take}
+use Rattle.styles.specs.declared.Mark.{Mark}
+use Rattle.styles.specs.Marks.{Sorted, blank}
+use Rattle.styles.specs.Bits.{pick, withoutBit}
+use Rattle.styles.proofs.CountLaws.{half-less, pick-length, pick-first, lowest-less, without-le}
+use Rattle.styles.proofs.UnionLaws.{pick-none}
+use Rattle.styles.proofs.WalkLaws.{sorted-pick}
+use Rattle.runs.specs.Runs.{run, runs, total, setAt}
+use Rattle.runs.proofs.Laws.{at-last, at-past}
+use Rattle.tank.specs.declared.Tank.{Tank}
+use Rattle.lists.specs.declared.anchors.Anchor.{Anchor}
+use Rattle.lists.specs.declared.anchors.AnchorCursor.{AnchorCursor}
+use Rattle.lists.specs.declared.anchors.AnchorType.{AnchorType}
+use Rattle.lists.specs.declared.anchors.AnchorType.the-variants.{Start, End}
+use Rattle.lists.specs.declared.anchors.NextAnchor.the-variants.{NoMore, Found}
+use Rattle.tank.specs.Rules.{freshLength}
+use Rattle.tank.specs.State.{tableOf, view, Laid, Formed}
+use Rattle.lists.specs.Anchors.{
+  lacking,
+  anchorOf,
+  anchorsOf,
+  boundaries,
+  anchors,
+  lackingBits,
+  leftAt,
+  laterThan,
+  rest,
+  Stands,
+  Steps,
+  Follows,
+  Settles,
+}
+use Rattle.tank.proofs.Unique.{table-length}
+use Rattle.lists.proofs.AnchorLaws.{
+  pick-lacking,
+  between,
+  setBefore,
+  between-same,
+  boundary-is,
+  pass,
+  set-in,
+  run-some,
+  next-at,
+  run-fits,
+  to-next,
+  differs,
+  at-first,
+}
+
+-- a set of which bits are taken is still one of the table
+lack-in : (n s u : ℕ) → s < 2 ^ n → lackingBits s u < 2 ^ n
+lack-in n s u h = omega arith
+
+lack-zero : (u : ℕ) → lackingBits 0 u ≡ 0
+lack-zero u = omega arith
+
+-- ---- the cursor before the first anchor
+module _ {t : Tank} (f : Laid t) where
+  abbrev first : AnchorCursor
+  first = record { index = 0; at = 0; ends = lackingBits 0 (getD (t .sets) 0 0); starts = lackingBits (getD (t .sets) 0 0) 0 }
+
+  first-stands : Stands t first
+  unfolding runs total
+  first-stands =
+      record {
+        within = omega arith;
+        at-is = refl;
+        ends-in = lack-in (t .marks) 0 (getD (t .sets) 0 0) (pow-pos (t .marks));
+        starts-in = lack-in (t .marks) (getD (t .sets) 0 0) 0 (set-in f 0 0 (omega arith) refl);
+        none-before = λ e. lack-zero (getD (t .sets) 0 0);
+      }
+
+  first-rest : rest t first ≡ anchors (view t)
+  unfolding leftAt laterThan anchors boundaries view
+  first-rest =
+      let e : t .length - 0 ≡ t .length = omega arith in
+      ap₂ (λ (xs : List Anchor) n. xs ++ boundaries 1 n (view t)) (sym (at-first f)) e
+
+  pub first-is : (c : AnchorCursor) → c ≡ first → Stands t c × (rest t c ≡ anchors (view t)) × (c .index ≡ 0)
+  first-is c e = rw e (first-stands, first-rest, refl)
+
+-- ---- the next boundary
+module _ {t : Tank} (f : Laid t) (c : AnchorCursor) (s : Stands t c) (h : c .index < t .runs) where
+  abbrev second : AnchorCursor
+  second =
+      record {
+        index = c .index + 1;
+        at = c .at + getD (t .lens) (c .index) 0;
+        ends = lackingBits (getD (t .sets) (c .index) 0) (getD (t .sets) (c .index + 1) 0);
+        starts = lackingBits (getD (t .sets) (c .index + 1) 0) (getD (t .sets) (c .index) 0);
+      }
+
+  pub next-fits : c .at + getD (t .lens) (c .index) 0 ≤ t .length
+  next-fits = run-fits f (c .index) (c .at) h (s .at-is)
+
+  second-stands : Stands t second
+  second-stands =
+      let n = next-at f (c .index) (c .at) h (s .at-is) in
+      record {
+        within = omega arith;
+        at-is = n;
+        ends-in = lack-in (t .marks) (getD (t .sets) (c .index) 0) _ (set-in f (c .index) (c .at) (omega arith) (s .at-is));
+        starts-in = lack-in (t .marks) (getD (t .sets) (c .index + 1) 0) _ (set-in f (c .index + 1) _ (omega arith) n);
+        none-before = λ e. absurd (omega (arith, run-some f (c .index) (c .at) h (s .at-is)));
+      }
+
+  pub follows : (d : AnchorCursor) → d ≡ second → Follows t c d
+  unfolding leftAt laterThan
+  follows d e =
+      rw e
+      (record {
+        stands = second-stands;
+        next = refl;
+        later = to-next f (c .index) (c .at) h (s .at-is);
+        some = differs f (c .index) (c .at) h (s .at-is);
+      })
+
+-- ---- a cursor with nothing left
+none-left : (t : Tank) (c : AnchorCursor) → c .ends ≡ 0 → c .starts ≡ 0 → leftAt t c ≡ []
+unfolding leftAt anchorsOf
+none-left t c a b = rw (a, b, pick-none (tableOf t))
+
+-- behind the last boundary nothing comes
+none-later : {t : Tank} → Laid t → (c : AnchorCursor) → Stands t c → c .index ≡ t .runs → laterThan t c ≡ []
+unfolding laterThan boundaries
+none-later {t} f c s e =
+    let z : t .length - c .at ≡ 0 = omega (arith, f .sum, s .at-is, ap (λ n. total (runs (t .lens) (t .sets) n)) e) in
+    rw z
+
+none-rest : {t : Tank} → Laid t → (c : AnchorCursor) → Stands t c → c .index ≡ t .runs → c .ends ≡ 0 → c .starts ≡ 0 → rest t c ≡ []
+none-rest {t} f c s e a b = rw (none-left t c a b, none-later f c s e)
+
+module _ {t : Tank} (f : Laid t) (c : AnchorCursor) (s : Stands t c) where
+  pub settles-here : 0 < c .ends + c .starts → Settles t c c
+  settles-here h = record { stands = s; same = refl; over = λ a b. absurd (omega arith) }
+
+  pub settles-end : c .index ≡ t .runs → Settles t c c
+  settles-end e = record { stands = s; same = refl; over = none-rest f c s e }
+
+  pub settles-next : c .ends ≡ 0 → c .starts ≡ 0 → (d : AnchorCursor) → Follows t c d → Settles t c d
+  settles-next a b d g =
+      record {
+        stands = g .stands;
+        same = rw (none-left t c a b) (g .later);
+        over =
+            λ x y.
+            elim (decLt (d .index) (t .runs)) [
+              | yes k ↦ absurd (g .some k x y)
+              | no k ↦ let w = g .stands .within in none-rest f d (g .stands) (omega arith) x y
+            ];
+      }
+
+-- ---- a step
+-- a set that counts none is empty
+ones-some : (n s : ℕ) → s < 2 ^ n → ones s ≡ 0 → s ≡ 0
+ones-some zero s h e = omega arith
+ones-some (suc n) s h e = omega (arith, ones-step s, ones-some n (s / 2) (half-less n s h) (omega (arith, ones-step s)))
+
+module _ {t : Tank} (f : Laid t) (s : ℕ) (inside : s < 2 ^ t .marks) (has : 0 < s) where
+  -- the lowest bit is one of the table's marks
+  pub lowest-mark : trailingZeros 64 s < t .marks
+  lowest-mark =
+      lowest-less (t .marks) 64 s (f .few) inside
+      (elim (decLt 0 (ones s)) [ yes k ↦ k | no k ↦ absurd (omega (arith, ones-some (t .marks) s inside (omega arith))) ])
+
+  -- it comes first
+  pub lowest-first : pick (tableOf t) s ≡ getD (t .table) (trailingZeros 64 s) blank ∷ pick (tableOf t) (withoutBit (trailingZeros 64 s) s)
+  lowest-first =
+      let n = table-length f in
+      let l = f .few in
+      pick-first 64 (tableOf t) s blank (omega arith) (omega (arith, lowest-mark))
+      ∙ ap (λ (m : Mark). m ∷ pick (tableOf t) (withoutBit (trailingZeros 64 s) s)) (getD-take (t .marks) (t .table) (trailingZeros 64 s) blank lowest-mark)
+
+module _ {t : Tank} (f : Laid t) (c d : AnchorCursor) (g : Settles t c d) where
+  pub end-place : 0 < d .ends → 0 < d .at
+  end-place h = elim (decLt 0 (d .at)) [ yes k ↦ k | no k ↦ absurd (omega (arith, g .stands .none-before (omega arith))) ]
+
+  pub end-mark : (i : ℕ) → 0 < d .ends → i ≡ trailingZeros 64 (d .ends) → i < 64
+  end-mark i h e = let l = f .few in omega (arith, lowest-mark f (d .ends) (g .stands .ends-in) h)
+
+  pub start-mark : (i : ℕ) → 0 < d .starts → i ≡ trailingZeros 64 (d .starts) → i < 64
+  start-mark i h e = let l = f .few in omega (arith, lowest-mark f (d .starts) (g .stands .starts-in) h)
+
+  -- an end, and the cursor without its bit
+  pub takes-end : (a : Anchor) (i u : ℕ) → 0 < d .ends → i ≡ trailingZeros 64 (d .ends) → a ≡ anchorOf (d .at - 1) End (getD (t .table) i blank)
+      → u ≡ withoutBit i (d .ends) → Steps t c (Found a (record { index = d .index; at = d .at; ends = u; starts = d .starts }))
+  unfolding Steps leftAt laterThan anchorsOf
+  takes-end a i u h e x y =
+      let s = g .stands in
+      let w = without-le (trailingZeros 64 (d .ends)) (d .ends) in
+      rw (x, y, e) (
+        g .same ∙ ap (λ (l : List Mark). (anchorsOf (d .at - 1) End l ++ anchorsOf (d .at) Start (pick (tableOf t) (d .starts))) ++ laterThan t d) (lowest-first f (d .ends) (s .ends-in) h),
+        record {
+          within = s .within;
+          at-is = s .at-is;
+          ends-in = let k = s .ends-in in omega arith;
+          starts-in = s .starts-in;
+          none-before = λ z. let k = s .none-before z in omega arith;
+        },
+      )
+
+  -- no end is left: a start, and the cursor without its bit
+  pub takes-start : (a : Anchor) (i u : ℕ) → d .ends ≡ 0 → 0 < d .starts → i ≡ trailingZeros 64 (d .starts)
+      → a ≡ anchorOf (d .at) Start (getD (t .table) i blank) → u ≡ withoutBit i (d .starts)
+      → Steps t c (Found a (record { index = d .index; at = d .at; ends = 0; starts = u }))
+  unfolding Steps leftAt laterThan anchorsOf
+  takes-start a i u z h e x y =
+      let s = g .stands in
+      let w = without-le (trailingZeros 64 (d .starts)) (d .starts) in
+      let n = pick-none (tableOf t) in
+      rw (x, y, e) (
+        g .same
+            ∙ ap₂ (λ (k l : List Mark). (anchorsOf (d .at - 1) End k ++ anchorsOf (d .at) Start l) ++ laterThan t d) (ap (pick (tableOf t)) z ∙ n) (lowest-first f (d .starts) (s .starts-in) h)
+            ∙ ap (λ (k : List Mark). anchorOf (d .at) Start (getD (t .table) (trailingZeros 64 (d .starts)) blank) ∷ (anchorsOf (d .at - 1) End k ++ anchorsOf (d .at) Start (pick (tableOf t) (withoutBit (trailingZeros 64 (d .starts)) (d .starts)))) ++ laterThan t d) (sym n),
+        record {
+          within = s .within;
+          at-is = s .at-is;
+          ends-in = pow-pos (t .marks);
+          starts-in = let k = s .starts-in in omega arith;
+          none-before = λ q. refl;
+        },
+      )
+
+  pub takes-none : d .ends ≡ 0 → d .starts ≡ 0 → Steps t c NoMore
+  unfolding Steps
+  takes-none a b = g .same ∙ g .over a b
+
+-- ---- the count
+length-anchors : (p : ℕ) (side : AnchorType) (ms : List Mark) → length (anchorsOf p side ms) ≡ length ms
+unfolding anchorsOf
+length-anchors p side [] = refl
+length-anchors p side (m ∷ ms) = omega (arith, length-anchors p side ms)
+
+pub left-count : {t : Tank} → Laid t → (c : AnchorCursor) → Stands t c → ones (c .ends) + ones (c .starts) ≡ length (leftAt t c)
+unfolding leftAt
+left-count {t} f c s =
+    let e = pick (tableOf t) (c .ends) in
+    let b = pick (tableOf t) (c .starts) in
+    let n = table-length f in
+    omega (
+      arith,
+      length-append (anchorsOf (c .at - 1) End e) (anchorsOf (c .at) Start b),
+      length-anchors (c .at - 1) End e,
+      length-anchors (c .at) Start b,
+      pick-length (tableOf t) (c .ends) (rw n (s .ends-in)),
+      pick-length (tableOf t) (c .starts) (rw n (s .starts-in)),
+    )
+
+-- the count at a boundary, with what comes behind it, is the whole count
+pub record Tallied (t : Tank) (c : AnchorCursor) (count : ℕ) : Type 0 where
+  pub stands : Stands t c
+  pub sum : count + length (laterThan t c) ≡ length (anchors (view t))
+  pub few : count ≤ 128 * (c .index + 1)
+
+pub tallied-first : {t : Tank} (c : AnchorCursor) (n : ℕ) → Stands t c × (rest t c ≡ anchors (view t)) × (c .index ≡ 0) → n ≡ length (leftAt t c) → n ≤ 128 → Tallied t c n
+tallied-first {t} c n h e l =
+    record { stands = h .0; sum = omega (arith, ap length (h .1), length-append (leftAt t c) (laterThan t c)); few = omega arith }
+
+pub tallied-next : {t : Tank} (c d : AnchorCursor) (count n : ℕ) → Tallied t c count → Follows t c d → n ≡ length (leftAt t d) → n ≤ 128 → Tallied t d (count + n)
+tallied-next {t} c d count n h g e l =
+    let a = h .few in
+    let b = g .next in
+    record {
+      stands = g .stands;
+      sum = omega (arith, h .sum, ap length (g .later), length-append (leftAt t d) (laterThan t d));
+      few = omega arith;
+    }
+
+pub tallied-end : {t : Tank} → Laid t → (c : AnchorCursor) (count : ℕ) → Tallied t c count → t .runs ≤ c .index → count ≡ length (anchors (view t))
+tallied-end f c count h k =
+    let w = h .stands .within in
+    omega (arith, h .sum, ap length (none-later f c (h .stands) (omega arith)))
+
+-- ---- one list, one walk: two steps from one cursor hand over the same anchor, and the same comes after it
+pub one-anchor : (t : Tank) (c : AnchorCursor) (a b : Anchor) (d e : AnchorCursor) → Steps t c (Found a d) → Steps t c (Found b e) → (a ≡ b) × (rest t d ≡ rest t e)
+unfolding Steps
+one-anchor t c a b d e h g =
+    let q : a ∷ rest t d ≡ b ∷ rest t e = sym (h .0) ∙ g .0 in
+    (cc, cc)
+
+pub one-end : (t : Tank) (c : AnchorCursor) (a : Anchor) (d : AnchorCursor) → Steps t c (Found a d) → Steps t c NoMore → ⊥
+unfolding Steps
+one-end t c a d h g =
+    let q : length (a ∷ rest t d) ≡ 0 = ap length (sym (h .0) ∙ g) in
+    omega arith
+
+-- ---- inside a group the anchors are in the order of identities
+pub sorted-lacking : (ms : List Mark) (s u : ℕ) → Sorted ms → Sorted (lacking (pick ms s) (pick ms u))
+sorted-lacking ms s u h = subst Sorted (pick-lacking ms s u h) (sorted-pick ms (lackingBits s u) h)
+
+-- ---- an untouched tank has no anchor
+pub untouched-anchors : {t : Tank} → Formed t → t .touched ≡ false → anchors (view t) ≡ []
+unfolding anchors boundaries setAt total view
+untouched-anchors {t} f u =
+    let e : suc (t .length) ≡ suc (t .length) + 0 = omega arith in
+    ap (λ n. boundaries 0 n (view t)) e
+    ∙ pass 0 (suc (t .length)) 0 (view t)
+    (λ q a b.
+    boundary-is (f .laid) q
+    ∙ rw (f .fresh u) (ap₂ (between (tableOf t) q) (none q) (plain q) ∙ between-same (tableOf t) q 0))
+  where
+    plain : (p : ℕ) → setAt (run freshLength 0 ∷ []) p ≡ 0
+    plain p =
+        elim (decLt p freshLength) [
+          | yes h ↦ at-last (run freshLength 0) [] p (omega arith) (omega arith)
+          | no h ↦ at-past (run freshLength 0 ∷ []) p (omega arith)
+        ]
+
+    none : (p : ℕ) → setBefore (run freshLength 0 ∷ []) p ≡ 0
+    none zero = refl
+    none (suc p) = plain p

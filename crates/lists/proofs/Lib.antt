@@ -1,0 +1,6 @@
+pub mod ListLaws
+pub mod AnchorLaws
+pub mod CursorLaws
+pub mod AnchorListLaws
+pub mod Leaves
+pub mod ListTests

@@ -1,0 +1,182 @@
+-- The stretch lists by position are those of the runs, and what each way out of a list's call hands back.
+use Prim.Native.Nat.{ℕ, zero, suc, _+_, _-_, _≤_, _<_, _^_, min, max}
+use mathlib.Core.Path.{_≡_, refl, sym, ap, _∙_, subst}
+use mathlib.Core.Bool.{Bool, true, false}
+use mathlib.Core.List.{List, [], _∷_, _++_}
+use native.Mathlib.Omega.{arith}
+use native.Mathlib.Decide.{decLe}
+use lib.ListN.{length, drop, take}
+use lib.Seq.{take-at}
+use borrow.Author.Tests.{lt-ltb, le-ltb, le-leb, lt-leb, ne-eqb}
+use Rattle.styles.specs.Bits.{pick}
+use Rattle.styles.proofs.CountLaws.{pick-length, ones-none}
+use Rattle.styles.proofs.SameLaws.{same-pick}
+use Rattle.runs.specs.Runs.{total, setAt}
+use Rattle.runs.specs.Count.{CanTally}
+use Rattle.runs.specs.Scan.{CanLook}
+use Rattle.runs.specs.Lists.{clipped, numbers, listed, CanList}
+use Rattle.runs.proofs.PositionLaws.{clipped-is, at-ext, at-none}
+use Rattle.tank.specs.declared.Tank.{Tank}
+use Rattle.lists.specs.declared.Listed.{Listed}
+use Rattle.tank.specs.Rules.{View, freshLength}
+use Rattle.tank.specs.State.{runsOf, tableOf, view, Laid, Formed}
+use Rattle.lists.specs.Lists.{
+  stretchesOver,
+  rangeList,
+  wholeList,
+  rangeRefusal,
+  listRefusal,
+  unlessRefused,
+  inFront,
+  answered,
+  rangeNeeded,
+  rangeNumber,
+}
+use Rattle.tank.proofs.Counted.{at-inside}
+use Rattle.tank.proofs.Unique.{inside-table}
+
+-- ---- by position and by runs
+module _ {t : Tank} (f : Laid t) where
+  over-is : (a b : ℕ) → b ≤ t .length → clipped a b (runsOf t) ≡ stretchesOver a b (view t)
+  unfolding view
+  over-is a b h =
+      clipped-is (runsOf t) a b (f .canon) (omega (arith, f .sum))
+      ∙ at-ext _ _ _ _ a b
+      (λ p x y.
+      sym
+      (same-pick (tableOf t) (setAt (runsOf t) p) (setAt (runsOf t) (suc p)) (f .sorted) (at-inside (runsOf t) _ p (inside-table f))
+      (at-inside (runsOf t) _ (suc p) (inside-table f))))
+      (λ p x y. sym (pick-length (tableOf t) (setAt (runsOf t) p) (at-inside (runsOf t) _ p (inside-table f))))
+
+  pub range-is : (a b : ℕ) → b ≤ t .length → listed 0 a b (t .lens) (t .sets) (t .runs) ≡ rangeList a b (view t)
+  unfolding rangeList
+  range-is a b h = ap (numbers 0) (over-is a b h)
+
+  pub whole-is : listed 1 0 (t .length) (t .lens) (t .sets) (t .runs) ≡ wholeList (view t)
+  unfolding wholeList view
+  whole-is = ap (numbers 1) (over-is 0 (t .length) (omega arith))
+
+  -- what looking at the runs asks
+  pub can-look : CanLook (t .lens) (t .sets) (t .runs)
+  can-look =
+      let a = f .lens-514 in
+      let b = f .sets-514 in
+      let m = f .most in
+      record { lens-n = omega arith; sets-n = omega arith; small = subst (λ n. n < 2 ^ 63) (f .sum) (f .small) }
+
+  pub can-tally : CanTally (t .lens) (t .sets) (t .runs)
+  can-tally =
+      let m = f .most in
+      record { look = can-look; few = omega arith }
+
+  -- what writing the lists asks: room for what is needed
+  pub can-range : (a b : ℕ) (out : List ℕ) → b ≤ t .length → length (rangeList a b (view t)) ≤ length out
+      → CanList 0 a b (t .lens) (t .sets) (t .runs) out
+  can-range a b out h g = record { look = can-look; room = omega (arith, ap length (range-is a b h)) }
+
+  pub can-whole : (out : List ℕ) → length (wholeList (view t)) ≤ length out → CanList 1 0 (t .length) (t .lens) (t .sets) (t .runs) out
+  can-whole out g = record { look = can-look; room = omega (arith, ap length whole-is) }
+
+-- ---- an untouched tank: one unmarked stretch over a range, and none in the whole list
+module _ {t : Tank} (f : Formed t) (untouched : t .touched ≡ false) where
+  length-is : t .length ≡ freshLength
+  unfolding total
+  length-is = f .laid .sum ∙ ap total (f .fresh untouched)
+
+  pub untouched-range : (a b : ℕ) → a < b → b ≤ t .length → rangeList a b (view t) ≡ a ∷ b ∷ 0 ∷ []
+  unfolding clipped numbers total
+  untouched-range a b h g =
+      let x : max a 0 ≡ a = omega arith in
+      let y : min b (0 + freshLength) ≡ b = omega (arith, length-is) in
+      sym (range-is (f .laid) a b g) ∙ ap (λ rs. numbers 0 (clipped a b rs)) (f .fresh untouched) ∙ rw (x, y, lt-ltb a b h, ones-none)
+
+  pub untouched-whole : wholeList (view t) ≡ []
+  unfolding clipped numbers total
+  untouched-whole =
+      let e = length-is in
+      sym (whole-is (f .laid)) ∙ ap (λ rs. numbers 1 (clipped 0 (t .length) rs)) (f .fresh untouched) ∙ rw (e, ones-none)
+
+-- ---- the refusals of a range
+module _ (a b : ℕ) (v : View) where
+  pub empty-list : b ≤ a → rangeList a b v ≡ []
+  unfolding rangeList numbers
+  empty-list h = ap (numbers 0) (at-none _ _ a b h)
+
+  refusal-empty : b ≤ a → rangeRefusal a b v ≡ 0
+  unfolding rangeRefusal
+  refusal-empty h = simp (le-leb b a h)
+
+  refusal-over : a < b → v .length < b → rangeRefusal a b v ≡ 4
+  unfolding rangeRefusal
+  refusal-over h g = simp (lt-leb b a h, lt-ltb (v .length) b g)
+
+  refusal-none : a < b → b ≤ v .length → rangeRefusal a b v ≡ 0
+  unfolding rangeRefusal
+  refusal-none h g = simp (lt-leb b a h, le-ltb (v .length) b g)
+
+  -- ---- the count needed
+  pub needed-empty : b ≤ a → record { number = 0; count = 0 } ≡ rangeNeeded a b v
+  needed-empty h = rw (refusal-empty h, empty-list h)
+
+  pub needed-over : a < b → v .length < b → record { number = 4; count = 0 } ≡ rangeNeeded a b v
+  needed-over h g = rw (refusal-over h g)
+
+  pub needed-is : (n : ℕ) → a < b → b ≤ v .length → n ≡ length (rangeList a b v) → record { number = 0; count = n } ≡ rangeNeeded a b v
+  needed-is n h g e = rw (refusal-none h g, e)
+
+  -- a count that is not 0 comes from a range that is not refused
+  pub needed-some : (r : Listed) → r ≡ rangeNeeded a b v → (r .count ≡ 0 → ⊥) → (rangeRefusal a b v ≡ 0) × (b ≤ v .length) × (r .count ≡ length (rangeList a b v))
+  needed-some r e d =
+      elim (decLe b a) [
+        | yes h ↦ absurd (d (ap (λ (x : Listed). x .count) (e ∙ sym (needed-empty h))))
+        | no h ↦
+            elim (decLe b (v .length)) [
+              | yes g ↦ (
+                refusal-none (omega arith) g,
+                g,
+                ap (λ (x : Listed). x .count) (e ∙ sym (needed-is (length (rangeList a b v)) (omega arith) g refl)),
+              )
+              | no g ↦ absurd (d (ap (λ (x : Listed). x .count) (e ∙ sym (needed-over (omega arith) (omega arith)))))
+            ]
+      ]
+
+-- ---- the ways out of a list's call, over the number that comes before 11
+no-room : {A : Type 0} (xs : List A) → length xs ≡ 0 → xs ≡ []
+no-room [] e = refl
+no-room (x ∷ xs) e = absurd (omega arith)
+
+-- what is handed over: the answer, and the buffer
+abbrev pub Handed : ℕ → List ℕ → List ℕ → Listed → List ℕ → Type 0
+Handed number xs out r out′ = (r ≡ answered number xs) × (out′ ≡ inFront (unlessRefused number xs) out)
+
+still : (lower room : ℕ) (xs : List ℕ) → length (unlessRefused lower xs) ≡ 0 → listRefusal lower room (length xs) ≡ lower
+unfolding listRefusal
+still zero room xs e = simp (le-ltb room (length xs) (omega arith))
+still (suc lower) room xs e = simp (ne-eqb (suc lower) 0 (λ q. omega arith))
+
+-- nothing is needed: refused before, or an empty list
+pub handed-none : (lower : ℕ) (xs out : List ℕ) (r : Listed) → r ≡ answered lower xs → r .count ≡ 0
+    → Handed (listRefusal lower (length out) (length xs)) xs out r out
+handed-none lower xs out r e z =
+    let k : length (unlessRefused lower xs) ≡ 0 = sym (ap (λ (x : Listed). x .count) e) ∙ z in
+    rw (still lower (length out) xs k) (e, rw (no-room (unlessRefused lower xs) k))
+
+pub handed-short : (lower : ℕ) (xs out : List ℕ) → lower ≡ 0 → length out < length xs
+    → Handed (listRefusal lower (length out) (length xs)) xs out (record { number = 11; count = 0 }) out
+unfolding listRefusal
+handed-short lower xs out e h = rw (e, lt-ltb (length out) (length xs) h) (refl, refl)
+
+pub handed-full : (lower : ℕ) (xs ys out out′ : List ℕ) (n : ℕ) → lower ≡ 0 → ys ≡ xs → length xs ≤ length out → out′ ≡ inFront ys out → n ≡ length ys
+    → Handed (listRefusal lower (length out) (length xs)) xs out (record { number = 0; count = n }) out′
+unfolding listRefusal
+handed-full lower xs ys out out′ n e y h g k = rw (e, le-ltb (length out) (length xs) h, g, k, y) (refl, refl)
+
+-- the front part of the buffer, as long as the count, is what was handed over
+pub handed-part : (number : ℕ) (xs out : List ℕ) (r : Listed) (last : List ℕ) → Handed number xs out r last → take (r .count) last ≡ unlessRefused number xs
+handed-part number xs out r last h =
+    let ys = unlessRefused number xs in
+    rw (h .1) (take-at ys (drop (length ys) out) (r .count) (sym (ap (λ (x : Listed). x .count) (h .0))))
+
+pub handed-count : (number : ℕ) (xs out : List ℕ) (r : Listed) (last : List ℕ) → Handed number xs out r last → r .count ≡ length (take (r .count) last)
+handed-count number xs out r last h =
+    ap (λ (x : Listed). x .count) (h .0) ∙ sym (ap length (handed-part number xs out r last h))

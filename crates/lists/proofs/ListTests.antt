@@ -1,0 +1,73 @@
+-- Document 01's cases 2 and 5 at small scale: a tank of 10 positions, A on 2 .. 5, and then C on 4 .. 7 as well. By computing alone.
+use mathlib.Core.Path.{_≡_, refl}
+use mathlib.Core.Bool.{false}
+use mathlib.Core.List.{[], _∷_}
+use Rattle.styles.specs.declared.Mark.{Mark}
+use Rattle.styles.specs.declared.Value.the-variants.{Null}
+use Rattle.styles.specs.Marks.{insertMark, member, only, sameMarks}
+use Rattle.styles.specs.Order.{stands, numbers as order}
+use Rattle.runs.specs.Lists.{extended, stretchesAt, numbers}
+use Rattle.lists.specs.declared.anchors.AnchorType.the-variants.{Start, End}
+use Rattle.tank.specs.Rules.{View, afterAnnotate}
+use Rattle.lists.specs.Lists.{rangeList, wholeList, rangeRefusal, rangeNeeded}
+use Rattle.lists.specs.Anchors.{before, behind, anchorOf, anchorsOf, boundary, boundaries, anchors}
+
+abbrev A : Mark
+A = record { key = 1; flags = 128; lamport = 5; peer = 1; value = Null }
+
+abbrev C : Mark
+C = record { key = 2; flags = 128; lamport = 3; peer = 1; value = Null }
+
+abbrev bare : View
+bare = record { length = 10; touched = false; at = λ p. [] }
+
+abbrev case-2 : View
+case-2 = afterAnnotate 2 5 A bare
+
+abbrev case-5 : View
+case-5 = afterAnnotate 4 7 C case-2
+
+-- ---- stretches
+whole-5 : wholeList case-5 ≡ 2 ∷ 4 ∷ 1 ∷ 4 ∷ 5 ∷ 2 ∷ 5 ∷ 7 ∷ 1 ∷ []
+unfolding wholeList numbers stretchesAt extended afterAnnotate sameMarks insertMark stands order
+whole-5 = refl
+
+-- clipped, unmarked ones included
+range-5 : rangeList 1 5 case-5 ≡ 1 ∷ 2 ∷ 0 ∷ 2 ∷ 4 ∷ 1 ∷ 4 ∷ 5 ∷ 2 ∷ []
+unfolding rangeList numbers stretchesAt extended afterAnnotate sameMarks insertMark stands order
+range-5 = refl
+
+inside-5 : rangeList 3 4 case-5 ≡ 3 ∷ 4 ∷ 1 ∷ []
+unfolding rangeList numbers stretchesAt extended afterAnnotate sameMarks insertMark stands order
+inside-5 = refl
+
+untouched : rangeList 3 9 bare ≡ 3 ∷ 9 ∷ 0 ∷ []
+unfolding rangeList numbers stretchesAt extended sameMarks
+untouched = refl
+
+-- an empty range past the length lists nothing and is not refused; one that is not empty gives 4
+empty : rangeNeeded 50 40 case-5 ≡ record { number = 0; count = 0 }
+unfolding rangeRefusal rangeList numbers stretchesAt
+empty = refl
+
+over : rangeNeeded 5 11 case-5 ≡ record { number = 4; count = 0 }
+unfolding rangeRefusal afterAnnotate
+over = refl
+
+needed : rangeNeeded 1 5 case-5 ≡ record { number = 0; count = 9 }
+unfolding rangeRefusal rangeList numbers stretchesAt extended afterAnnotate sameMarks insertMark stands order
+needed = refl
+
+-- ---- anchors
+anchors-2 : anchors case-2 ≡ anchorOf 2 Start A ∷ anchorOf 4 End A ∷ []
+unfolding anchors boundaries boundary before behind anchorsOf afterAnnotate insertMark member only stands order
+anchors-2 = refl
+
+anchors-5 : anchors case-5 ≡ anchorOf 2 Start A ∷ anchorOf 4 Start C ∷ anchorOf 4 End A ∷ anchorOf 6 End C ∷ []
+unfolding anchors boundaries boundary before behind anchorsOf afterAnnotate insertMark member only stands order
+anchors-5 = refl
+
+-- one boundary: the end of A before the start of C; a mark on the last position ends there
+anchors-edge : anchors (afterAnnotate 5 10 C case-2) ≡ anchorOf 2 Start A ∷ anchorOf 4 End A ∷ anchorOf 5 Start C ∷ anchorOf 9 End C ∷ []
+unfolding anchors boundaries boundary before behind anchorsOf afterAnnotate insertMark member only stands order
+anchors-edge = refl

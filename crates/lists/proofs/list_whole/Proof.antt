@@ -1,0 +1,33 @@
+-- `lists::list_whole` meets its contract: too short a buffer, or the list in front.
+use mathlib.Core.Path.{_≡_, refl, sym, ap, _∙_}
+use native.Mathlib.Omega.{arith}
+use borrow.Author.Needs.{needs}
+use lib.ListN.{length}
+use Rattle.tank.specs.State.{view}
+use Rattle.lists.specs.Lists.{wholeList}
+use Rattle.lists.proofs.ListLaws.{handed-short, handed-full, whole-is, can-whole}
+use Rattle.lists.proofs.list_whole.Statement.{statement}
+use Rattle.lists.proofs.list_whole.Tie as tie
+use Rattle.lists.proofs.list_whole.Reads as reads
+use Rattle.lists.proofs.list_whole.Lts as lts
+
+returns : tie.Need-returns
+returns c =
+    let s = c .before .before .before in
+    handed-short 0 (wholeList (view (s .args .t))) (s .args .out .now) refl (omega arith)
+
+list-marked-requires : tie.Need-list-marked-requires
+list-marked-requires c κs =
+    let s = c .before .before .before .before .before .before .before .before in
+    can-whole (s .pre .formed .laid) (s .args .out .now) (omega arith)
+
+returns-2 : tie.Need-returns-2
+returns-2 c =
+    let w = c .before .before .list-marked in
+    let s = c .before .before .before .before .before .before .before .before .before .before .before in
+    handed-full 0 (wholeList (view (s .args .t))) _ (s .args .out .now) _ _ refl (whole-is (s .pre .formed .laid)) (omega arith) (w .ensures .0) (w .ensures .1)
+
+pub list-whole-spec : {M : Type 1} → statement M
+list-whole-spec =
+    tie.close
+    (tie.spec (λ c κs. search needs) returns (λ c. search needs) (λ c. search needs) list-marked-requires (λ c. search needs) returns-2)

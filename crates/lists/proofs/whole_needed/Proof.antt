@@ -1,0 +1,15 @@
+-- `lists::whole_needed` meets its contract: the count of the runs' list.
+use mathlib.Core.Path.{ap, _∙_}
+use borrow.Author.Needs.{needs}
+use lib.ListN.{length}
+use Rattle.lists.proofs.ListLaws.{whole-is}
+use Rattle.lists.proofs.whole_needed.Statement.{statement}
+use Rattle.lists.proofs.whole_needed.Tie as tie
+use Rattle.lists.proofs.whole_needed.Reads as reads
+use Rattle.lists.proofs.whole_needed.Lts as lts
+
+returns : tie.Need-returns
+returns c = c .need-marked .ensures ∙ ap length (whole-is (c .before .before .before .before .before .pre .formed .laid))
+
+pub whole-needed-spec : {M : Type 1} → statement M
+whole-needed-spec = tie.close (tie.spec (λ c. search needs) (λ c. search needs) (λ c κs. search needs) returns)

@@ -1,0 +1,55 @@
+-- Document 01, "Questions and lists": the stretches of a range and of the whole tank, from the positions.
+use Prim.Native.Nat.{ℕ, suc}
+use mathlib.Core.Bool.{Bool, cond}
+use mathlib.Core.List.{List, [], _++_}
+use lib.Dec.{ltb, leb, eqb}
+use lib.ListN.{length, drop}
+use Rattle.styles.specs.Marks.{sameMarks}
+use Rattle.runs.specs.Lists.{Stretch, stretchesAt, numbers}
+use Rattle.lists.specs.declared.Listed.{Listed}
+use Rattle.tank.specs.Rules.{View}
+
+-- the maximal stretches of neighbouring positions of a .. b with equal sets, clipped to it, each with its count of marks: a position more
+-- lengthens the last stretch where its marks are those of the position before it, and begins one otherwise
+abbrev pub stretchesOver : ℕ → ℕ → View → List Stretch
+stretchesOver a b v = stretchesAt (λ p. sameMarks (v .at p) (v .at (suc p))) (λ p. length (v .at p)) a b
+
+-- the stretches over a .. b, unmarked ones included: start, end, count of marks of each in order
+unfoldable pub rangeList : ℕ → ℕ → View → List ℕ
+rangeList a b v = numbers 0 (stretchesOver a b v)
+
+-- the whole tank's stretches, in the same shape, unmarked ones left out
+unfoldable pub wholeList : View → List ℕ
+wholeList v = numbers 1 (stretchesOver 0 (v .length) v)
+
+-- 4: range end over the length; an empty range is not asked
+unfoldable pub rangeRefusal : ℕ → ℕ → View → ℕ
+rangeRefusal a b v = cond (leb b a) 0 (cond (ltb (v .length) b) 4 0)
+
+-- 11 where no lower number is given and the list is longer than the caller's buffer or list of `room` places
+unfoldable pub listRefusal : ℕ → ℕ → ℕ → ℕ
+listRefusal lower room needed = cond (eqb lower 0) (cond (ltb room needed) 11 0) lower
+
+-- what is handed over beside a number: the list, and nothing beside a refusal
+abbrev pub unlessRefused : {A : Type 0} → ℕ → List A → List A
+unlessRefused number xs = cond (eqb number 0) xs []
+
+-- a lent list with xs at its front, the rest as it was
+abbrev pub inFront : {A : Type 0} → List A → List A → List A
+inFront xs out = xs ++ drop (length xs) out
+
+-- a number, and how many places of the buffer are filled beside it
+abbrev pub answered : {A : Type 0} → ℕ → List A → Listed
+answered number xs = record { number = number; count = length (unlessRefused number xs) }
+
+-- the count needed for a range: asked without a buffer, so never 11
+abbrev pub rangeNeeded : ℕ → ℕ → View → Listed
+rangeNeeded a b v = answered (rangeRefusal a b v) (rangeList a b v)
+
+-- the number that a list over a range gives where the buffer has `room` places
+abbrev pub rangeNumber : ℕ → ℕ → ℕ → View → ℕ
+rangeNumber a b room v = listRefusal (rangeRefusal a b v) room (length (rangeList a b v))
+
+-- and for the whole tank
+abbrev pub wholeNumber : ℕ → View → ℕ
+wholeNumber room v = listRefusal 0 room (length (wholeList v))

@@ -1,0 +1,237 @@
+-- The questions by their cases: each test by its number, and masks over the table in place of tests of marks.
+use Prim.Native.Nat.{ℕ, zero, suc, _-_, _≤_, _<_, _^_}
+use mathlib.Core.Path.{_≡_, refl, sym, ap, _∙_}
+use mathlib.Core.Bool.{Bool, true, false}
+use mathlib.Core.List.{List, []}
+use native.Mathlib.Omega.{arith}
+use lib.Bits.{bitAnd, and-le-r}
+use lib.ListN.{length}
+use lib.Pow.{pow-mono, pow-pos}
+use borrow.Author.Tests.{lt-ltb, le-ltb, le-leb, lt-leb}
+use Rattle.styles.specs.declared.Mark.{Mark}
+use Rattle.styles.specs.declared.Styles.{Styles}
+use Rattle.styles.specs.declared.Value.{Value}
+use Rattle.styles.specs.Answers.{stylesOf}
+use Rattle.styles.specs.Bits.{pick, hasBit, maskOf, TopIn}
+use Rattle.styles.specs.Marks.{keyIs, valueIs, sameMarks, blank}
+use Rattle.styles.specs.Values.{valueNan}
+use Rattle.styles.proofs.MaskLaws.{has-key-bits, shows-bits, mask-less, one-top}
+use Rattle.styles.proofs.SameLaws.{same-pick}
+use Rattle.styles.proofs.UnionLaws.{pick-none}
+use Rattle.runs.specs.Runs.{runs, total, setAt, sums}
+use Rattle.runs.specs.Gather.{gather}
+use Rattle.runs.specs.Scan.{anyAt, allAt, meets, topIn, shows, commonAt, CanLook}
+use Rattle.runs.proofs.ScanLaws.{any-ext, all-ext, top-in-is, top-in-none, can-look as can-ask}
+use lib.Dec.{eqb}
+use Rattle.tank.specs.declared.Tank.{Tank}
+use Rattle.questions.specs.declared.SetAsked.{SetAsked}
+use Rattle.questions.specs.declared.Shared.{Shared}
+use Rattle.questions.specs.declared.Told.{Told}
+use Rattle.questions.specs.declared.Told.the-variants as told
+use Rattle.tank.specs.Rules.{inherited, forInsert}
+use Rattle.tank.specs.State.{runsOf, tableOf, view, Formed}
+use Rattle.questions.specs.Questions.{toldOf, setOf, sharedOf, positionRefusal, insertRefusal, yesNoRefusal, yesNo, rangeContainsKey, rangeHasKeyValue, sameRefusal, agreeing, stylesOfRange}
+use Rattle.tank.proofs.Counted.{at-inside}
+use Rattle.tank.proofs.GrowLaws.{common-there, common-inherited}
+use Rattle.tank.proofs.Shape.{view-touched}
+use Rattle.tank.proofs.Unique.{table-length, inside-table}
+
+-- ---- the highest bit of u below k, as a test of u and v
+top-is : (k u v : ℕ) → u < 2 ^ k → TopIn u v (topIn k u v)
+top-is k u v l =
+    record {
+      none = λ e. rw e (top-in-none k v);
+      top =
+          λ j g h.
+          sym
+          (top-in-is k u v (hasBit j v) l
+          (record {
+            none = λ e. absurd (omega (arith, pow-pos j));
+            top = λ i a b. ap (λ (x : ℕ). hasBit x v) (one-top j i u g h a b);
+          }));
+    }
+
+-- ---- no set beside a number
+pub no-set-is : (n : ℕ) {styles : Styles} → styles ≡ stylesOf [] → _≡_ {A = SetAsked} (record { number = n; styles = styles }) (setOf n [])
+no-set-is zero e = λ i. record { number = 0; styles = e i }
+no-set-is (suc n) e = λ i. record { number = suc n; styles = e i }
+
+pub not-shared-is : (n : ℕ) {styles : Styles} → styles ≡ stylesOf []
+    → _≡_ {A = Shared} (record { number = n; agree = false; styles = styles }) (sharedOf n false [])
+not-shared-is zero e = λ i. record { number = 0; agree = false; styles = e i }
+not-shared-is (suc n) e = λ i. record { number = suc n; agree = false; styles = e i }
+
+module _ {t : Tank} (f : Formed t) where
+  -- ---- what the runs are asked
+  pub can-look : CanLook (t .lens) (t .sets) (t .runs)
+  can-look =
+      let l = f .laid in
+      let a = l .lens-514 in
+      let b = l .sets-514 in
+      let c = l .most in
+      let d = l .sum in
+      let g = l .small in
+      record { lens-n = omega arith; sets-n = omega arith; small = omega arith }
+
+  pub looks : ((t .runs ≤ length (t .lens)) × (t .runs ≤ length (t .sets))) × (sums (t .lens) (t .runs) < 2 ^ 63)
+  looks = can-ask can-look
+
+  -- a set at a position is one over the table
+  pub set-inside : (p : ℕ) → setAt (runsOf t) p < 2 ^ t .marks
+  set-inside p = at-inside (runsOf t) (t .marks) p (f .laid .inside)
+
+  -- ---- at a position: g is what is asked of the number and the marks
+  module _ {A : Type 0} (g : ℕ → List Mark → A) (p : ℕ) where
+    pub at-4 : t .length ≤ p → g 4 ((view t) .at p) ≡ g (positionRefusal p (view t)) ((view t) .at p)
+    unfolding positionRefusal view
+    at-4 h = simp (le-leb (t .length) p h)
+
+    pub at-done : {s : ℕ} → p < t .length → s ≡ setAt (runsOf t) p
+        → g 0 (pick (tableOf t) s) ≡ g (positionRefusal p (view t)) ((view t) .at p)
+    unfolding positionRefusal view
+    at-done h e = simp (lt-leb (t .length) p h, e)
+
+  -- ---- what an insertion would get
+  module _ {A : Type 0} (g : ℕ → List Mark → A) (pos : ℕ) where
+    pub insert-4 : t .length < pos → g 4 (forInsert pos (view t)) ≡ g (insertRefusal pos (view t)) (forInsert pos (view t))
+    unfolding insertRefusal view
+    insert-4 h = simp (lt-ltb (t .length) pos h)
+
+    pub insert-done : (s : ℕ) → pos ≤ t .length → pick (tableOf t) s ≡ forInsert pos (view t)
+        → g 0 (pick (tableOf t) s) ≡ g (insertRefusal pos (view t)) (forInsert pos (view t))
+    unfolding insertRefusal view
+    insert-done s h e = simp (le-ltb (t .length) pos h, e)
+
+  pub none-for-insert : (pos : ℕ) → t .touched ≡ false → pick (tableOf t) 0 ≡ forInsert pos (view t)
+  unfolding forInsert view
+  none-for-insert pos e = pick-none (tableOf t) ∙ sym (simp e)
+
+  module _ (pos : ℕ) (fits : pos ≤ t .length) where
+    reach : pos ≤ total (runsOf t)
+    reach = let a = f .laid .sum in omega arith
+
+    pub common-inside : commonAt (runsOf t) pos < 2 ^ t .marks
+    common-inside =
+        let a = f .laid .inside in
+        omega (arith, common-there (runsOf t) pos reach, and-le-r (commonAt (runsOf t) pos) (gather (runsOf t)))
+
+    pub common-for-insert : t .touched ≡ true → pick (tableOf t) (commonAt (runsOf t) pos) ≡ forInsert pos (view t)
+    unfolding forInsert view
+    common-for-insert e =
+        common-inherited (runsOf t) pos reach (tableOf t) (f .laid .sorted)
+        ∙ ap (inherited pos) (view-touched (f .laid) e) ∙ sym (simp e)
+
+  -- ---- the yes/no questions
+  module _ (a b : ℕ) (nan holds : Bool) where
+    abbrev answer : Told
+    answer = toldOf (yesNoRefusal a b nan (view t)) (yesNo a b holds (view t))
+
+    pub no-empty : b ≤ a → told.No ≡ answer
+    unfolding yesNoRefusal yesNo
+    no-empty h = simp (le-leb b a h, le-ltb a b h)
+
+    module _ (some : a < b) where
+      pub told-4 : t .length < b → told.Refused 4 ≡ answer
+      unfolding yesNoRefusal view
+      told-4 h = simp (lt-leb b a some, lt-ltb (t .length) b h)
+
+      module _ (fits : b ≤ t .length) where
+        pub told-6 : nan ≡ true → told.Refused 6 ≡ answer
+        unfolding yesNoRefusal view
+        told-6 e = simp (lt-leb b a some, le-ltb (t .length) b fits, e)
+
+        module _ (number : nan ≡ false) where
+          accepted : yesNoRefusal a b nan (view t) ≡ 0
+          unfolding yesNoRefusal view
+          accepted = simp (lt-leb b a some, le-ltb (t .length) b fits, number)
+
+          pub no-untouched : t .touched ≡ false → told.No ≡ answer
+          unfolding yesNo view
+          no-untouched e = let n = accepted in simp (n, e, lt-ltb a b some)
+
+          told-done : t .touched ≡ true → toldOf 0 holds ≡ answer
+          unfolding yesNo view
+          told-done e = let n = accepted in simp (n, e, lt-ltb a b some)
+
+  module _ (a b : ℕ) (some : a < b) (fits : b ≤ t .length) (e : t .touched ≡ true) (key : ℕ) where
+    -- some position has a bit of the key's mask where it has a mark with the key
+    pub key-done : {mask : ℕ} {r : Bool} → mask ≡ maskOf (keyIs key) (tableOf t) → r ≡ anyAt (λ p. meets mask (setAt (runsOf t) p)) a b
+        → toldOf 0 r ≡ rangeContainsKey a b key (view t)
+    unfolding view
+    key-done {mask} m q =
+        ap (toldOf 0)
+        (q
+        ∙ any-ext _ _ a b
+        (λ p g h. ap (λ (x : ℕ). meets x (setAt (runsOf t) p)) m ∙ sym (has-key-bits (tableOf t) (setAt (runsOf t) p) key blank)))
+        ∙ told-done a b false _ some fits refl e
+
+    first-small : (s : ℕ) → bitAnd s (maskOf (keyIs key) (tableOf t)) < 2 ^ 64
+    first-small s =
+        let few = f .laid .few in
+        omega (
+          arith,
+          and-le-r s (maskOf (keyIs key) (tableOf t)),
+          mask-less (keyIs key) (tableOf t),
+          pow-mono {i = length (tableOf t)} {j = 64} (omega (arith, table-length (f .laid))),
+        )
+
+    -- every position has as the highest bit of the key's mask one of the value's where it shows the value
+    pub value-done : (w : Value) {first second : ℕ} {r : Bool} → valueNan w ≡ false → first ≡ maskOf (keyIs key) (tableOf t)
+        → second ≡ maskOf (valueIs w) (tableOf t) → r ≡ allAt (λ p. shows first second (setAt (runsOf t) p)) a b
+        → toldOf 0 r ≡ rangeHasKeyValue a b key w (view t)
+    unfolding view
+    value-done w number m n q =
+        ap (toldOf 0)
+        (q
+        ∙ all-ext _ _ a b
+        (λ p g h.
+        let s = setAt (runsOf t) p in
+        (λ i. shows (m i) (n i) s)
+        ∙ shows-bits (tableOf t) s key w blank _ (f .laid .sorted) (top-is 64 _ (maskOf (valueIs w) (tableOf t)) (first-small s))))
+        ∙ told-done a b (valueNan w) _ some fits number e
+
+  -- ---- same marks throughout
+  -- positions have one set where they have the same marks
+  same-in : (a b : ℕ) → allAt (λ p. eqb (setAt (runsOf t) p) (setAt (runsOf t) a)) a b ≡ allAt (λ p. sameMarks ((view t) .at p) ((view t) .at a)) a b
+  unfolding view
+  same-in a b =
+      let all = inside-table (f .laid) in
+      all-ext _ _ a b
+      (λ p g h.
+      sym
+      (same-pick (tableOf t) (setAt (runsOf t) p) (setAt (runsOf t) a) (f .laid .sorted)
+      (at-inside (runsOf t) _ p all) (at-inside (runsOf t) _ a all)))
+
+  module _ (a b : ℕ) where
+    pub shared-3 : b ≤ a → sharedOf 3 false [] ≡ stylesOfRange a b (view t)
+    unfolding sameRefusal
+    shared-3 h = simp (le-leb b a h)
+
+    module _ (some : a < b) where
+      pub shared-4 : t .length < b → sharedOf 4 false [] ≡ stylesOfRange a b (view t)
+      unfolding sameRefusal view
+      shared-4 h = simp (lt-leb b a some, lt-ltb (t .length) b h)
+
+      module _ (fits : b ≤ t .length) where
+        answers : (agree : Bool) → agreeing a b (view t) ≡ agree → sharedOf 0 agree ((view t) .at a) ≡ stylesOfRange a b (view t)
+        unfolding sameRefusal view
+        answers agree e = simp (lt-leb b a some, le-ltb (t .length) b fits, e)
+
+        pub none-untouched : t .touched ≡ false → sharedOf 0 false [] ≡ stylesOfRange a b (view t)
+        unfolding agreeing view
+        none-untouched e = answers false (simp e)
+
+        module _ (e : t .touched ≡ true) (same : Bool) (q : same ≡ allAt (λ p. eqb (setAt (runsOf t) p) (setAt (runsOf t) a)) a b) where
+          agree-is : agreeing a b (view t) ≡ same
+          unfolding agreeing view
+          agree-is = simp e (sym (q ∙ same-in a b))
+
+          pub none-shared : same ≡ false → sharedOf 0 false [] ≡ stylesOfRange a b (view t)
+          none-shared g = answers false (agree-is ∙ g)
+
+          pub shared-done : {s : ℕ} {styles : Styles} → same ≡ true → s ≡ setAt (runsOf t) a → styles ≡ stylesOf (pick (tableOf t) s)
+              → record { number = 0; agree = true; styles = styles } ≡ stylesOfRange a b (view t)
+          unfolding view
+          shared-done g h k =
+              let done = answers true (agree-is ∙ g) in
+              (λ i. record { number = 0; agree = true; styles = (k ∙ ap (λ x. stylesOf (pick (tableOf t) x)) h) i }) ∙ done

@@ -1,0 +1,92 @@
+-- The readers are exact: what is accepted is what is printed of its answer, and what is printed is accepted.
+use mathlib.Core.Path.{_≡_, refl, sym, ap, _∙_}
+use mathlib.Core.Bool.{Bool, true, false, cond}
+use mathlib.Core.List.{List, [], _∷_, _++_}
+use Prim.Native.Nat.{ℕ, _^_, _≤_, _<_}
+use native.Mathlib.Omega.{arith}
+use lib.Dec.{T, leb}
+use lib.Ieee.{Float, binary64, toBits, ofBits, fits}
+use lib.Ieee.Bits.{toBits-lt, ofBits-toBits}
+use lib.IntN.{ℤ}
+use lib.ListN.{length, drop}
+use lib.Seq.{drop-append-seam}
+use borrow.Author.Tests.{le-leb, leb-true}
+use mir.Syntax.{w64}
+use mir.Val.{SFits}
+use Rattle.text.specs.declared.Parsed.{Parsed}
+use Rattle.text.specs.Number.{decimalOf, decimalText, hexText}
+use Rattle.text.specs.Signed.{signedText}
+use Rattle.text.specs.Starts.{startsOf, sameOf}
+use Rattle.text.proofs.Laws.{decimal-back, decimal-only, decimal-reads, hex-back}
+use Rattle.text.proofs.Integers.{integer-back}
+use Rattle.text.proofs.Prefix.{starts-split, split-starts, same-is}
+use Rattle.styles.specs.declared.Value.{Value}
+use Rattle.script.specs.declared.Field.{Field}
+use Rattle.script.specs.declared.Kind.{Kind}
+use Rattle.script.specs.declared.Op.{Op}
+use Rattle.script.specs.declared.ReadOp.{ReadOp}
+use Rattle.script.specs.declared.ReadValue.{ReadValue}
+use Rattle.script.specs.Grammar.{nameOf, opName}
+use Rattle.script.specs.Reading.{withinOf, numberOf, opAmong, ops, opNamed, valueOf}
+use Rattle.script.specs.Writing.{kindOf, valueWord}
+
+-- ---- a field's number
+within-only : (p : Parsed) (most n : ℕ) → withinOf most p ≡ Parsed.Number n → (p ≡ Parsed.Number n) × (n ≤ most)
+within-only Parsed.Bad most n e = let z : _≡_ {A = ℕ} 0 1 = cc in absurd (omega arith)
+within-only (Parsed.Number k) most n e = go (leb k most) refl e
+  where
+    go : (b : Bool) → leb k most ≡ b → cond b (Parsed.Number k) Parsed.Bad ≡ Parsed.Number n → (Parsed.Number k ≡ Parsed.Number n) × (n ≤ most)
+    go true h f = let q : k ≡ n = cc in (f, omega (arith, leb-true k most h))
+    go false h f = let z : _≡_ {A = ℕ} 0 1 = cc in absurd (omega arith)
+
+by-start : (b : Bool) (p : Parsed) (n : ℕ) → cond b p Parsed.Bad ≡ Parsed.Number n → (b ≡ true) × (p ≡ Parsed.Number n)
+by-start true p n e = (refl, e)
+by-start false p n e = let z : _≡_ {A = ℕ} 0 1 = cc in absurd (omega arith)
+
+-- a line is accepted only where it is the field's name and the number's decimal text, and the number is in width
+pub number-only : (f : Field) (most n : ℕ) (line : List ℕ) → numberOf f most line ≡ Parsed.Number n → (line ≡ nameOf f ++ decimalText n) × (n ≤ most)
+unfolding numberOf
+number-only f most n line e =
+    let s = by-start (startsOf line (nameOf f)) (withinOf most (decimalOf (drop (length (nameOf f)) line))) n e in
+    let w = within-only (decimalOf (drop (length (nameOf f)) line)) most n (s .1) in
+    (starts-split line (nameOf f) (s .0) ∙ ap (λ (t : List ℕ). nameOf f ++ t) (decimal-only (drop (length (nameOf f)) line) n (w .0)), w .1)
+
+-- and every such line is
+pub number-back : (f : Field) (most n : ℕ) → n ≤ most → n < 2 ^ 64 → numberOf f most (nameOf f ++ decimalText n) ≡ Parsed.Number n
+unfolding numberOf
+number-back f most n h k =
+    ap (λ (b : Bool). cond b (withinOf most (decimalOf (drop (length (nameOf f)) (nameOf f ++ decimalText n)))) Parsed.Bad) (split-starts (nameOf f) (decimalText n))
+    ∙ ap (λ (t : List ℕ). withinOf most (decimalOf t)) (drop-append-seam (nameOf f) (decimalText n))
+    ∙ ap (withinOf most) (decimal-back n k)
+    ∙ ap (λ (b : Bool). cond b (Parsed.Number n) Parsed.Bad) (le-leb n most h)
+
+-- ---- an op's name
+by-name : (b : Bool) (t : List ℕ) (o op : Op) (rest : ReadOp) → sameOf t (opName o) ≡ b → cond b (ReadOp.Op o) rest ≡ ReadOp.Op op → (rest ≡ ReadOp.Op op → t ≡ opName op) → t ≡ opName op
+by-name true t o op rest h f later = let q : o ≡ op = cc in same-is t (opName o) h ∙ ap opName q
+by-name false t o op rest h f later = later f
+
+among-only : (os : List Op) (t : List ℕ) (op : Op) → opAmong os t ReadOp.Bad ≡ ReadOp.Op op → t ≡ opName op
+among-only [] t op e = let z : _≡_ {A = ℕ} 0 1 = cc in absurd (omega arith)
+among-only (o ∷ os) t op e = by-name (sameOf t (opName o)) t o op (opAmong os t ReadOp.Bad) refl e (among-only os t op)
+
+-- a text is an op only where it is the op's name; that every name is known is shown in Tests
+pub op-only : (t : List ℕ) (op : Op) → opNamed t ≡ ReadOp.Op op → t ≡ opName op
+unfolding opNamed
+op-only t op e = among-only ops t op e
+
+-- ---- a value
+-- a value that 64 bits hold
+pub Fitting : Value → Type 0
+Fitting Value.Null = Unit {0}
+Fitting (Value.Flag b) = Unit {0}
+Fitting (Value.Whole z) = SFits w64 z
+Fitting (Value.Decimal x) = T (fits binary64 x)
+
+-- what is printed of a value reads back as the value
+pub value-back : (v : Value) → Fitting v → valueOf (kindOf v) (valueWord v) ≡ ReadValue.Value v
+unfolding valueOf Fitting sameOf startsOf
+value-back Value.Null h = refl
+value-back (Value.Flag true) h = refl
+value-back (Value.Flag false) h = refl
+value-back (Value.Whole z) h = rw (integer-back z h)
+value-back (Value.Decimal x) h = rw (hex-back (toBits binary64 x) (toBits-lt binary64 x h)) (ap (λ (y : Float). ReadValue.Value (Value.Decimal y)) (ofBits-toBits binary64 x h))

@@ -1,0 +1,8 @@
+pub mod Tables
+pub mod Places
+pub mod LineLaws
+pub mod CutLaws
+pub mod PutLaws
+pub mod Exact
+pub mod CutAnywhere
+pub mod Tests

@@ -1,0 +1,52 @@
+-- Places of an op's fields: sixteen are enough for every op.
+use mathlib.Core.Path.{_≡_, refl, sym, ap, _∙_}
+use mathlib.Core.Bool.{Bool, true, false}
+use mathlib.Core.List.{List, [], _∷_, _++_}
+use Prim.Native.Nat.{ℕ, zero, suc, _+_, _-_, _≤_, _<_}
+use native.Mathlib.Omega.{arith}
+use native.Mathlib.Decide.{decLt}
+use lib.Dec.{leb}
+use borrow.Author.Tests.{leb-true}
+use lib.ListN.{length, getD, replicate, List·getD-eq-default}
+use Rattle.script.specs.declared.Op.{Op}
+use Rattle.script.specs.declared.Field.{Field}
+use Rattle.script.specs.Grammar.{fieldsOf, fieldAt, padded}
+
+-- Done in the places behind a list changes no answer
+padding : (n i : ℕ) → getD (replicate n Field.Done) i Field.Done ≡ Field.Done
+padding zero i = refl
+padding (suc n) zero = refl
+padding (suc n) (suc i) = padding n i
+
+pub getD-padding : (n i : ℕ) (fs : List Field) → getD (fs ++ replicate n Field.Done) i Field.Done ≡ getD fs i Field.Done
+getD-padding n i [] = padding n i
+getD-padding n zero (f ∷ fs) = refl
+getD-padding n (suc i) (f ∷ fs) = getD-padding n i fs
+
+few-fields : (op : Op) → leb (length (fieldsOf op)) 16 ≡ true
+few-fields Op.Nothing = refl
+few-fields Op.Open = refl
+few-fields Op.Annotate = refl
+few-fields Op.Insert = refl
+few-fields Op.Delete = refl
+few-fields Op.Remove = refl
+few-fields Op.Length = refl
+few-fields Op.Touched = refl
+few-fields Op.Runs = refl
+few-fields Op.Value = refl
+few-fields Op.HasKey = refl
+few-fields Op.AllValue = refl
+few-fields Op.Same = refl
+few-fields Op.Marks = refl
+few-fields Op.Inherit = refl
+few-fields Op.Mark = refl
+few-fields Op.Inherited = refl
+few-fields Op.Stretches = refl
+few-fields Op.StretchesNeeded = refl
+few-fields Op.Whole = refl
+few-fields Op.WholeNeeded = refl
+few-fields Op.Anchors = refl
+
+-- past the sixteenth place there is no field
+pub past-fields : (op : Op) (i : ℕ) → 16 ≤ i → fieldAt op i ≡ Field.Done
+past-fields op i h = List·getD-eq-default (fieldsOf op) Field.Done (omega (arith, leb-true (length (fieldsOf op)) 16 (few-fields op)))

@@ -1,0 +1,144 @@
+-- Closed examples: what the definitions say of a few lines.
+use mathlib.Core.Path.{_≡_, refl}
+use mathlib.Core.Bool.{Bool, true, false}
+use mathlib.Core.List.{List, [], _∷_, _++_}
+use lib.IntN.{ℤ, pos, negsuc}
+use Rattle.text.specs.declared.Parsed.{Parsed}
+use Rattle.text.specs.Number.{decimalOf, numberFrom}
+use Rattle.text.specs.Signed.{signedOf, minusOf, plusOf}
+use Rattle.text.specs.Starts.{startsOf, sameOf}
+use Rattle.styles.specs.declared.Value.{Value}
+use Rattle.script.specs.declared.Event.{Event}
+use Rattle.script.specs.declared.Field.{Field}
+use Rattle.script.specs.declared.Kind.{Kind}
+use Rattle.script.specs.declared.Op.{Op}
+use Rattle.script.specs.declared.Progress.{Progress}
+use Rattle.script.specs.declared.ReadOp.{ReadOp}
+use Rattle.script.specs.declared.ReadValue.{ReadValue}
+use Rattle.script.specs.Bytes.{bytes}
+use Rattle.script.specs.Grammar.{opName}
+use Rattle.script.specs.Reading.{numberOf, opNamed, kindNamed, valueOf, freshOf, movedOf, heldLine, lineOf}
+use Rattle.script.specs.Lines.{before, hasEnd, State, afterOf, bringsOf}
+
+-- every op is known by its name
+op-open : opNamed (opName Op.Open) ≡ ReadOp.Op Op.Open
+unfolding opNamed sameOf startsOf
+op-open = refl
+
+op-annotate : opNamed (opName Op.Annotate) ≡ ReadOp.Op Op.Annotate
+unfolding opNamed sameOf startsOf
+op-annotate = refl
+
+op-insert : opNamed (opName Op.Insert) ≡ ReadOp.Op Op.Insert
+unfolding opNamed sameOf startsOf
+op-insert = refl
+
+op-delete : opNamed (opName Op.Delete) ≡ ReadOp.Op Op.Delete
+unfolding opNamed sameOf startsOf
+op-delete = refl
+
+op-remove : opNamed (opName Op.Remove) ≡ ReadOp.Op Op.Remove
+unfolding opNamed sameOf startsOf
+op-remove = refl
+
+op-length : opNamed (opName Op.Length) ≡ ReadOp.Op Op.Length
+unfolding opNamed sameOf startsOf
+op-length = refl
+
+op-touched : opNamed (opName Op.Touched) ≡ ReadOp.Op Op.Touched
+unfolding opNamed sameOf startsOf
+op-touched = refl
+
+op-runs : opNamed (opName Op.Runs) ≡ ReadOp.Op Op.Runs
+unfolding opNamed sameOf startsOf
+op-runs = refl
+
+op-value : opNamed (opName Op.Value) ≡ ReadOp.Op Op.Value
+unfolding opNamed sameOf startsOf
+op-value = refl
+
+op-haskey : opNamed (opName Op.HasKey) ≡ ReadOp.Op Op.HasKey
+unfolding opNamed sameOf startsOf
+op-haskey = refl
+
+op-allvalue : opNamed (opName Op.AllValue) ≡ ReadOp.Op Op.AllValue
+unfolding opNamed sameOf startsOf
+op-allvalue = refl
+
+op-same : opNamed (opName Op.Same) ≡ ReadOp.Op Op.Same
+unfolding opNamed sameOf startsOf
+op-same = refl
+
+op-marks : opNamed (opName Op.Marks) ≡ ReadOp.Op Op.Marks
+unfolding opNamed sameOf startsOf
+op-marks = refl
+
+op-inherit : opNamed (opName Op.Inherit) ≡ ReadOp.Op Op.Inherit
+unfolding opNamed sameOf startsOf
+op-inherit = refl
+
+op-mark : opNamed (opName Op.Mark) ≡ ReadOp.Op Op.Mark
+unfolding opNamed sameOf startsOf
+op-mark = refl
+
+op-inherited : opNamed (opName Op.Inherited) ≡ ReadOp.Op Op.Inherited
+unfolding opNamed sameOf startsOf
+op-inherited = refl
+
+op-stretches : opNamed (opName Op.Stretches) ≡ ReadOp.Op Op.Stretches
+unfolding opNamed sameOf startsOf
+op-stretches = refl
+
+op-stretchesneeded : opNamed (opName Op.StretchesNeeded) ≡ ReadOp.Op Op.StretchesNeeded
+unfolding opNamed sameOf startsOf
+op-stretchesneeded = refl
+
+op-whole : opNamed (opName Op.Whole) ≡ ReadOp.Op Op.Whole
+unfolding opNamed sameOf startsOf
+op-whole = refl
+
+op-wholeneeded : opNamed (opName Op.WholeNeeded) ≡ ReadOp.Op Op.WholeNeeded
+unfolding opNamed sameOf startsOf
+op-wholeneeded = refl
+
+op-anchors : opNamed (opName Op.Anchors) ≡ ReadOp.Op Op.Anchors
+unfolding opNamed sameOf startsOf
+op-anchors = refl
+
+-- a key has 16 bits, and another field's line is not taken for it
+most-key : numberOf Field.Key 65535 (bytes "key=65535") ≡ Parsed.Number 65535
+unfolding numberOf startsOf decimalOf numberFrom
+most-key = refl
+
+wide-key : numberOf Field.Key 65535 (bytes "key=65536") ≡ Parsed.Bad
+unfolding numberOf startsOf decimalOf numberFrom
+wide-key = refl
+
+leading-zero : numberOf Field.Key 65535 (bytes "key=07") ≡ Parsed.Bad
+unfolding numberOf startsOf decimalOf numberFrom
+leading-zero = refl
+
+other-field : numberOf Field.Key 65535 (bytes "tank=7") ≡ Parsed.Bad
+unfolding numberOf startsOf decimalOf numberFrom
+other-field = refl
+
+minus-zero : valueOf Kind.Whole (bytes "-0") ≡ ReadValue.Bad
+unfolding valueOf signedOf minusOf decimalOf numberFrom
+minus-zero = refl
+
+-- the one field of `length` makes the call whole
+whole-call : lineOf (freshOf Op.Length) (bytes "tank=7") .progress ≡ Progress.Ready
+unfolding lineOf heldLine movedOf numberOf startsOf decimalOf numberFrom
+whole-call = refl
+
+out-of-order : lineOf (freshOf Op.Insert) (bytes "at=7") .progress ≡ Progress.Bad
+unfolding lineOf heldLine movedOf numberOf startsOf decimalOf numberFrom
+out-of-order = refl
+
+start : State
+start = record { held = bytes "op=ru"; call = freshOf Op.Nothing; newlines = 4 }
+
+-- a line whose start came before
+second-half : afterOf start (bytes "ns\ntank=1") ≡ record { held = []; call = freshOf Op.Runs; newlines = 5 }
+unfolding start afterOf before hasEnd lineOf heldLine opNamed sameOf startsOf
+second-half = refl

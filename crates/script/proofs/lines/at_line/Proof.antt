@@ -1,0 +1,14 @@
+-- The line is empty.
+use mathlib.Core.Path.{ap}
+use mathlib.Core.List.{List}
+use Prim.Native.Nat.{ℕ}
+use borrow.Author.Needs.{needs}
+use Rattle.script.specs.Lines.{State}
+use Rattle.script.proofs.lines.at_line.Statement.{statement}
+use Rattle.script.proofs.lines.at_line.Tie as tie
+
+returns : tie.Need-returns
+returns c = rw (c .empty-line .ensures)
+
+pub at-line-spec : {M : Type 1} → statement M
+at-line-spec = tie.close (tie.spec (λ c κs. search needs) returns)

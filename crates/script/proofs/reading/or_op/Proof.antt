@@ -1,0 +1,21 @@
+-- The text is the name, or it is not.
+use mathlib.Core.Path.{_≡_, sym, ap, _∙_}
+use mathlib.Core.Bool.{Bool, true, false, cond}
+use mathlib.Core.List.{List}
+use Prim.Native.Nat.{ℕ}
+use borrow.Author.Needs.{needs}
+use Rattle.text.specs.Starts.{sameOf}
+use Rattle.script.proofs.reading.or_op.Statement.{statement}
+use Rattle.script.proofs.reading.or_op.Tie as tie
+
+by-name : {A : Type 0} (t n m : List ℕ) (a b : A) (q : Bool) → n ≡ m → q ≡ sameOf t n → cond q a b ≡ cond (sameOf t m) a b
+by-name t n m a b q e s = ap (λ (x : Bool). cond x a b) (s ∙ ap (sameOf t) e)
+
+returns : tie.Need-returns
+returns c = by-name _ _ _ _ _ true (c .before .before .op-name .ensures .spelled) (sym (c .if1 .taken) ∙ c .before .is-name .ensures)
+
+returns-2 : tie.Need-returns-2
+returns-2 c = by-name _ _ _ _ _ false (c .before .before .op-name .ensures .spelled) (sym (c .if1 .left) ∙ c .before .is-name .ensures)
+
+pub or-op-spec : {M : Type 1} → statement M
+or-op-spec = tie.close (tie.spec (λ c κs. search needs) (λ c κs. search needs) returns returns-2)

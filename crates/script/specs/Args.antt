@@ -1,0 +1,18 @@
+-- What calls are about, from the numbers that were read.
+use Prim.Native.Nat.{ℕ, _%_, _^_}
+use lib.ListN.{getD}
+use Rattle.styles.specs.declared.Identity.{Identity}
+use Rattle.styles.specs.declared.Mark.{Mark}
+use Rattle.script.specs.declared.Call.{Call}
+
+-- the number of the i-th field
+abbrev pub numberAt : Call → ℕ → ℕ
+numberAt c i = getD (c .numbers) i 0
+
+-- the mark of an annotate: key, lamport, peer and flags are its fields 3 to 6
+abbrev pub markOf : Call → Mark
+markOf c = record { key = numberAt c 3 % 2 ^ 16; flags = numberAt c 6 % 2 ^ 8; lamport = numberAt c 4 % 2 ^ 32; peer = numberAt c 5; value = c .value }
+
+-- the identity of a remove: key, lamport and peer are its fields 1 to 3
+abbrev pub identityOf : Call → Identity
+identityOf c = record { key = numberAt c 1 % 2 ^ 16; lamport = numberAt c 2 % 2 ^ 32; peer = numberAt c 3 }

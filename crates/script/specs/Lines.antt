@@ -1,0 +1,108 @@
+-- Bytes to lines, and lines to calls.
+use mathlib.Core.Path.{_≡_}
+use mathlib.Core.Bool.{Bool, true, false, cond}
+use mathlib.Core.List.{List, [], _∷_, _++_}
+use Prim.Native.Nat.{ℕ, _+_, _-_, _^_, min}
+use lib.Dec.{eqb}
+use lib.ListN.{length, take, drop}
+use Rattle.script.specs.declared.Call.{Call}
+use Rattle.script.specs.declared.Cut.{Cut}
+use Rattle.script.specs.declared.Ending.{Ending}
+use Rattle.script.specs.declared.Event.{Event}
+use Rattle.script.specs.declared.Fed.{Fed}
+use Rattle.script.specs.declared.Holds.{Holds}
+use Rattle.script.specs.declared.Line.{Line}
+use Rattle.script.specs.declared.Op.{Op}
+use Rattle.script.specs.declared.Progress.{Progress}
+use Rattle.script.specs.declared.Read.{Read}
+use Rattle.script.specs.declared.Reader.{Reader}
+use Rattle.script.specs.Grammar.{fieldAt, holdsOf}
+use Rattle.script.specs.Reading.{freshOf, lineOf}
+
+-- the bytes in front of the first newline
+unfoldable pub before : List ℕ → List ℕ
+before [] = []
+before (c ∷ cs) = cond (eqb c 10) [] (c ∷ before cs)
+
+-- there is a newline
+unfoldable pub hasEnd : List ℕ → Bool
+hasEnd [] = false
+hasEnd (c ∷ cs) = cond (eqb c 10) true (hasEnd cs)
+
+-- what is kept of a line: all of it, or the first 65 bytes where it has more
+abbrev pub heldOf : Line → List ℕ
+heldOf l = take (l .count) (l .text)
+
+-- n is how many bytes are kept of a line
+pub record Keeps (l : Line) (n : ℕ) : Type 0 where
+  pub count : n ≡ min (l .count) 65
+  pub sized : length (l .text) ≡ 65
+
+-- a line takes the bytes up to its newline, and they are passed with it
+pub record Cuts (bytes : List ℕ) (from : ℕ) (l : Line) (r : Cut) : Type 0 where
+  pub held : heldOf (r .line) ≡ take 65 (heldOf l ++ before (drop from bytes))
+  pub whole : r .whole ≡ hasEnd (drop from bytes)
+  pub at : r .at ≡ min (length bytes) (from + length (before (drop from bytes)) + 1)
+
+-- where a reader stands: what is kept of the line, the call, and how many lines were good
+pub record State : Type 0 where
+  pub held : List ℕ
+  pub call : Call
+  pub newlines : ℕ
+
+abbrev pub stateOf : Reader → State
+stateOf r = record { held = heldOf (r .line); call = r .call; newlines = r .newlines }
+
+-- one line more; 64 bits count no further than they go
+abbrev pub countedOf : ℕ → ℕ
+countedOf n = min (2 ^ 64 - 1) (n + 1)
+
+-- what a line's end brings
+abbrev pub eventOf : Progress → Event
+eventOf Progress.Bad = Event.Bad
+eventOf Progress.More = Event.Nothing
+eventOf Progress.Ready = Event.Call
+
+-- after a line's end: a bad line is not counted, and after a whole call the next line names an op
+abbrev pub turnedOf : ℕ → Progress → Call → State
+turnedOf n Progress.Bad c = record { held = []; call = c; newlines = n }
+turnedOf n Progress.More c = record { held = []; call = c; newlines = countedOf n }
+turnedOf n Progress.Ready c = record { held = []; call = freshOf Op.Nothing; newlines = countedOf n }
+
+-- the line as far as the bytes go
+abbrev pub grownOf : State → List ℕ → List ℕ
+grownOf s rest = take 65 (s .held ++ before rest)
+
+-- what the line makes of the call
+abbrev pub readOf : State → List ℕ → Read
+readOf s rest = lineOf (s .call) (grownOf s rest)
+
+-- the state after the bytes up to the first newline, or all of them, and what they bring
+unfoldable pub afterOf : State → List ℕ → State
+unfolding before hasEnd lineOf
+afterOf s rest =
+    cond (hasEnd rest)
+    (turnedOf (s .newlines) (readOf s rest .progress) (readOf s rest .call))
+    (record { held = grownOf s rest; call = s .call; newlines = s .newlines })
+
+unfoldable pub bringsOf : State → List ℕ → Event
+unfolding before hasEnd lineOf
+bringsOf s rest = cond (hasEnd rest) (eventOf (readOf s rest .progress)) Event.Nothing
+
+-- the bytes from a place on, fed to a reader
+pub record Feeds (r : Reader) (bytes : List ℕ) (from : ℕ) (f : Fed) : Type 0 where
+  pub state : stateOf (f .reader) ≡ afterOf (stateOf r) (drop from bytes)
+  pub event : f .event ≡ bringsOf (stateOf r) (drop from bytes)
+  pub call : f .event ≡ Event.Call → f .call ≡ readOf (stateOf r) (drop from bytes) .call
+  pub at : f .at ≡ min (length bytes) (from + length (before (drop from bytes)) + 1)
+
+-- an input ends well where a line that names an op would come next
+abbrev pub endingBy : Holds → Ending
+endingBy Holds.Nothing = Ending.Cut
+endingBy Holds.Op = Ending.Clean
+endingBy (Holds.Number most) = Ending.Cut
+endingBy Holds.Kind = Ending.Cut
+endingBy Holds.Value = Ending.Cut
+
+unfoldable pub endingOf : State → Ending
+endingOf s = cond (eqb (length (s .held)) 0) (endingBy (holdsOf (fieldAt (s .call .op) (s .call .place)))) Ending.Cut

@@ -1,0 +1,127 @@
+-- What a line gives to a call.
+use mathlib.Core.Path.{_≡_}
+use mathlib.Core.Bool.{Bool, true, false, cond}
+use mathlib.Core.List.{List, [], _∷_}
+use Prim.Native.Nat.{ℕ, _+_}
+use lib.Dec.{ltb, leb, eqb}
+use lib.Ieee.{ofBits, binary64}
+use lib.ListN.{length, drop, set, replicate}
+use Rattle.text.specs.declared.Parsed.{Parsed}
+use Rattle.text.specs.declared.Signed.{Signed}
+use Rattle.text.specs.Number.{decimalOf, hexOf}
+use Rattle.text.specs.Signed.{signedOf}
+use Rattle.text.specs.Starts.{startsOf, sameOf}
+use Rattle.styles.specs.declared.Value.{Value}
+use Rattle.script.specs.declared.Call.{Call}
+use Rattle.script.specs.declared.Field.{Field}
+use Rattle.script.specs.declared.Holds.{Holds}
+use Rattle.script.specs.declared.Kind.{Kind}
+use Rattle.script.specs.declared.Op.{Op}
+use Rattle.script.specs.declared.Progress.{Progress}
+use Rattle.script.specs.declared.Read.{Read}
+use Rattle.script.specs.declared.ReadKind.{ReadKind}
+use Rattle.script.specs.declared.ReadOp.{ReadOp}
+use Rattle.script.specs.declared.ReadValue.{ReadValue}
+use Rattle.script.specs.declared.Start.{Start}
+use Rattle.script.specs.Bytes.{bytes}
+use Rattle.script.specs.Grammar.{opName, kindName, nameOf, fieldAt, holdsOf, progressOf}
+
+-- where the value starts in a field's line
+unfoldable pub startOf : Field → List ℕ → Start
+startOf f line = cond (startsOf line (nameOf f)) (Start.At (length (nameOf f))) Start.Nowhere
+
+-- what follows a field's name in its line, read in a way
+abbrev pub under : {A : Type 0} → Field → A → (List ℕ → A) → List ℕ → A
+under f bad way line = cond (startsOf line (nameOf f)) (way (drop (length (nameOf f)) line)) bad
+
+-- a number that is at most so much
+abbrev pub withinOf : ℕ → Parsed → Parsed
+withinOf most Parsed.Bad = Parsed.Bad
+withinOf most (Parsed.Number n) = cond (leb n most) (Parsed.Number n) Parsed.Bad
+
+-- the number of a field's line
+unfoldable pub numberOf : Field → ℕ → List ℕ → Parsed
+numberOf f most line = under f Parsed.Bad (λ t. withinOf most (decimalOf t)) line
+
+-- the ops that a script can name
+abbrev pub ops : List Op
+ops = Op.Open ∷ Op.Annotate ∷ Op.Insert ∷ Op.Delete ∷ Op.Remove ∷ Op.Length ∷ Op.Touched ∷ Op.Runs ∷ Op.Value ∷ Op.HasKey ∷ Op.AllValue ∷ Op.Same ∷ Op.Marks ∷ Op.Inherit ∷ Op.Mark ∷ Op.Inherited ∷ Op.Stretches ∷ Op.StretchesNeeded ∷ Op.Whole ∷ Op.WholeNeeded ∷ Op.Anchors ∷ []
+
+-- the first op of a list with a name, or what there is otherwise
+abbrev pub opAmong : List Op → List ℕ → ReadOp → ReadOp
+opAmong [] t other = other
+opAmong (o ∷ os) t other = cond (sameOf t (opName o)) (ReadOp.Op o) (opAmong os t other)
+
+-- the op with a name
+unfoldable pub opNamed : List ℕ → ReadOp
+opNamed t = opAmong ops t ReadOp.Bad
+
+-- the first kind of a list with a name, or what there is otherwise
+abbrev pub kindAmong : List Kind → List ℕ → ReadKind → ReadKind
+kindAmong [] t other = other
+kindAmong (k ∷ ks) t other = cond (sameOf t (kindName k)) (ReadKind.Kind k) (kindAmong ks t other)
+
+-- the kind with a name
+unfoldable pub kindNamed : List ℕ → ReadKind
+kindNamed t = kindAmong (Kind.Null ∷ Kind.Bool ∷ Kind.Whole ∷ Kind.Decimal ∷ []) t ReadKind.Bad
+
+-- a value of a kind: nothing, 0 or 1, a signed number, the sixteen hexadecimal digits of its bits
+abbrev pub wholeOf : Signed → ReadValue
+wholeOf Signed.Bad = ReadValue.Bad
+wholeOf (Signed.Number z) = ReadValue.Value (Value.Whole z)
+
+abbrev pub decimalOfBits : Parsed → ReadValue
+decimalOfBits Parsed.Bad = ReadValue.Bad
+decimalOfBits (Parsed.Number n) = ReadValue.Value (Value.Decimal (ofBits binary64 n))
+
+unfoldable pub valueOf : Kind → List ℕ → ReadValue
+valueOf Kind.Null t = cond (eqb (length t) 0) (ReadValue.Value Value.Null) ReadValue.Bad
+valueOf Kind.Bool t = cond (sameOf t (bytes "0")) (ReadValue.Value (Value.Flag false)) (cond (sameOf t (bytes "1")) (ReadValue.Value (Value.Flag true)) ReadValue.Bad)
+valueOf Kind.Whole t = wholeOf (signedOf t)
+valueOf Kind.Decimal t = decimalOfBits (hexOf t)
+
+-- a call of which only the op is known
+abbrev pub freshOf : Op → Call
+freshOf op = record { op = op; place = 0; numbers = replicate 16 0; kind = Kind.Null; value = Value.Null }
+
+-- the call with one field more: whole where that was the last
+unfoldable pub movedOf : Op → ℕ → List ℕ → Kind → Value → Read
+movedOf op place numbers kind value =
+    record {
+      call = record { op = op; place = place + 1; numbers = numbers; kind = kind; value = value };
+      progress = progressOf (holdsOf (fieldAt op (place + 1)));
+    }
+
+-- a bad line leaves the call as it was
+abbrev pub badOf : Call → Read
+badOf c = record { call = c; progress = Progress.Bad }
+
+-- what is read goes into the call
+abbrev pub withOp : Call → ReadOp → Read
+withOp c ReadOp.Bad = badOf c
+withOp c (ReadOp.Op op) = record { call = freshOf op; progress = Progress.More }
+
+abbrev pub withNumber : Call → Parsed → Read
+withNumber c Parsed.Bad = badOf c
+withNumber c (Parsed.Number n) = movedOf (c .op) (c .place) (set (c .numbers) (c .place) n) (c .kind) (c .value)
+
+abbrev pub withKind : Call → ReadKind → Read
+withKind c ReadKind.Bad = badOf c
+withKind c (ReadKind.Kind k) = movedOf (c .op) (c .place) (c .numbers) k (c .value)
+
+abbrev pub withValue : Call → ReadValue → Read
+withValue c ReadValue.Bad = badOf c
+withValue c (ReadValue.Value v) = movedOf (c .op) (c .place) (c .numbers) (c .kind) v
+
+-- a line that gives what the field holds
+unfoldable pub heldLine : Call → Field → Holds → List ℕ → Read
+heldLine c f Holds.Nothing line = badOf c
+heldLine c f Holds.Op line = withOp c (under f ReadOp.Bad opNamed line)
+heldLine c f (Holds.Number most) line = withNumber c (numberOf f most line)
+heldLine c f Holds.Kind line = withKind c (under f ReadKind.Bad kindNamed line)
+heldLine c f Holds.Value line = withValue c (under f ReadValue.Bad (valueOf (c .kind)) line)
+
+-- a line of at most 64 bytes gives the field that comes next
+unfoldable pub lineOf : Call → List ℕ → Read
+unfolding heldLine
+lineOf c line = cond (ltb 64 (length line)) (badOf c) (heldLine c (fieldAt (c .op) (c .place)) (holdsOf (fieldAt (c .op) (c .place))) line)

@@ -1,0 +1,51 @@
+ghost use mathlib.Core.Path.{_≡_};
+ghost use Prim.Native.Nat.{_%_, _^_};
+ghost use Rattle.script.specs.Args.{markOf, identityOf};
+use super::Call;
+use styles::Identity;
+use styles::Mark;
+
+fn low8(x: u64) -> u8
+    ensures { λ r. ⌜ r ≡ x % 2 ^ 8 ⌝ }
+{
+    (x % 256) as u8
+}
+
+fn low16(x: u64) -> u16
+    ensures { λ r. ⌜ r ≡ x % 2 ^ 16 ⌝ }
+{
+    (x % 65536) as u16
+}
+
+fn low32(x: u64) -> u32
+    ensures { λ r. ⌜ r ≡ x % 2 ^ 32 ⌝ }
+{
+    (x % 4294967296) as u32
+}
+
+// The mark of an annotate. A number that was read is in its field's width, so none of its bits is left out.
+pub fn mark_of(call: Call) -> Mark
+    ensures { λ r. ⌜ r ≡ markOf call ⌝ }
+{
+    let n = call.numbers;
+    let v = call.value;
+    Mark {
+        key: low16(n[3]),
+        flags: low8(n[6]),
+        lamport: low32(n[4]),
+        peer: n[5],
+        value: v,
+    }
+}
+
+// The identity of a remove.
+pub fn identity_of(call: Call) -> Identity
+    ensures { λ r. ⌜ r ≡ identityOf call ⌝ }
+{
+    let n = call.numbers;
+    Identity {
+        key: low16(n[1]),
+        lamport: low32(n[2]),
+        peer: n[3],
+    }
+}

@@ -1,0 +1,201 @@
+// Call scripts: bytes in, calls and answers out.
+//
+// `feed` takes bytes as they come, however they are cut, and answers with a call when a group's last line has ended.
+mod names; // names.rt: the names of ops, fields and kinds
+mod fields; // fields.rt: which fields an op has
+mod reading; // reading.rt: what a line gives to a call
+mod args; // args.rt: marks and identities of calls
+mod lines; // lines.rt: bytes to lines, lines to calls
+mod values; // values.rt: f64s and their bits
+mod writing; // writing.rt: answers
+
+pub use args::identity_of;
+pub use args::mark_of;
+pub use fields::field_at;
+pub use fields::field_holds;
+pub use lines::begin;
+pub use lines::cut_line;
+pub use lines::empty_line;
+pub use lines::ended;
+pub use lines::feed;
+pub use lines::line_number;
+pub use names::field_name;
+pub use names::kind_name;
+pub use names::op_name;
+pub use reading::idle;
+pub use reading::read_line;
+use styles::Value;
+pub use writing::emit;
+pub use writing::flushed;
+pub use writing::put_field;
+pub use writing::put_line;
+pub use writing::put_mark;
+pub use writing::put_value;
+
+// Nothing stands for the time between two groups.
+pub enum Op {
+    Nothing,
+    Open,
+    Annotate,
+    Insert,
+    Delete,
+    Remove,
+    Length,
+    Touched,
+    Runs,
+    Value,
+    HasKey,
+    AllValue,
+    Same,
+    Marks,
+    Inherit,
+    Mark,
+    Inherited,
+    Stretches,
+    StretchesNeeded,
+    Whole,
+    WholeNeeded,
+    Anchors,
+}
+
+// What a line of a group gives.
+pub enum Field {
+    Done,
+    OpName,
+    Tank,
+    Start,
+    End,
+    At,
+    Len,
+    Key,
+    Lamport,
+    Peer,
+    Last,
+    Flags,
+    Kind,
+    Value,
+    Rank,
+    Room,
+    Share0,
+    Limit0,
+    Share1,
+    Limit1,
+    Share2,
+    Limit2,
+    Share3,
+    Limit3,
+    Share4,
+    Limit4,
+    Share5,
+    Limit5,
+    Share6,
+    Limit6,
+    Share7,
+    Limit7,
+}
+
+// A name of at most 16 bytes.
+pub struct Name {
+    pub text: [u8; 16],
+    pub len: usize,
+}
+
+pub enum Kind {
+    Null,
+    Bool,
+    Whole,
+    Decimal,
+}
+
+// What a field's line gives: a number is at most so much.
+pub enum Holds {
+    Nothing,
+    Op,
+    Number(u64),
+    Kind,
+    Value,
+}
+
+// A call, as far as its lines have come: how many of its fields are read, and each number at its field's place.
+pub struct Call {
+    pub op: Op,
+    pub place: usize,
+    pub numbers: [u64; 16],
+    pub kind: Kind,
+    pub value: Value,
+}
+
+// How a call stands after a line: the line was bad, lines are to come, or the call is whole.
+pub enum Progress {
+    Bad,
+    More,
+    Ready,
+}
+
+// What a line makes of a call; a bad line leaves it as it was.
+pub struct Read {
+    pub call: Call,
+    pub progress: Progress,
+}
+
+pub enum ReadOp {
+    Bad,
+    Op(Op),
+}
+
+pub enum ReadKind {
+    Bad,
+    Kind(Kind),
+}
+
+pub enum ReadValue {
+    Bad,
+    Value(Value),
+}
+
+// Where the value of a line starts.
+pub enum Start {
+    Nowhere,
+    At(usize),
+}
+
+// A line that is being read: its first 65 bytes, which is one more than a line may have.
+pub struct Line {
+    pub text: [u8; 65],
+    pub count: usize,
+}
+
+// A line with bytes added, the place behind them, and whether the line has ended.
+pub struct Cut {
+    pub line: Line,
+    pub at: usize,
+    pub whole: bool,
+}
+
+// The line and the call that are being read, and how many lines were good.
+pub struct Reader {
+    pub line: Line,
+    pub call: Call,
+    pub newlines: u64,
+}
+
+// What bytes bring: nothing yet, a bad line, or a whole call.
+pub enum Event {
+    Nothing,
+    Bad,
+    Call,
+}
+
+// A reader that has taken bytes, what they brought, the call where they brought one, and the place behind them.
+pub struct Fed {
+    pub reader: Reader,
+    pub event: Event,
+    pub call: Call,
+    pub at: usize,
+}
+
+// How an input ends: between two groups, or in the middle of a line or a group.
+pub enum Ending {
+    Clean,
+    Cut,
+}

@@ -1,0 +1,154 @@
+ghost use mathlib.Core.Path.{_≡_};
+ghost use Prim.Native.Nat.{_+_, _≤_};
+ghost use lib.ListN.{length};
+ghost use Rattle.script.specs.Writing.{Puts, lineText, fieldText, kindOf, valueWord, valueText, markText};
+ghost use Rattle.script.specs.Bytes.{bytes};
+ghost use Rattle.script.specs.Grammar.{kindName, spelledOf};
+use super::Kind;
+use super::Name;
+use super::names::kind_name;
+use super::values::bits_of;
+use styles::Mark;
+use styles::Value;
+
+// Puts a name, a word and a newline at a place of a buffer, and answers the place behind them, as all that follow do.
+pub fn put_line(out: &mut [u8], at: usize, name: &[u8], word: &[u8]) -> usize
+    requires { ⌜ at + (length (now name) + length (now word) + 1) ≤ length (now out) ⌝ }
+    ensures { λ r. ⌜ Puts (now (out .entry)) at (lineText (now (name .entry)) (now (word .entry))) (length (now (name .entry)) + length (now (word .entry)) + 1) r (now (out .exit)) ⌝ }
+{
+    let a = text::put(out, at, name);
+    let b = text::put(out, a, word);
+    text::put(out, b, b"\n")
+}
+
+// Puts a name, a number and a newline.
+pub fn put_field(out: &mut [u8], at: usize, name: &[u8], n: u64) -> usize
+    requires { ⌜ at + (length (now name) + 21) ≤ length (now out) ⌝ }
+    ensures { λ r. ⌜ Puts (now (out .entry)) at (fieldText (now (name .entry)) n) (length (now (name .entry)) + 21) r (now (out .exit)) ⌝ }
+{
+    let a = text::put(out, at, name);
+    let b = text::put_decimal(out, a, n);
+    text::put(out, b, b"\n")
+}
+
+pub fn kind_of(v: Value) -> Kind
+    ensures { λ r. ⌜ r ≡ kindOf v ⌝ }
+{
+    match v {
+        Value::Null => Kind::Null,
+        Value::Flag(_) => Kind::Bool,
+        Value::Whole(_) => Kind::Whole,
+        Value::Decimal(_) => Kind::Decimal,
+    }
+}
+
+// Puts a name.
+fn put_name(out: &mut [u8], at: usize, n: Name) -> usize
+    requires { ⌜ (n .len ≤ length (n .text)) × (at + n .len ≤ length (now out)) ⌝ }
+    ensures { λ r. ⌜ Puts (now (out .entry)) at (spelledOf n) (n .len) r (now (out .exit)) ⌝ }
+{
+    let t = n.text;
+    let k = n.len;
+    text::put(out, at, &t[..k])
+}
+
+// Puts the line of a kind.
+fn put_kind(out: &mut [u8], at: usize, k: Kind) -> usize
+    requires { ⌜ at + 22 ≤ length (now out) ⌝ }
+    ensures { λ r. ⌜ Puts (now (out .entry)) at (lineText (bytes "kind=") (kindName k)) 22 r (now (out .exit)) ⌝ }
+{
+    let n = kind_name(k);
+    let a = text::put(out, at, b"kind=");
+    let b = put_name(out, a, n);
+    text::put(out, b, b"\n")
+}
+
+fn put_flag(out: &mut [u8], at: usize, b: bool) -> usize
+    requires { ⌜ at + 21 ≤ length (now out) ⌝ }
+    ensures { λ r. ⌜ Puts (now (out .entry)) at (valueWord (Value.Flag b)) 21 r (now (out .exit)) ⌝ }
+{
+    if b {
+        return text::put(out, at, b"1");
+    }
+    text::put(out, at, b"0")
+}
+
+// Puts a value's word.
+fn put_word(out: &mut [u8], at: usize, v: Value) -> usize
+    requires { ⌜ at + 21 ≤ length (now out) ⌝ }
+    ensures { λ r. ⌜ Puts (now (out .entry)) at (valueWord v) 21 r (now (out .exit)) ⌝ }
+{
+    match v {
+        Value::Null => text::put(out, at, b""),
+        Value::Flag(b) => put_flag(out, at, b),
+        Value::Whole(z) => text::put_integer(out, at, z),
+        Value::Decimal(x) => text::put_hex(out, at, bits_of(x)),
+    }
+}
+
+// Puts the two lines of a value.
+pub fn put_value(out: &mut [u8], at: usize, v: Value) -> usize
+    requires { ⌜ at + 50 ≤ length (now out) ⌝ }
+    ensures { λ r. ⌜ Puts (now (out .entry)) at (valueText v) 50 r (now (out .exit)) ⌝ }
+{
+    let k = kind_of(v);
+    let a = put_kind(out, at, k);
+    let b = text::put(out, a, b"value=");
+    let c = put_word(out, b, v);
+    text::put(out, c, b"\n")
+}
+
+fn wide8(x: u8) -> u64
+    ensures { λ r. ⌜ r ≡ x ⌝ }
+{
+    x as u64
+}
+
+fn wide16(x: u16) -> u64
+    ensures { λ r. ⌜ r ≡ x ⌝ }
+{
+    x as u64
+}
+
+fn wide32(x: u32) -> u64
+    ensures { λ r. ⌜ r ≡ x ⌝ }
+{
+    x as u64
+}
+
+// Puts the six lines of a mark.
+pub fn put_mark(out: &mut [u8], at: usize, m: Mark) -> usize
+    requires { ⌜ at + 157 ≤ length (now out) ⌝ }
+    ensures { λ r. ⌜ Puts (now (out .entry)) at (markText m) 157 r (now (out .exit)) ⌝ }
+{
+    let a = put_field(out, at, b"key=", wide16(m.key));
+    let b = put_field(out, a, b"lamport=", wide32(m.lamport));
+    let c = put_field(out, b, b"peer=", m.peer);
+    let d = put_field(out, c, b"flags=", wide8(m.flags));
+    let v = m.value;
+    put_value(out, d, v)
+}
+
+fn least(a: usize, b: usize) -> usize
+    ensures { λ r. ⌜ (r ≤ a) × (r ≤ b) ⌝ }
+{
+    if a < b { a } else { b }
+}
+
+// Writes the front of a buffer out, up to a place; up to its end where the place is past it.
+pub fn emit(out: &[u8], at: usize) {
+    let n = least(at, out.len());
+    io::write_all(1, &out[..n]);
+}
+
+// A place with so much room behind it: what waits in front is written out where there is less.
+pub fn flushed(out: &[u8], at: usize, room: usize) -> usize
+    requires { ⌜ room ≤ length (now out) ⌝ }
+    ensures { λ r. ⌜ r + room ≤ length (now (out .entry)) ⌝ }
+{
+    if at <= out.len() - room {
+        return at;
+    }
+    emit(out, at);
+    0
+}

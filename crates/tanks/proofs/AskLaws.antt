@@ -1,0 +1,32 @@
+-- Questions of a whole tank: 1 where there is no such tank, else what its head says, which is what it means.
+use Prim.Native.Nat.{ℕ, _≤_, _<_}
+use mathlib.Core.Path.{_≡_, sym, ap}
+use lib.ListN.{getD}
+use borrow.Author.Tests.{le-leb, lt-leb}
+use Rattle.tank.specs.Rules.{View, freshView}
+use Rattle.tank.specs.State.{view}
+use Rattle.tanks.specs.declared.Tanks.{Tanks}
+use Rattle.tanks.specs.House.{tankAt, held, askNumber}
+use Rattle.tanks.specs.Pool.{noHead, tankOf, meaning, Sound}
+use Rattle.tanks.specs.Contracts.{answered}
+use Rattle.tanks.proofs.MeaningLaws.{tank-at, held-is}
+
+module _ {A R : Type 0} (refused : ℕ → R) (given : A → R) (t : ℕ) where
+  pub asked-past : (a : A) → 8 ≤ t → refused 1 ≡ answered refused given (askNumber t) a
+  asked-past a h = rw (le-leb 8 t h)
+
+  pub asked-in : (a b : A) → t < 8 → a ≡ b → given a ≡ answered refused given (askNumber t) b
+  asked-in a b h e = rw (lt-leb 8 t h) (ap given e)
+
+-- ---- the head says what the tank means; the code's number of the tank is u
+module _ (s : Tanks) (u t : ℕ) (same : u ≡ t) (h : t < 8) where
+  pub length-said : getD (s .heads) u noHead .length ≡ tankAt (meaning s) t .length
+  unfolding tankOf view
+  length-said = rw same (sym (ap (λ (v : View). v .length) (tank-at s t freshView h)))
+
+  pub touched-said : getD (s .heads) u noHead .touched ≡ tankAt (meaning s) t .touched
+  unfolding tankOf view
+  touched-said = rw same (sym (ap (λ (v : View). v .touched) (tank-at s t freshView h)))
+
+  pub runs-said : Sound s → getD (s .heads) u noHead .runs ≡ held (meaning s) t
+  runs-said ok = rw same (sym (held-is s ok t h))

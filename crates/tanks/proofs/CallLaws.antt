@@ -1,0 +1,99 @@
+-- One law for every edit: the tank's own call, then the judgement, is the call of the house.
+use Prim.Native.Nat.{ℕ, _≤_, _<_}
+use mathlib.Core.Path.{_≡_, refl, sym, ap, _∙_, subst}
+use mathlib.Core.Bool.{Bool, true, false, cond}
+use native.Mathlib.Omega.{arith}
+use lib.Dec.{eqb}
+use borrow.Author.Tests.{eqb-true, le-leb, lt-leb, ne-eqb}
+use Rattle.tank.specs.declared.Tank.{Tank}
+use Rattle.tank.specs.Rules.{View, freshView, runsHeld, Edit, after, refusal, afterCall}
+use Rattle.tank.specs.State.{view, Called}
+use Rattle.tank.proofs.Unique.{runs-held}
+use Rattle.tanks.specs.declared.Tanks.{Tanks}
+use Rattle.tanks.specs.declared.Edited.{Edited}
+use Rattle.tanks.specs.Settings.{judgement}
+use Rattle.tanks.specs.House.{House, tankAt, held, first, refusalAt, withTank, afterAt}
+use Rattle.tanks.specs.Pool.{runsIn, tankOf, meaning, Sound}
+use Rattle.tanks.specs.Contracts.{CalledAt, Taken, Settled}
+use Rattle.tanks.proofs.SettingLaws.{first-zero}
+use Rattle.tanks.proofs.MeaningLaws.{tank-at, judged-is}
+
+-- where the test holds the two agree, so they agree under it
+pub cond-when : {A : Type 0} (b : Bool) (x y z : A) → (b ≡ true → x ≡ y) → cond b x z ≡ cond b y z
+cond-when true x y z h = h refl
+cond-when false x y z h = refl
+
+first-when : (n x y : ℕ) → (n ≡ 0 → x ≡ y) → first n x ≡ first n y
+first-when n x y h = cond-when (eqb n 0) x y n (λ e. h (eqb-true n 0 e))
+
+-- ---- the refusal, where there is such a tank and where there is none
+pub refusal-in : (h : House) (t : ℕ) (e : Edit) → t < 8
+    → refusalAt h t e ≡ first (refusal e (tankAt h t)) (judgement (h .settings) (held h) t (runsHeld (after e (tankAt h t))))
+unfolding refusalAt
+refusal-in h t e l = rw (lt-leb 8 t l)
+
+pub refusal-past : (h : House) (t : ℕ) (e : Edit) → 8 ≤ t → refusalAt h t e ≡ 1
+unfolding refusalAt
+refusal-past h t e l = rw (le-leb 8 t l)
+
+pub after-refused : (h : House) (t : ℕ) (e : Edit) → 0 < refusalAt h t e → afterAt h t e ≡ h
+unfolding afterAt
+after-refused h t e l = rw (ne-eqb (refusalAt h t e) 0 (λ z. omega arith))
+
+pub after-done : (h : House) (t : ℕ) (e : Edit) → refusalAt h t e ≡ 0 → afterAt h t e ≡ withTank h t (after e (tankAt h t))
+unfolding afterAt
+after-done h t e z = rw z
+
+-- an accepted edit leaves the tank as the rules say
+pub done-is : (e : Edit) (v : View) → refusal e v ≡ 0 → afterCall e v ≡ after e v
+done-is e v z = rw z
+
+module _ (s : Tanks) (t : ℕ) (e : Edit) (number : ℕ) (x : Tank) (r : Edited) (ok : Sound s) (t8 : t < 8) (called : Called e (tankOf s t) number x) (settled : Settled s t number x r) where
+  is-view : tankAt (meaning s) t ≡ view (tankOf s t)
+  is-view = tank-at s t freshView t8
+
+  is-refusal : number ≡ refusal e (tankAt (meaning s) t)
+  is-refusal = called .number-is ∙ ap (refusal e) (sym is-view)
+
+  -- where the tank's own rules refuse nothing
+  is-after : number ≡ 0 → view x ≡ after e (tankAt (meaning s) t)
+  is-after z =
+      called .is ∙ done-is e (view (tankOf s t)) (sym (called .number-is) ∙ z) ∙ ap (after e) (sym is-view)
+
+  is-judged : number ≡ 0
+      → judgement (s .settings) (runsIn (s .heads)) t (x .runs) ≡ judgement (s .settings) (held (meaning s)) t (runsHeld (after e (tankAt (meaning s) t)))
+  is-judged z =
+      sym (judged-is s ok t (x .runs))
+      ∙ ap (judgement (s .settings) (held (meaning s)) t) (sym (runs-held (called .formed .laid)) ∙ ap runsHeld (is-after z))
+
+  is-number : r .number ≡ refusalAt (meaning s) t e
+  unfolding meaning
+  is-number =
+      settled .number-is
+      ∙ first-when number _ _ is-judged
+      ∙ ap (λ (n : ℕ). first n (judgement (s .settings) (held (meaning s)) t (runsHeld (after e (tankAt (meaning s) t))))) is-refusal
+      ∙ sym (refusal-in (meaning s) t e t8)
+
+  is-state : meaning (r .tanks) ≡ afterAt (meaning s) t e
+  unfolding afterAt
+  is-state =
+      settled .is
+      ∙ cond-when (eqb (r .number) 0) _ _ (meaning s) (λ b. ap (withTank (meaning s) t) (is-after (first-zero number _ (sym (settled .number-is) ∙ eqb-true (r .number) 0 b))))
+      ∙ ap (λ (n : ℕ). cond (eqb n 0) (withTank (meaning s) t (after e (tankAt (meaning s) t))) (meaning s)) is-number
+
+  pub called-at : CalledAt s t e (r .number) (r .tanks)
+  called-at = record { number-is = is-number; is = is-state; sound = settled .sound }
+
+-- an edit of this crate, call by call: the tank taken out, its own call, the tail
+pub called-by : (s : Tanks) (tank t : ℕ) (e : Edit) (x : Tank) (number : ℕ) (next : Tank) (r : Edited) → Sound s → tank < 8 → t ≡ tank
+    → Taken s t x → Called e x number next → Settled s t number next r → CalledAt s tank e (r .number) (r .tanks)
+called-by s tank t e x number next r ok h same taken called settled =
+    called-at s tank e number next r ok h
+    (subst (λ y. Called e y number next) (taken .is ∙ ap (tankOf s) same) called)
+    (subst (λ u. Settled s u number next r) same settled)
+
+-- 1: the very same state
+pub called-past : (s : Tanks) (t : ℕ) (e : Edit) → Sound s → 8 ≤ t → CalledAt s t e 1 s
+called-past s t e ok h =
+    let z = refusal-past (meaning s) t e h in
+    record { number-is = sym z; is = sym (after-refused (meaning s) t e (omega (arith, z))); sound = ok }

@@ -1,0 +1,106 @@
+-- The laws of `laid` and `before`.
+use Prim.Native.Nat.{ℕ, zero, suc, _+_, _≤_, _<_}
+use mathlib.Core.Path.{_≡_, refl, ap, _∙_}
+use mathlib.Core.Logic.{_≢_}
+use mathlib.Core.List.{List}
+use native.Mathlib.Omega.{arith}
+use native.Mathlib.Decide.{decLt, decLe}
+use native.Mathlib.Numerals.{add-one}
+use lib.ListN.{length, getD, set, replicate, length-set, getD-replicate, length-replicate, List·getD-eq-default}
+use lib.Seq.{getD-set-same, getD-set-other, set-comm}
+use Rattle.tanks.specs.declared.Head.{Head}
+use Rattle.tanks.specs.Pool.{noHead, runsIn, laid, before}
+
+module _ {A : Type 0} where
+  pub length-laid : (p : List A) (at : ℕ) (f : ℕ → A) (n : ℕ) → length (laid p at f n) ≡ length p
+  unfolding laid
+  length-laid p at f zero = refl
+  length-laid p at f (suc n) = length-set (laid p at f n) (at + n) (f n) ∙ length-laid p at f n
+
+  pub laid-out : (p : List A) (at : ℕ) (f : ℕ → A) (n k : ℕ) (d : A) → ((j : ℕ) → j < n → k ≢ at + j) → getD (laid p at f n) k d ≡ getD p k d
+  unfolding laid
+  laid-out p at f zero k d h = refl
+  laid-out p at f (suc n) k d h =
+      getD-set-other (laid p at f n) (at + n) k (f n) d (h n (omega arith)) ∙ laid-out p at f n k d (λ j g. h j (omega arith))
+
+  pub laid-in : (p : List A) (at : ℕ) (f : ℕ → A) (n k : ℕ) (d : A) → at + n ≤ length p → k < n → getD (laid p at f n) (at + k) d ≡ f k
+  unfolding laid
+  laid-in p at f zero k d h g = absurd (omega arith)
+  laid-in p at f (suc n) k d h g =
+      elim (decLt k n) [
+        | yes l ↦ getD-set-other (laid p at f n) (at + n) (at + k) (f n) d (λ e. omega arith) ∙ laid-in p at f n k d (omega arith) l
+        | no l ↦
+            let e : k ≡ n = omega arith in
+            rw e (getD-set-same (laid p at f n) (at + n) (f n) d (omega (arith, length-laid p at f n)))
+      ]
+
+  -- at the front, with no `0 +`
+  pub laid-front : (p : List A) (f : ℕ → A) (n k : ℕ) (d : A) → n ≤ length p → k < n → getD (laid p 0 f n) k d ≡ f k
+  laid-front p f n k d h g =
+      let e : 0 + k ≡ k = omega arith in
+      rw e at (laid-in p 0 f n k d (omega arith) g)
+
+  pub laid-cong : (p : List A) (at : ℕ) (f g : ℕ → A) (n : ℕ) → ((k : ℕ) → k < n → f k ≡ g k) → laid p at f n ≡ laid p at g n
+  unfolding laid
+  laid-cong p at f g zero h = refl
+  laid-cong p at f g (suc n) h = λ i. set (laid-cong p at f g n (λ k l. h k (omega arith)) i) (at + n) (h n (omega arith) i)
+
+  pub laid-more : (p : List A) (at : ℕ) (f : ℕ → A) (n : ℕ) → set (laid p at f n) (at + n) (f n) ≡ laid p at f (n + 1)
+  unfolding laid
+  laid-more p at f n = rw add-one
+
+  pub laid-more-front : (p : List A) (f : ℕ → A) (n : ℕ) → set (laid p 0 f n) n (f n) ≡ laid p 0 f (n + 1)
+  unfolding laid
+  laid-more-front p f n = let e : 0 + n ≡ n = omega arith in rw (add-one, e)
+
+  -- from the back
+  pub laid-back : (p : List A) (at : ℕ) (f : ℕ → A) (n : ℕ) → set (laid p (suc at) (λ k. f (suc k)) n) at (f 0) ≡ laid p at f (suc n)
+  unfolding laid
+  laid-back p at f zero = let e : at + 0 ≡ at = omega arith in rw e
+  laid-back p at f (suc n) =
+      let e : at + suc n ≡ suc at + n = omega arith in
+      set-comm (laid p (suc at) (λ k. f (suc k)) n) (suc at + n) at (f (suc n)) (f 0) (λ z. omega arith)
+      ∙ rw e (ap (λ (l : List A). set l (suc at + n) (f (suc n))) (laid-back p at f n))
+
+  pub blank-at : (n k : ℕ) (d : A) → getD (replicate n d) k d ≡ d
+  blank-at n k d =
+      elim (decLt k n) [
+        | yes l ↦ getD-replicate n k d d l
+        | no l ↦ List·getD-eq-default (replicate n d) d (omega (arith, length-replicate n d))
+      ]
+
+-- ---- where tanks begin
+pub before-more : (hs : List Head) (t : ℕ) → before hs (t + 1) ≡ before hs t + runsIn hs t
+unfolding before
+before-more hs t = rw add-one
+
+pub before-mono : (hs : List Head) (t u : ℕ) → t ≤ u → before hs t ≤ before hs u
+unfolding before
+before-mono hs t zero h = let e : t ≡ 0 = omega arith in rw e (omega arith)
+before-mono hs t (suc u) h =
+    elim (decLe t u) [
+      | yes l ↦ omega (arith, before-mono hs t u l)
+      | no l ↦ let e : t ≡ suc u = omega arith in rw e (omega arith)
+    ]
+
+-- tank u lies below tank v
+pub before-next : (hs : List Head) (u v : ℕ) → u < v → before hs u + runsIn hs u ≤ before hs v
+before-next hs u v h = omega (arith, before-mono hs (u + 1) v (omega arith), before-more hs u)
+
+pub before-same : (hs : List Head) (t : ℕ) (h : Head) (u : ℕ) → u ≤ t → before (set hs t h) u ≡ before hs u
+unfolding before
+before-same hs t h zero l = refl
+before-same hs t h (suc u) l =
+    omega (arith, before-same hs t h u (omega arith), ap (λ (x : Head). x .runs) (getD-set-other hs t u h noHead (λ e. omega arith)))
+
+pub before-later : (hs : List Head) (t : ℕ) (h : Head) (u : ℕ) → t < length hs → t < u → before (set hs t h) u + runsIn hs t ≡ before hs u + h .runs
+unfolding before
+before-later hs t h zero g l = absurd (omega arith)
+before-later hs t h (suc u) g l =
+    elim (decLt t u) [
+      | yes k ↦
+          omega (arith, before-later hs t h u g k, ap (λ (x : Head). x .runs) (getD-set-other hs t u h noHead (λ e. omega arith)))
+      | no k ↦
+          let e : u ≡ t = omega arith in
+          rw e (omega (arith, before-same hs t h t (omega arith), ap (λ (x : Head). x .runs) (getD-set-same hs t h noHead g)))
+    ]

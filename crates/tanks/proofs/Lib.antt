@@ -1,0 +1,13 @@
+pub mod LaidLaws
+pub mod SettingLaws
+pub mod PutLaws
+pub mod MeaningLaws
+pub mod SettleLaws
+pub mod CallLaws
+pub mod AnswerLaws
+pub mod AskLaws
+pub mod OpeningLaws
+pub mod Unique
+pub mod Theorems
+pub mod Sequences
+pub mod Tests

@@ -1,0 +1,137 @@
+-- What a state means, tank by tank; and what a tank put back does to the meaning, and that the state stays sound.
+use Prim.Native.Nat.{ℕ, zero, suc, _*_, _≤_, _<_}
+use mathlib.Core.Path.{_≡_, refl, sym, ap, _∙_, subst}
+use mathlib.Core.Bool.{Bool, true, false, cond}
+use mathlib.Core.Logic.{_≢_}
+use mathlib.Core.List.{List}
+use native.Mathlib.Omega.{arith}
+use lib.Dec.{eqb}
+use borrow.Author.Tests.{eqb-true, eqb-false, eq-eqb, ne-eqb}
+use lib.ListN.{length, getD, set, length-set}
+use lib.Seq.{getD-set-same, getD-set-other, ext-getD}
+use Rattle.styles.specs.Marks.{blank}
+use Rattle.tank.specs.declared.Tank.{Tank}
+use Rattle.tank.specs.Rules.{View, freshView, runsHeld}
+use Rattle.tank.specs.State.{view, Formed}
+use Rattle.tank.proofs.Unique.{runs-held}
+use Rattle.tanks.specs.declared.Head.{Head}
+use Rattle.tanks.specs.declared.Tanks.{Tanks}
+use Rattle.tanks.specs.Settings.{limitOf, claims, heldAfter, judgement}
+use Rattle.tanks.specs.House.{held, first, withTank}
+use Rattle.tanks.specs.Pool.{noHead, runsIn, laid, before, tankOf, headOf, puts, meaning, Sound}
+use Rattle.tanks.specs.Contracts.{Settled}
+use Rattle.tanks.proofs.LaidLaws.{length-laid}
+use Rattle.tanks.proofs.PutLaws.{put-length, put-blank, put-same, put-other}
+use Rattle.tanks.proofs.SettingLaws.{claims-cong, before-claims, judge-within, judge-sum, second-zero}
+
+-- what holds at t and at every other place holds everywhere
+pub at-each : (P : ℕ → Type 0) (t u : ℕ) → P t → (u ≢ t → P u) → P u
+at-each P t u same other = go (eqb u t) refl
+  where
+    go : (b : Bool) → eqb u t ≡ b → P u
+    go true e = subst P (sym (eqb-true u t e)) same
+    go false e = other (eqb-false u t e)
+
+-- ---- the eight views
+pub tank-at : (s : Tanks) (u : ℕ) (d : View) → u < 8 → getD (meaning s .tanks) u d ≡ view (tankOf s u)
+unfolding meaning
+tank-at s zero d h = refl
+tank-at s (suc zero) d h = refl
+tank-at s (suc (suc zero)) d h = refl
+tank-at s (suc (suc (suc zero))) d h = refl
+tank-at s (suc (suc (suc (suc zero)))) d h = refl
+tank-at s (suc (suc (suc (suc (suc zero))))) d h = refl
+tank-at s (suc (suc (suc (suc (suc (suc zero)))))) d h = refl
+tank-at s (suc (suc (suc (suc (suc (suc (suc zero))))))) d h = refl
+tank-at s (suc (suc (suc (suc (suc (suc (suc (suc u)))))))) d h = absurd (omega arith)
+
+pub tanks-length : (s : Tanks) → length (meaning s .tanks) ≡ 8
+unfolding meaning
+tanks-length s = refl
+
+-- eight views, tank by tank
+pub views-are : (s : Tanks) (vs : List View) → length vs ≡ 8 → ((u : ℕ) → u < 8 → view (tankOf s u) ≡ getD vs u freshView) → meaning s .tanks ≡ vs
+views-are s vs l h =
+    ext-getD freshView (meaning s .tanks) vs (tanks-length s ∙ sym l)
+    (λ u g. let k : u < 8 = omega (arith, tanks-length s) in tank-at s u freshView k ∙ h u k)
+
+-- runs held, by the positions and by the heads
+pub held-is : (s : Tanks) → Sound s → (u : ℕ) → u < 8 → held (meaning s) u ≡ runsIn (s .heads) u
+unfolding tankOf
+held-is s ok u h = ap runsHeld (tank-at s u freshView h) ∙ runs-held (ok .each u h .laid)
+
+pub judged-is : (s : Tanks) → Sound s → (t n : ℕ) → judgement (s .settings) (held (meaning s)) t n ≡ judgement (s .settings) (runsIn (s .heads)) t n
+unfolding judgement
+judged-is s ok t n =
+    rw
+    (claims-cong (s .settings) (heldAfter (held (meaning s)) t n) (heldAfter (runsIn (s .heads)) t n) 8
+    (λ u h. ap (λ (y : ℕ). cond (eqb u t) n y) (held-is s ok u h)))
+
+-- ---- a tank put back
+module _ (s : Tanks) (t : ℕ) (x : Tank) (ok : Sound s) (t8 : t < 8) (formed : Formed x) (judged : judgement (s .settings) (runsIn (s .heads)) t (x .runs) ≡ 0) where
+  next : List Head
+  next = set (s .heads) t (headOf x)
+
+  runs-next : (u : ℕ) → runsIn next u ≡ heldAfter (runsIn (s .heads)) t (x .runs) u
+  unfolding next
+  runs-next u =
+      at-each (λ v. runsIn (set (s .heads) t (headOf x)) v ≡ heldAfter (runsIn (s .heads)) t (x .runs) v) t u
+      (rw (eq-eqb t t refl) (ap (λ (h : Head). h .runs) (getD-set-same (s .heads) t (headOf x) noHead (omega (arith, ok .heads-8)))))
+      (λ ne. rw (ne-eqb u t ne) (ap (λ (h : Head). h .runs) (getD-set-other (s .heads) t u (headOf x) noHead ne)))
+
+  sum-next : claims (s .settings) (runsIn next) 8 ≤ 512
+  sum-next =
+      omega (
+        arith,
+        judge-sum (s .settings) (runsIn (s .heads)) t (x .runs) judged,
+        claims-cong (s .settings) (runsIn next) (heldAfter (runsIn (s .heads)) t (x .runs)) 8 (λ u _. runs-next u),
+      )
+
+  pub room : before (set (s .heads) t (headOf x)) 8 ≤ 512
+  unfolding next
+  room = omega (arith, sum-next, before-claims (s .settings) next 8)
+
+  pub put-sound : Sound (puts s t x)
+  unfolding puts next
+  put-sound = record {
+    settings-8 = ok .settings-8;
+    heads-8 = length-set (s .heads) t (headOf x) ∙ ok .heads-8;
+    pool-512 = put-length s t x ok t8 formed room;
+    marks-512 = length-laid (s .marks) (64 * t) (λ k. getD (x .table) k blank) 64 ∙ ok .marks-512;
+    rule = ok .rule;
+    limits = λ u h. rw (runs-next u)
+        (at-each (λ v. heldAfter (runsIn (s .heads)) t (x .runs) v ≤ limitOf (s .settings) v) t u
+        (rw (eq-eqb t t refl) (judge-within (s .settings) (runsIn (s .heads)) t (x .runs) judged))
+        (λ ne. rw (ne-eqb u t ne) (ok .limits u h)));
+    sum = sum-next;
+    each = λ u h.
+        at-each (λ v. Formed (tankOf (puts s t x) v)) t u
+        (subst Formed (sym (put-same s t x ok t8 formed room)) formed)
+        (λ ne. subst Formed (sym (put-other s t x ok t8 formed room u ne h)) (ok .each u h));
+    spare = put-blank s t x ok t8 formed room;
+  }
+
+  put-views : meaning (puts s t x) .tanks ≡ set (meaning s .tanks) t (view x)
+  put-views =
+      views-are (puts s t x) (set (meaning s .tanks) t (view x)) (length-set (meaning s .tanks) t (view x) ∙ tanks-length s)
+      (λ u h.
+      at-each (λ v. view (tankOf (puts s t x) v) ≡ getD (set (meaning s .tanks) t (view x)) v freshView) t u
+      (ap view (put-same s t x ok t8 formed room) ∙ sym (getD-set-same (meaning s .tanks) t (view x) freshView (omega (arith, tanks-length s))))
+      (λ ne.
+      ap view (put-other s t x ok t8 formed room u ne h)
+      ∙ sym (tank-at s u freshView h)
+      ∙ sym (getD-set-other (meaning s .tanks) t u (view x) freshView ne)))
+
+  pub put-means : meaning (puts s t x) ≡ withTank (meaning s) t (view x)
+  unfolding meaning puts
+  put-means = λ i. record { settings = s .settings; tanks = put-views i }
+
+pub settled-refused : (s : Tanks) (t number : ℕ) (x : Tank) (v : ℕ) → Sound s
+    → v ≡ first number (judgement (s .settings) (runsIn (s .heads)) t (x .runs)) → 0 < v → Settled s t number x (record { number = v; tanks = s })
+settled-refused s t number x v ok e h = record { number-is = e; is = rw (ne-eqb v 0 (λ z. omega arith)); sound = ok }
+
+pub settled-done : (s : Tanks) (t number : ℕ) (x : Tank) → Sound s → t < 8 → Formed x
+    → first number (judgement (s .settings) (runsIn (s .heads)) t (x .runs)) ≡ 0 → Settled s t number x (record { number = 0; tanks = puts s t x })
+settled-done s t number x ok t8 formed z =
+    let j = second-zero number (judgement (s .settings) (runsIn (s .heads)) t (x .runs)) z in
+    record { number-is = sym z; is = put-means s t x ok t8 formed j; sound = put-sound s t x ok t8 formed j }

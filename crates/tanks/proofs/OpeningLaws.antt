@@ -1,0 +1,124 @@
+-- A fresh state: eight fresh tanks, sound.
+use Prim.Native.Nat.{ℕ, zero, suc, _+_, _*_, _≤_, _<_}
+use mathlib.Core.Path.{_≡_, refl, sym, ap, _∙_, subst}
+use mathlib.Core.Bool.{true, false}
+use mathlib.Core.List.{List}
+use native.Mathlib.Omega.{arith}
+use lib.ListN.{length, getD, set, replicate, getD-replicate}
+use lib.Seq.{ext-getD}
+use Rattle.styles.specs.Marks.{blank}
+use Rattle.runs.specs.Runs.{Spare}
+use Rattle.tank.specs.declared.Tank.{Tank}
+use Rattle.tank.specs.Rules.{freshLength, freshView}
+use Rattle.tank.specs.State as state
+use Rattle.tank.specs.State.{view, Formed}
+use Rattle.tank.proofs.FreshLaws as tank
+use Rattle.tanks.specs.declared.Setting.{Setting}
+use Rattle.tanks.specs.declared.Head.{Head}
+use Rattle.tanks.specs.declared.Run as pool
+use Rattle.tanks.specs.Settings.{accepted, fit, shares, claims}
+use Rattle.tanks.specs.House.{one, openNumber, opening}
+use Rattle.tanks.specs.Pool.{noHead, noRun, runsIn, laid, before, tankOf, headOf, meaning, Sound, freshly}
+use Rattle.tanks.specs.Contracts.{Opens}
+use Rattle.tanks.proofs.LaidLaws.{length-laid, laid-front, laid-out, blank-at}
+use Rattle.tanks.proofs.PutLaws.{tank-eq}
+use Rattle.tanks.proofs.SettingLaws.{accepted-at, accepted-sum}
+use Rattle.tanks.proofs.MeaningLaws.{views-are}
+
+abbrev T : ℕ
+T = freshLength
+
+-- a fresh tank: untouched, T positions, one run
+abbrev fresh : Tank
+fresh = record { touched = false; length = T; runs = 1; marks = 0; lens = set (replicate 514 0) 0 T; sets = replicate 514 0; table = replicate 64 blank }
+
+eight : List Head
+eight = replicate 8 (headOf fresh)
+
+runs-one : (u : ℕ) → u < 8 → runsIn eight u ≡ 1
+unfolding eight
+runs-one u h = ap (λ (x : Head). x .runs) (getD-replicate 8 u (headOf fresh) noHead h)
+
+before-one : (u : ℕ) → u ≤ 8 → before eight u ≡ u
+unfolding before
+before-one zero h = refl
+before-one (suc u) h = omega (arith, before-one u (omega arith), runs-one u (omega arith))
+
+-- in form, and it means a fresh tank
+fresh-is : state.Sound fresh × (view fresh ≡ freshView)
+unfolding Spare
+fresh-is = tank.fresh-sound (replicate 514 0) (replicate 514 0) (λ i h. (blank-at 514 i 0, blank-at 514 i 0)) refl refl (replicate 64 blank) refl (λ i. blank-at 64 i blank)
+
+module _ (st : List Setting) where
+  run-fresh : (u : ℕ) → u < 8 → getD (freshly st .pool) (before eight u + 0) noRun ≡ record { len = T; set = 0 }
+  unfolding freshly
+  run-fresh u h =
+      let e : before eight u + 0 ≡ u = omega (arith, before-one u (omega arith)) in
+      rw e (laid-front (replicate 512 noRun) (λ _. record { len = T; set = 0 }) 8 u noRun (omega arith) h)
+
+  no-marks : (u : ℕ) → laid (replicate 64 blank) 0 (λ k. getD (replicate 512 blank) (64 * u + k) blank) 64 ≡ replicate 64 blank
+  no-marks u =
+      ext-getD blank (laid (replicate 64 blank) 0 (λ k. getD (replicate 512 blank) (64 * u + k) blank) 64) (replicate 64 blank) (length-laid (replicate 64 blank) 0 _ 64)
+      (λ k h.
+      let l : k < 64 = omega (arith, length-laid (replicate 64 blank) 0 (λ k. getD (replicate 512 blank) (64 * u + k) blank) 64) in
+      laid-front (replicate 64 blank) (λ k. getD (replicate 512 blank) (64 * u + k) blank) 64 k blank (omega arith) l
+      ∙ blank-at 512 (64 * u + k) blank
+      ∙ sym (blank-at 64 k blank))
+
+  pub tank-fresh : (u : ℕ) → u < 8 → tankOf (freshly st) u ≡ fresh
+  unfolding tankOf freshly laid eight
+  tank-fresh u h =
+      let e = getD-replicate 8 u (headOf fresh) noHead h in
+      tank-eq (tankOf (freshly st) u) fresh
+      (ap (λ (x : Head). x .touched) e)
+      (ap (λ (x : Head). x .length) e)
+      (ap (λ (x : Head). x .runs) e)
+      (ap (λ (x : Head). x .marks) e)
+      (rw (runs-one u h) (ap (λ (r : pool.Run). set (replicate 514 0) 0 (r .len)) (run-fresh u h)))
+      (rw (runs-one u h) (ap (λ (r : pool.Run). set (replicate 514 0) 0 (r .set)) (run-fresh u h)))
+      (no-marks u)
+
+  pub means-fresh : meaning (freshly st) .tanks ≡ replicate 8 freshView
+  means-fresh =
+      views-are (freshly st) (replicate 8 freshView) refl
+      (λ u h. ap view (tank-fresh u h) ∙ fresh-is .1 ∙ sym (getD-replicate 8 u freshView freshView h))
+
+  module _ (l : length st ≡ 8) (ok : accepted st ≡ true) where
+    claims-one : (n : ℕ) → n ≤ 8 → claims st (runsIn eight) n ≡ shares st n
+    unfolding claims shares
+    claims-one zero h = refl
+    claims-one (suc n) h = omega (arith, claims-one n (omega arith), runs-one n (omega arith), accepted-at st ok n (omega arith))
+
+    pub fresh-sound : Sound (freshly st)
+    unfolding freshly eight
+    fresh-sound = record {
+      settings-8 = l;
+      heads-8 = refl;
+      pool-512 = length-laid (replicate 512 noRun) 0 (λ _. record { len = T; set = 0 }) 8;
+      marks-512 = refl;
+      rule = ok;
+      limits = λ u h. omega (arith, runs-one u h, accepted-at st ok u h);
+      sum = omega (arith, claims-one 8 (omega arith), accepted-sum st ok);
+      each = λ u h. subst Formed (sym (tank-fresh u h)) (fresh-is .0 .formed);
+      spare = λ k h. laid-out (replicate 512 noRun) 0 (λ _. record { len = T; set = 0 }) 8 k noRun (λ j g e. omega (arith, before-one 8 (omega arith))) ∙ blank-at 512 k noRun;
+    }
+
+    pub opens : Opens st (record { number = 0; tanks = freshly st })
+    unfolding openNumber opening meaning freshly
+    opens = record {
+      number-is = rw ok;
+      is = rw ok (λ i. record { settings = st; tanks = means-fresh i });
+      sound = fresh-sound;
+    }
+
+pub ones-ok : accepted (replicate 8 one) ≡ true
+unfolding accepted fit shares
+ones-ok = refl
+
+pub opens-2 : (st : List Setting) → accepted st ≡ false → Opens st (record { number = 2; tanks = freshly (replicate 8 one) })
+unfolding openNumber opening meaning freshly
+opens-2 st off = record {
+  number-is = rw off;
+  is = rw off (λ i. record { settings = replicate 8 one; tanks = means-fresh (replicate 8 one) i });
+  sound = fresh-sound (replicate 8 one) refl ones-ok;
+}

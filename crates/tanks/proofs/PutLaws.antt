@@ -1,0 +1,180 @@
+-- What `puts` does to the tanks: tank t becomes x, and every other tank stays.
+use Prim.Native.Nat.{ℕ, _+_, _-_, _*_, _≤_, _<_, max}
+use mathlib.Core.Path.{_≡_, sym, ap, _∙_}
+use mathlib.Core.Logic.{_≢_}
+use mathlib.Core.List.{List}
+use native.Mathlib.Omega.{arith}
+use borrow.Author.Tests.{lt-ltb, le-ltb}
+use native.Mathlib.Decide.{decLt}
+use lib.ListN.{length, getD, set, replicate}
+use lib.Seq.{getD-set-same, getD-set-other, ext-getD}
+use Rattle.tanks.specs.declared.Head.{Head}
+use Rattle.tanks.specs.declared.Run.{Run}
+use Rattle.tank.specs.declared.Tank.{Tank}
+use Rattle.tanks.specs.declared.Tanks.{Tanks}
+use Rattle.styles.specs.Marks.{blank}
+use Rattle.runs.specs.Runs.{Spare}
+use Rattle.tank.specs.State.{Formed}
+use Rattle.tanks.specs.Pool.{noRun, noHead, runsIn, laid, before, tankOf, headOf, runOf, runFrom, puts, Sound}
+use Rattle.tanks.proofs.SettingLaws.{sound-held}
+use Rattle.tanks.proofs.LaidLaws.{length-laid, laid-out, laid-in, laid-front, laid-cong, blank-at, before-next, before-same, before-later}
+
+-- two tanks with equal fields are equal
+pub tank-eq : (x y : Tank) → x .touched ≡ y .touched → x .length ≡ y .length → x .runs ≡ y .runs → x .marks ≡ y .marks → x .lens ≡ y .lens → x .sets ≡ y .sets → x .table ≡ y .table → x ≡ y
+tank-eq x y a b c d e f g = λ i. record { touched = a i; length = b i; runs = c i; marks = d i; lens = e i; sets = f i; table = g i }
+
+-- the pool, place by place: n runs at `at` become x's, and `left` runs stand behind them
+abbrev packed : List Run → ℕ → ℕ → ℕ → Tank → List Run
+packed pool at n left x = laid pool at (runFrom pool x (at + n) (x .runs + left)) (max (x .runs) n + left)
+
+module _ (pool : List Run) (at n left : ℕ) (x : Tank) (l : length pool ≡ 512) (most : at + n + left ≤ 512) (room : at + x .runs + left ≤ 512) where
+  pool-low : (k : ℕ) → k < at → getD (packed pool at n left x) k noRun ≡ getD pool k noRun
+  pool-low k h = laid-out pool at (runFrom pool x (at + n) (x .runs + left)) (max (x .runs) n + left) k noRun (λ j g i. omega arith)
+
+  pool-in : (k : ℕ) → k < max (x .runs) n + left → getD (packed pool at n left x) (at + k) noRun ≡ runFrom pool x (at + n) (x .runs + left) k
+  pool-in k h = laid-in pool at (runFrom pool x (at + n) (x .runs + left)) (max (x .runs) n + left) k noRun (omega arith) h
+
+  pool-mid : (k : ℕ) → k < x .runs → getD (packed pool at n left x) (at + k) noRun ≡ runOf (x .lens) (x .sets) k
+  unfolding runFrom
+  pool-mid k h = pool-in k (omega arith) ∙ rw (lt-ltb k (x .runs) h)
+
+  pool-high : (k : ℕ) → k < left → getD (packed pool at n left x) (at + x .runs + k) noRun ≡ getD pool (at + n + k) noRun
+  unfolding runFrom
+  pool-high k h =
+      let e : at + (x .runs + k) ≡ at + x .runs + k = omega arith in
+      let g : x .runs + k - x .runs ≡ k = omega arith in
+      (rw e at (pool-in (x .runs + k) (omega arith)))
+      ∙ rw (le-ltb (x .runs + k) (x .runs) (omega arith), lt-ltb (x .runs + k) (x .runs + left) (omega arith), g)
+
+  pool-blank : ((k : ℕ) → at + n + left ≤ k → getD pool k noRun ≡ noRun) → (k : ℕ) → at + x .runs + left ≤ k → getD (packed pool at n left x) k noRun ≡ noRun
+  unfolding runFrom
+  pool-blank spare k h =
+      elim (decLt k (at + (max (x .runs) n + left))) [
+        | yes g ↦
+            let e : at + (k - at) ≡ k = omega arith in
+            (rw e at (pool-in (k - at) (omega arith)))
+            ∙ rw (le-ltb (k - at) (x .runs) (omega arith), le-ltb (k - at) (x .runs + left) (omega arith))
+        | no g ↦ laid-out pool at (runFrom pool x (at + n) (x .runs + left)) (max (x .runs) n + left) k noRun (λ j f i. omega arith) ∙ spare k (omega arith)
+      ]
+
+-- the tanks
+module _ (s : Tanks) (t : ℕ) (x : Tank) (ok : Sound s) (t8 : t < 8) (formed : Formed x) (room : before (set (s .heads) t (headOf x)) 8 ≤ 512) where
+  h8 : length (s .heads) ≡ 8
+  h8 = ok .heads-8
+
+  at : ℕ
+  at = before (s .heads) t
+
+  n : ℕ
+  n = runsIn (s .heads) t
+
+  left : ℕ
+  unfolding at n
+  left = before (s .heads) 8 - (before (s .heads) t + runsIn (s .heads) t)
+
+  all-before : at + n + left ≡ before (s .heads) 8
+  unfolding at n left
+  all-before = omega (arith, before-next (s .heads) t 8 t8)
+
+  all-after : at + x .runs + left ≡ before (set (s .heads) t (headOf x)) 8
+  unfolding at n left
+  all-after = omega (arith, before-later (s .heads) t (headOf x) 8 (omega (arith, h8)) t8, before-next (s .heads) t 8 t8)
+
+  most : at + n + left ≤ 512
+  most = omega (arith, all-before, sound-held s ok)
+
+  fits : at + x .runs + left ≤ 512
+  fits = omega (arith, all-after)
+
+  head-same : getD (set (s .heads) t (headOf x)) t noHead ≡ headOf x
+  head-same = getD-set-same (s .heads) t (headOf x) noHead (omega (arith, h8))
+
+  pub put-length : length (puts s t x .pool) ≡ 512
+  unfolding puts
+  put-length = length-laid (s .pool) _ _ _ ∙ ok .pool-512
+
+  pub put-blank : (k : ℕ) → before (puts s t x .heads) 8 ≤ k → getD (puts s t x .pool) k noRun ≡ noRun
+  unfolding puts at n left
+  put-blank k h =
+      pool-blank (s .pool) at n left x (ok .pool-512) most fits (λ j g. ok .spare j (omega (arith, all-before))) k (omega (arith, all-after))
+
+  -- the runs of the tank put
+  put-run : (k : ℕ) → k < x .runs → getD (puts s t x .pool) (before (puts s t x .heads) t + k) noRun ≡ runOf (x .lens) (x .sets) k
+  unfolding puts at n left
+  put-run k h =
+      rw (before-same (s .heads) t (headOf x) t (omega arith))
+      (pool-mid (s .pool) at n left x (ok .pool-512) most fits k h)
+
+  -- the runs of another tank
+  moved : (u : ℕ) → u ≢ t → u < 8 → (k : ℕ) → k < runsIn (s .heads) u
+      → getD (puts s t x .pool) (before (puts s t x .heads) u + k) noRun ≡ getD (s .pool) (before (s .heads) u + k) noRun
+  unfolding puts at n left
+  moved u ne u8 k h =
+      elim (decLt u t) [
+        | yes l ↦
+            rw (before-same (s .heads) t (headOf x) u (omega arith))
+            (pool-low (s .pool) at n left x (ok .pool-512) most fits (before (s .heads) u + k) (omega (arith, before-next (s .heads) u t l)))
+        | no l ↦
+            let f : before (s .heads) t + runsIn (s .heads) t ≤ before (s .heads) u = before-next (s .heads) t u (omega arith) in
+            let m : before (s .heads) u + runsIn (s .heads) u ≤ before (s .heads) 8 = before-next (s .heads) u 8 u8 in
+            let j : before (set (s .heads) t (headOf x)) u + k ≡ before (s .heads) t + x .runs + (before (s .heads) u + k - (before (s .heads) t + runsIn (s .heads) t)) =
+            omega (arith, before-later (s .heads) t (headOf x) u (omega (arith, h8)) (omega arith)) in
+            let i : before (s .heads) t + runsIn (s .heads) t + (before (s .heads) u + k - (before (s .heads) t + runsIn (s .heads) t)) ≡ before (s .heads) u + k = omega arith in
+            rw j
+            (pool-high (s .pool) at n left x (ok .pool-512) most fits (before (s .heads) u + k - (before (s .heads) t + runsIn (s .heads) t)) (omega arith)
+            ∙ ap (λ (z : ℕ). getD (s .pool) z noRun) i)
+      ]
+
+  -- an array of x is its part below the runs, and zeros
+  array : (xs : List ℕ) (f : ℕ → ℕ) → length xs ≡ 514 → x .runs ≤ 514 → ((k : ℕ) → k < x .runs → f k ≡ getD xs k 0) → ((k : ℕ) → x .runs ≤ k → getD xs k 0 ≡ 0)
+      → laid (replicate 514 0) 0 f (x .runs) ≡ xs
+  array xs f l r eq spare =
+      ext-getD 0 (laid (replicate 514 0) 0 f (x .runs)) xs (length-laid (replicate 514 0) 0 f (x .runs) ∙ sym l)
+      (λ k _. elim (decLt k (x .runs)) [
+        | yes h ↦ laid-front (replicate 514 0) f (x .runs) k 0 r h ∙ eq k h
+        | no h ↦ laid-out (replicate 514 0) 0 f (x .runs) k 0 (λ j g i. omega arith) ∙ blank-at 514 k 0 ∙ sym (spare k (omega arith))
+      ])
+
+  -- the marks of the tank put, and of another
+  put-table : laid (replicate 64 blank) 0 (λ k. getD (puts s t x .marks) (64 * t + k) blank) 64 ≡ x .table
+  unfolding puts
+  put-table =
+      ext-getD blank (laid (replicate 64 blank) 0 (λ k. getD (puts s t x .marks) (64 * t + k) blank) 64) (x .table) (length-laid (replicate 64 blank) 0 _ 64 ∙ sym (formed .laid .table-64))
+      (λ k h.
+      let l : k < 64 = omega (arith, length-laid (replicate 64 blank) 0 (λ k. getD (puts s t x .marks) (64 * t + k) blank) 64) in
+      laid-front (replicate 64 blank) (λ k. getD (puts s t x .marks) (64 * t + k) blank) 64 k blank (omega arith) l
+      ∙ laid-in (s .marks) (64 * t) (λ k. getD (x .table) k blank) 64 k blank (omega (arith, ok .marks-512)) l)
+
+  kept-table : (u : ℕ) → u ≢ t → laid (replicate 64 blank) 0 (λ k. getD (puts s t x .marks) (64 * u + k) blank) 64 ≡ laid (replicate 64 blank) 0 (λ k. getD (s .marks) (64 * u + k) blank) 64
+  unfolding puts
+  kept-table u ne =
+      laid-cong (replicate 64 blank) 0 _ _ 64
+      (λ k h. laid-out (s .marks) (64 * t) (λ k. getD (x .table) k blank) 64 (64 * u + k) blank (λ j g i. ne (omega arith)))
+
+  pub put-same : tankOf (puts s t x) t ≡ x
+  unfolding tankOf puts Spare
+  put-same =
+      let r : runsIn (set (s .heads) t (headOf x)) t ≡ x .runs = ap (λ (h : Head). h .runs) head-same in
+      let few : x .runs ≤ 514 = omega (arith, fits) in
+      tank-eq (tankOf (puts s t x) t) x
+      (ap (λ (h : Head). h .touched) head-same)
+      (ap (λ (h : Head). h .length) head-same)
+      r
+      (ap (λ (h : Head). h .marks) head-same)
+      (rw r (array (x .lens) (λ k. getD (puts s t x .pool) (before (puts s t x .heads) t + k) noRun .len) (formed .laid .lens-514) few (λ k h. ap (λ (r : Run). r .len) (put-run k h)) (λ k h. formed .laid .spare k h .0)))
+      (rw r (array (x .sets) (λ k. getD (puts s t x .pool) (before (puts s t x .heads) t + k) noRun .set) (formed .laid .sets-514) few (λ k h. ap (λ (r : Run). r .set) (put-run k h)) (λ k h. formed .laid .spare k h .1)))
+      put-table
+
+  pub put-other : (u : ℕ) → u ≢ t → u < 8 → tankOf (puts s t x) u ≡ tankOf s u
+  unfolding tankOf puts
+  put-other u ne u8 =
+      let e : getD (set (s .heads) t (headOf x)) u noHead ≡ getD (s .heads) u noHead = getD-set-other (s .heads) t u (headOf x) noHead ne in
+      let r : runsIn (set (s .heads) t (headOf x)) u ≡ runsIn (s .heads) u = ap (λ (h : Head). h .runs) e in
+      tank-eq (tankOf (puts s t x) u) (tankOf s u)
+      (ap (λ (h : Head). h .touched) e)
+      (ap (λ (h : Head). h .length) e)
+      r
+      (ap (λ (h : Head). h .marks) e)
+      (rw r (laid-cong (replicate 514 0) 0 _ _ (runsIn (s .heads) u) (λ k h. ap (λ (r : Run). r .len) (moved u ne u8 k h))))
+      (rw r (laid-cong (replicate 514 0) 0 _ _ (runsIn (s .heads) u) (λ k h. ap (λ (r : Run). r .set) (moved u ne u8 k h))))
+      (kept-table u ne)

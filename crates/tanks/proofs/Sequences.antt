@@ -1,0 +1,44 @@
+-- The code's own states: whatever the contracts allow, call after call, is what the rules say.
+use Prim.Native.Nat.{ℕ, _≤_, _<_}
+use mathlib.Core.Path.{_≡_, refl, ap, _∙_}
+use mathlib.Core.Bool.{true}
+use mathlib.Core.List.{List, [], _∷_}
+use native.Mathlib.Omega.{arith}
+use lib.ListN.{length}
+use Rattle.tank.specs.Rules.{Edit, runsHeld, after}
+use Rattle.tanks.specs.declared.Setting.{Setting}
+use Rattle.tanks.specs.declared.Opened.{Opened}
+use Rattle.tanks.specs.declared.Tanks.{Tanks}
+use Rattle.tanks.specs.Settings.{shareOf, limitOf, accepted}
+use Rattle.tanks.specs.House.{House, tankAt, held, refusalAt, Call, afterAll}
+use Rattle.tanks.specs.Pool.{runsIn, meaning, Sound}
+use Rattle.tanks.specs.Contracts.{Opens, CalledAt}
+use Rattle.tanks.proofs.MeaningLaws.{held-is}
+use Rattle.tanks.proofs.Theorems.{reached, within-limits, never-9-or-10}
+
+pub data Calls : Tanks → List Call → Tanks → Type 0 where
+  none : {s : Tanks} → Calls s [] s
+  call : {s next last : Tanks} {c : Call} {cs : List Call} {number : ℕ} → CalledAt s (c .tank) (c .edit) number next → Calls next cs last → Calls s (c ∷ cs) last
+
+pub calls-mean : {s last : Tanks} {cs : List Call} → Calls s cs last → meaning last ≡ afterAll (meaning s) cs
+unfolding afterAll
+calls-mean none = refl
+calls-mean (call {cs = cs} p c) = calls-mean c ∙ ap (λ (h : House). afterAll h cs) (p .is)
+
+pub calls-sound : {s last : Tanks} {cs : List Call} → Sound s → Calls s cs last → Sound last
+calls-sound ok none = ok
+calls-sound ok (call p c) = calls-sound (p .sound) c
+
+module _ (st : List Setting) (l : length st ≡ 8) (ok : accepted st ≡ true) (r : Opened) (opened : Opens st r) (cs : List Call) (s : Tanks) (calls : Calls (r .tanks) cs s) where
+  means : meaning s ≡ reached st l ok cs
+  unfolding reached
+  means = calls-mean calls ∙ ap (λ (h : House). afterAll h cs) (opened .is)
+
+  -- no tank holds more runs than its limit
+  pub runs-within : (u : ℕ) → u < 8 → runsIn (s .heads) u ≤ limitOf st u
+  runs-within u h =
+      omega (arith, held-is s (calls-sound (opened .sound) calls) u h, ap (λ (x : House). held x u) means, within-limits st l ok cs u h)
+
+  -- none can be starved of its share
+  pub share-kept : (t : ℕ) (e : Edit) → t < 8 → runsHeld (after e (tankAt (meaning s) t)) ≤ shareOf st t → refusalAt (meaning s) t e ≤ 8
+  share-kept t e t8 le = rw means (never-9-or-10 st l ok cs t e t8 (rw means at le))

@@ -1,0 +1,195 @@
+-- The laws of the settings' rule and of the judgement.
+use Prim.Native.Nat.{ℕ, zero, suc, _+_, _*_, _≤_, _<_, max}
+use mathlib.Core.Path.{_≡_, refl}
+use mathlib.Core.Bool.{Bool, true, false, cond, _&&_}
+use mathlib.Core.List.{List}
+use native.Mathlib.Omega.{arith}
+use native.Mathlib.Decide.{decLt, decLe}
+use native.Mathlib.Numerals.{add-one}
+use lib.Dec.{leb, eqb}
+use borrow.Author.Tests.{leb-true, eqb-true, le-leb, lt-ltb, le-ltb}
+use lib.ListN.{getD}
+use Rattle.tanks.specs.declared.Setting.{Setting}
+use Rattle.tanks.specs.declared.Head.{Head}
+use Rattle.tanks.specs.declared.Tanks.{Tanks}
+use Rattle.tanks.specs.House.{first}
+use Rattle.tanks.specs.Pool.{runsIn, before, tankOf, Sound}
+use Rattle.tanks.specs.Settings.{noSetting, shareOf, limitOf, fits, fit, shares, accepted, claims, heldAfter, judgement}
+use Rattle.tank.specs.declared.Tank.{Tank}
+use Rattle.tanks.specs.Contracts.{Taken, Judged, Small}
+use Rattle.tanks.proofs.LaidLaws.{before-next}
+
+pub both : (a b : Bool) → a && b ≡ true → (a ≡ true) × (b ≡ true)
+both true b h = (refl, h)
+both false b h = (h, cc)
+
+pub record Fits (s : Setting) : Type 0 where
+  pub low : 1 ≤ s .share
+  pub order : s .share ≤ s .limit
+  pub high : s .limit ≤ 512
+
+pub fits-facts : (s : Setting) → fits s ≡ true → Fits s
+fits-facts s h =
+    let p = both (leb 1 (s .share)) (leb (s .share) (s .limit) && leb (s .limit) 512) h in
+    let q = both (leb (s .share) (s .limit)) (leb (s .limit) 512) (p .1) in
+    record { low = leb-true 1 (s .share) (p .0); order = leb-true (s .share) (s .limit) (q .0); high = leb-true (s .limit) 512 (q .1) }
+
+fit-at : (st : List Setting) (n u : ℕ) → fit st n ≡ true → u < n → Fits (getD st u noSetting)
+unfolding fit
+fit-at st zero u h g = absurd (omega arith)
+fit-at st (suc n) u h g =
+    let p = both (fit st n) (fits (getD st n noSetting)) h in
+    elim (decLt u n) [
+      | yes l ↦ fit-at st n u (p .0) l
+      | no l ↦ let e : u ≡ n = omega arith in rw e (fits-facts (getD st n noSetting) (p .1))
+    ]
+
+pub fit-more : (st : List Setting) (n : ℕ) → fit st (n + 1) ≡ (fit st n && fits (getD st n noSetting))
+unfolding fit
+fit-more st n = rw add-one
+
+pub fit-all : (st : List Setting) (n : ℕ) → ((u : ℕ) → u < n → fits (getD st u noSetting) ≡ true) → fit st n ≡ true
+unfolding fit
+fit-all st zero h = refl
+fit-all st (suc n) h = rw (fit-all st n (λ u l. h u (omega arith)), h n (omega arith))
+
+-- one that does not fit spoils all
+pub fit-not : (st : List Setting) (n u : ℕ) → u < n → fits (getD st u noSetting) ≡ false → fit st n ≡ false
+unfolding fit
+fit-not st zero u g h = absurd (omega arith)
+fit-not st (suc n) u g h =
+    elim (decLt u n) [
+      | yes l ↦ rw (fit-not st n u l h)
+      | no l ↦ let e : n ≡ u = omega arith in rw (e, h) (last (fit st u))
+    ]
+  where
+    last : (b : Bool) → b && false ≡ false
+    last true = refl
+    last false = refl
+
+pub shares-more : (st : List Setting) (n : ℕ) → shares st (n + 1) ≡ shares st n + shareOf st n
+unfolding shares
+shares-more st n = rw add-one
+
+module _ (st : List Setting) (ok : accepted st ≡ true) where
+  pub accepted-at : (u : ℕ) → u < 8 → Fits (getD st u noSetting)
+  unfolding accepted
+  accepted-at u h = fit-at st 8 u (both (fit st 8) (leb (shares st 8) 512) ok .0) h
+
+  pub accepted-sum : shares st 8 ≤ 512
+  unfolding accepted
+  accepted-sum = leb-true (shares st 8) 512 (both (fit st 8) (leb (shares st 8) 512) ok .1)
+
+-- ---- claims
+pub claims-more : (st : List Setting) (f : ℕ → ℕ) (n : ℕ) → claims st f (n + 1) ≡ claims st f n + max (f n) (shareOf st n)
+unfolding claims
+claims-more st f n = rw add-one
+
+claims-bound : (st : List Setting) (f : ℕ → ℕ) (n : ℕ) → ((u : ℕ) → u < n → f u ≤ 512) → ((u : ℕ) → u < n → shareOf st u ≤ 512) → claims st f n ≤ 512 * n
+unfolding claims
+claims-bound st f zero h g = omega arith
+claims-bound st f (suc n) h g =
+    omega (arith, claims-bound st f n (λ u l. h u (omega arith)) (λ u l. g u (omega arith)), h n (omega arith), g n (omega arith))
+
+pub claims-cong : (st : List Setting) (f g : ℕ → ℕ) (n : ℕ) → ((u : ℕ) → u < n → f u ≡ g u) → claims st f n ≡ claims st g n
+unfolding claims
+claims-cong st f g zero h = refl
+claims-cong st f g (suc n) h = rw (claims-cong st f g n (λ u l. h u (omega arith)), h n (omega arith))
+
+pub before-claims : (st : List Setting) (hs : List Head) (n : ℕ) → before hs n ≤ claims st (runsIn hs) n
+unfolding before claims
+before-claims st hs zero = omega arith
+before-claims st hs (suc n) = omega (arith, before-claims st hs n)
+
+pub cond-le : (b : Bool) (x y k : ℕ) → x ≤ k → y ≤ k → cond b x y ≤ k
+cond-le true x y k h g = h
+cond-le false x y k h g = g
+
+pub small-more : (st : List Setting) (hs : List Head) (t n u : ℕ) → Small st hs n → u < 8
+    → claims st (heldAfter (runsIn hs) t n) u + max (heldAfter (runsIn hs) t n u) (shareOf st u) ≤ 4096
+small-more st hs t n u s h =
+    let f : (v : ℕ) → v < 8 → heldAfter (runsIn hs) t n v ≤ 512 = λ v l. cond-le (eqb v t) n (runsIn hs v) 512 (s .more) (s .runs v l) in
+    omega (
+      arith,
+      claims-bound st (heldAfter (runsIn hs) t n) u (λ v l. f v (omega arith)) (λ v l. s .shares v (omega arith)),
+      f u h,
+      s .shares u h,
+    )
+
+pub judged-small : (st : List Setting) (hs : List Head) (t n : ℕ) → t < 8 → Judged st hs → n ≤ limitOf st t → Small st hs n
+judged-small st hs t n h j l = record {
+  shares = λ u g. omega (arith, accepted-at st (j .rule) u g);
+  runs = λ u g. omega (arith, accepted-at st (j .rule) u g, j .limits u g);
+  more = omega (arith, accepted-at st (j .rule) t h);
+}
+
+module _ (s : Tanks) (ok : Sound s) where
+  pub sound-held : before (s .heads) 8 ≤ 512
+  sound-held = omega (arith, ok .sum, before-claims (s .settings) (s .heads) 8)
+
+  pub sound-place : (t : ℕ) → t < 8 → before (s .heads) t + runsIn (s .heads) t ≤ 512
+  sound-place t h = omega (arith, sound-held, before-next (s .heads) t 8 h)
+
+  few : (t : ℕ) → t < 8 → tankOf s t .runs ≤ 512
+  unfolding tankOf
+  few t h = omega (arith, sound-place t h)
+
+  pub taken : (t : ℕ) (x : Tank) → t < 8 → x ≡ tankOf s t → Taken s t x
+  taken t x h e = record { is = e; sound = rw e (record { formed = ok .each t h; within = few t h }) }
+
+  pub sound-judged : Judged (s .settings) (s .heads)
+  sound-judged = record { rule = ok .rule; limits = ok .limits }
+
+-- ---- the code's branches
+pub fits-last : (s : Setting) → 1 ≤ s .share → s .share ≤ s .limit → leb (s .limit) 512 ≡ fits s
+fits-last s h g = rw (le-leb 1 (s .share) h, le-leb (s .share) (s .limit) g)
+
+pub fit-grown : (st : List Setting) (u : ℕ) → fit st u ≡ true → fits (getD st u noSetting) ≡ true → fit st (u + 1) ≡ true
+fit-grown st u h g = rw (fit-more st u, h) g
+
+pub accepts-not : (st : List Setting) (u : ℕ) → u < 8 → fits (getD st u noSetting) ≡ false → false ≡ accepted st
+unfolding accepted
+accepts-not st u h g = rw (fit-not st 8 u h g)
+
+pub accepts-last : (st : List Setting) (sum u : ℕ) → u ≡ 8 → sum ≡ shares st u → fit st u ≡ true → leb sum 512 ≡ accepted st
+unfolding accepted
+accepts-last st sum u e p q =
+    let p′ : sum ≡ shares st 8 = rw e at p in
+    let q′ : fit st 8 ≡ true = rw e at q in
+    rw (p′, q′)
+
+module _ (st : List Setting) (held : ℕ → ℕ) (t n : ℕ) where
+  pub judge-9 : limitOf st t < n → judgement st held t n ≡ 9
+  unfolding judgement
+  judge-9 h = rw (lt-ltb (limitOf st t) n h)
+
+  pub judge-10 : n ≤ limitOf st t → 512 < claims st (heldAfter held t n) 8 → judgement st held t n ≡ 10
+  unfolding judgement
+  judge-10 h g = rw (le-ltb (limitOf st t) n h, lt-ltb 512 (claims st (heldAfter held t n) 8) g)
+
+  pub judge-0 : n ≤ limitOf st t → claims st (heldAfter held t n) 8 ≤ 512 → judgement st held t n ≡ 0
+  unfolding judgement
+  judge-0 h g = rw (le-ltb (limitOf st t) n h, le-ltb 512 (claims st (heldAfter held t n) 8) g)
+
+  -- accepted only so
+  pub judge-within : judgement st held t n ≡ 0 → n ≤ limitOf st t
+  judge-within e = elim (decLe n (limitOf st t)) [ yes h ↦ h | no h ↦ absurd (omega (arith, judge-9 (omega arith))) ]
+
+  pub judge-sum : judgement st held t n ≡ 0 → claims st (heldAfter held t n) 8 ≤ 512
+  judge-sum e =
+      elim (decLe (claims st (heldAfter held t n) 8) 512) [
+        | yes h ↦ h
+        | no h ↦ absurd (omega (arith, judge-10 (judge-within e) (omega arith)))
+      ]
+
+-- ---- the first number that is not 0
+module _ (n m : ℕ) (z : first n m ≡ 0) where
+  pub first-zero : n ≡ 0
+  first-zero = go (eqb n 0) refl
+    where
+      go : (b : Bool) → eqb n 0 ≡ b → n ≡ 0
+      go true e = eqb-true n 0 e
+      go false e = rw e at z
+
+  pub second-zero : m ≡ 0
+  second-zero = let e : first 0 m ≡ 0 = rw first-zero at z in e

@@ -1,0 +1,148 @@
+-- What the two loops of `settle` do to the state, step by step, and that their places are inside the arrays.
+use Prim.Native.Nat.{ℕ, suc, _+_, _-_, _*_, _≤_, _<_}
+use mathlib.Core.Path.{_≡_, refl, sym, ap, _∙_}
+use mathlib.Core.Bool.{Bool, true, false, cond}
+use mathlib.Core.List.{List}
+use native.Mathlib.Omega.{arith}
+use lib.Dec.{ltb}
+use native.Mathlib.Numerals.{add-one}
+use borrow.Author.Tests.{lt-ltb, le-ltb, ltb-true, ltb-false}
+use lib.ListN.{length, getD, set}
+use Rattle.styles.specs.Marks.{blank}
+use Rattle.styles.specs.declared.Mark.{Mark}
+use Rattle.tank.specs.declared.Tank.{Tank}
+use Rattle.tank.specs.State.{Formed}
+use Rattle.tanks.specs.declared.Run.{Run}
+use Rattle.tanks.specs.declared.Spots.{Spots}
+use Rattle.tanks.specs.declared.Tanks.{Tanks}
+use Rattle.tanks.specs.Settings.{judgement}
+use Rattle.tanks.specs.House.{first}
+use Rattle.tanks.specs.Pool.{noRun, runsIn, laid, headOf, runOf, runFrom, spotsOf, puts, Sound}
+use Rattle.tanks.proofs.LaidLaws.{laid-out, laid-more, laid-back, laid-cong, before-next, before-later}
+use Rattle.tanks.proofs.SettingLaws.{sound-held, second-zero}
+use Rattle.tanks.proofs.MeaningLaws.{room}
+
+abbrev pub withPool : Tanks → List Run → Tanks
+withPool s p = record { settings = s .settings; heads = s .heads; pool = p; marks = s .marks }
+
+abbrev pub withMarks : Tanks → List Mark → Tanks
+withMarks s m = record { settings = s .settings; heads = s .heads; pool = s .pool; marks = m }
+
+-- ---- part of the runs written: k of them from the lo-th on
+abbrev pub part : List Run → ℕ → (ℕ → Run) → ℕ → ℕ → List Run
+part p at f lo k = laid p (at + lo) (λ i. f (lo + i)) k
+
+part-up : (p : List Run) (at : ℕ) (f : ℕ → Run) (k : ℕ) → set (part p at f 0 k) (at + k) (f k) ≡ part p at f 0 (k + 1)
+part-up p at f k =
+    let e : at + 0 + k ≡ at + k = omega arith in
+    let g : 0 + k ≡ k = omega arith in
+    rw (e, g) at (laid-more p (at + 0) (λ i. f (0 + i)) k)
+
+part-down : (p : List Run) (at : ℕ) (f : ℕ → Run) (lo k : ℕ) → set (part p at f (suc lo) k) (at + lo) (f lo) ≡ part p at f lo (k + 1)
+part-down p at f lo k =
+    let e : at + suc lo ≡ suc (at + lo) = omega arith in
+    let z : lo + 0 ≡ lo = omega arith in
+    let g : laid p (suc (at + lo)) (λ i. f (suc lo + i)) k ≡ laid p (suc (at + lo)) (λ i. f (lo + suc i)) k =
+    laid-cong p (suc (at + lo)) _ _ k (λ i h. ap f (omega arith)) in
+    rw (e, g, add-one) (rw z at (laid-back p (at + lo) (λ i. f (lo + i)) k))
+
+-- where the next places are, from the front or from the back
+abbrev pub lowest : Bool → ℕ → ℕ → ℕ
+lowest back count k = cond back (count - k) 0
+
+part-next : (p : List Run) (at : ℕ) (f : ℕ → Run) (back : Bool) (count k j : ℕ) → k < count → j ≡ cond back (count - 1 - k) k
+    → set (part p at f (lowest back count k) k) (at + j) (f j) ≡ part p at f (lowest back count (k + 1)) (k + 1)
+part-next p at f true count k j h e =
+    let lo : count - k ≡ suc (count - (k + 1)) = omega arith in
+    let g : j ≡ count - (k + 1) = omega arith in
+    rw (g, lo) (part-down p at f (count - (k + 1)) k)
+part-next p at f false count k j h e = rw e (part-up p at f k)
+
+-- one run written
+pub run-step : (s now : Tanks) (p : List Run) (at : ℕ) (f : ℕ → Run) (back : Bool) (count k j : ℕ) (r : Run) → k < count → j ≡ cond back (count - 1 - k) k
+    → now ≡ withPool s (part p at f (lowest back count k) k) → r ≡ f j
+    → withPool now (set (now .pool) (at + j) r) ≡ withPool s (part p at f (lowest back count (k + 1)) (k + 1))
+run-step s now p at f back count k j r h i e g = rw (e, g) (ap (withPool s) (part-next p at f back count k j h i))
+
+-- the run that is read has not been written over
+kept : (p : List Run) (at : ℕ) (f : ℕ → Run) (back : Bool) (from m count k j : ℕ) → back ≡ ltb from (at + m) → k < count → j ≡ cond back (count - 1 - k) k → m ≤ j
+    → getD (part p at f (lowest back count k) k) (from + (j - m)) noRun ≡ getD p (from + (j - m)) noRun
+kept p at f true from m count k j b h e l =
+    let g : from < at + m = ltb-true from (at + m) (sym b) in
+    laid-out p (at + (count - k)) _ k _ noRun (λ i q z. omega arith)
+kept p at f false from m count k j b h e l =
+    let g : at + m ≤ from = ltb-false from (at + m) (sym b) in
+    laid-out p (at + 0) _ k _ noRun (λ i q z. omega arith)
+
+pub read-kept : (s now : Tanks) (at : ℕ) (f : ℕ → Run) (back : Bool) (from m count k j : ℕ) → back ≡ ltb from (at + m) → k < count → j ≡ cond back (count - 1 - k) k → m ≤ j
+    → now ≡ withPool s (part (s .pool) at f (lowest back count k) k) → getD (now .pool) (from + (j - m)) noRun ≡ getD (s .pool) (from + (j - m)) noRun
+read-kept s now at f back from m count k j b h e l i = rw i (kept (s .pool) at f back from m count k j b h e l)
+
+-- all of them written
+pub part-all : (p : List Run) (at : ℕ) (f : ℕ → Run) (back : Bool) (count : ℕ) → part p at f (lowest back count count) count ≡ laid p at f count
+part-all p at f back count =
+    let z : at + 0 ≡ at = omega arith in
+    all-by back (omega arith) ∙ rw z (laid-cong p at _ f count (λ i h. ap f (omega arith)))
+  where
+    all-by : (b : Bool) → count - count ≡ 0 → part p at f (lowest b count count) count ≡ part p at f 0 count
+    all-by true e = rw e
+    all-by false e = refl
+
+-- one mark written
+pub mark-step : (s now : Tanks) (p : List Mark) (at : ℕ) (f : ℕ → Mark) (k : ℕ) → now ≡ withMarks s (laid p at f k)
+    → withMarks now (set (now .marks) (at + k) (f k)) ≡ withMarks s (laid p at f (k + 1))
+mark-step s now p at f k e = rw e (ap (withMarks s) (laid-more p at f k))
+
+-- ---- which run is written
+module _ (pool : List Run) (x : Tank) (from full k : ℕ) where
+  pub run-own : k < x .runs → runOf (x .lens) (x .sets) k ≡ runFrom pool x from full k
+  unfolding runFrom
+  run-own h = rw (lt-ltb k (x .runs) h)
+
+  pub run-behind : x .runs ≤ k → k < full → getD pool (from + (k - x .runs)) noRun ≡ runFrom pool x from full k
+  unfolding runFrom
+  run-behind h g = rw (le-ltb k (x .runs) h, lt-ltb k full g)
+
+  pub run-blank : x .runs ≤ k → full ≤ k → noRun ≡ runFrom pool x from full k
+  unfolding runFrom
+  run-blank h g = rw (le-ltb k (x .runs) h, le-ltb k full g)
+
+-- ---- places inside the arrays
+pub record Inside (x : Tank) (m at from full count : ℕ) : Type 0 where
+  pub same : m ≡ x .runs
+  pub most : m ≤ 514
+  pub few : m ≤ count
+  pub up : at ≤ from
+  pub room : at + count ≤ 512
+  pub source : from + (full - m) ≤ 512
+  pub lens-514 : length (x .lens) ≡ 514
+  pub sets-514 : length (x .sets) ≡ 514
+
+module _ (s : Tanks) (t number : ℕ) (x : Tank) (ok : Sound s) (t8 : t < 8) (formed : Formed x)
+    (z : first number (judgement (s .settings) (runsIn (s .heads)) t (x .runs)) ≡ 0) where
+  pub inside : (r : Spots) → r ≡ spotsOf (s .heads) t (x .runs) → Inside x (x .runs) (r .at) (r .from) (r .full) (r .count)
+  inside r e =
+      rw e
+      (
+      let r = room s t x ok t8 formed (second-zero number _ z) in
+      let l = before-later (s .heads) t (headOf x) 8 (omega (arith, ok .heads-8)) t8 in
+      let b = before-next (s .heads) t 8 t8 in
+      let h = sound-held s ok in
+      record {
+        same = refl;
+        most = formed .laid .most;
+        few = omega arith;
+        up = omega arith;
+        room = omega arith;
+        source = omega arith;
+        lens-514 = formed .laid .lens-514;
+        sets-514 = formed .laid .sets-514;
+      })
+
+-- the state at the end
+pub put-at-last : (s a b : Tanks) (t : ℕ) (x : Tank) (r : Spots) → r ≡ spotsOf (s .heads) t (x .runs)
+    → a ≡ withPool s (laid (s .pool) (r .at) (runFrom (s .pool) x (r .from) (r .full)) (r .count))
+    → b ≡ withMarks a (laid (a .marks) (64 * t) (λ k. getD (x .table) k blank) 64)
+    → record { settings = b .settings; heads = set (b .heads) t (headOf x); pool = b .pool; marks = b .marks } ≡ puts s t x
+unfolding puts
+put-at-last s a b t x r g e f = rw (f, e, g)

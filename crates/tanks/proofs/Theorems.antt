@@ -1,0 +1,297 @@
+-- Demand 3, over the rules of document 01: for accepted settings and any list of calls, refused ones among them.
+use Prim.Native.Nat.{ℕ, zero, suc, _+_, _≤_, _<_, max}
+use mathlib.Core.Path.{_≡_, refl, sym, ap, _∙_, subst}
+use mathlib.Core.Bool.{Bool, true, false}
+use mathlib.Core.Logic.{_≢_}
+use mathlib.Core.List.{List, [], _∷_}
+use native.Mathlib.Omega.{arith}
+use native.Mathlib.Decide.{decLt, decLe, ℕ-discrete}
+use borrow.Author.Tests.{eq-eqb, ne-eqb}
+use lib.ListN.{length, replicate, length-set}
+use lib.Seq.{getD-set-same, getD-set-other}
+use Rattle.styles.specs.declared.Identity.{Identity}
+use Rattle.tank.specs.Rules.{View, freshView, runsHeld, Edit, inserting, removing, after, empty, over, long, notNumber, clashes, full, refusal}
+use Rattle.tanks.specs.declared.Setting.{Setting}
+use Rattle.tanks.specs.declared.Tanks.{Tanks}
+use Rattle.tanks.specs.Settings.{shareOf, limitOf, accepted, claims, heldAfter, judgement}
+use Rattle.tanks.specs.House.{House, tankAt, held, one, opening, refusalAt, withTank, afterAt, setInserted, firstRemoved, Call, afterAll}
+use Rattle.tanks.specs.Pool.{runsIn, meaning, Sound, freshly}
+use Rattle.tanks.proofs.SettingLaws.{cond-le, accepted-at, claims-cong, judge-9, judge-10, judge-0, judge-within, judge-sum, first-zero, second-zero}
+use Rattle.tanks.proofs.MeaningLaws.{at-each, held-is, tanks-length}
+use Rattle.tanks.proofs.CallLaws.{refusal-in, refusal-past, after-refused, after-done}
+use Rattle.tanks.proofs.OpeningLaws.{opens, opens-2}
+
+-- ---- what every state of the rules keeps
+pub record Kept (h : House) : Type 0 where
+  pub rule : accepted (h .settings) ≡ true
+  pub eight : length (h .tanks) ≡ 8
+  pub limits : (u : ℕ) → u < 8 → held h u ≤ limitOf (h .settings) u
+  pub sum : claims (h .settings) (held h) 8 ≤ 512
+
+-- the meaning of a sound state keeps it
+pub kept-sound : (s : Tanks) → Sound s → Kept (meaning s)
+unfolding meaning
+kept-sound s ok = record {
+  rule = ok .rule;
+  eight = tanks-length s;
+  limits = λ u h. omega (arith, held-is s ok u h, ok .limits u h);
+  sum = omega (arith, ok .sum, claims-cong (s .settings) (held (meaning s)) (runsIn (s .heads)) 8 (held-is s ok));
+}
+
+-- a call is refused, or the tank's own rules and the judgement let it pass
+data Outcome (h : House) (t : ℕ) (e : Edit) : Type 0 where
+  refused : 0 < refusalAt h t e → Outcome h t e
+  done : t < 8 → refusal e (tankAt h t) ≡ 0 → judgement (h .settings) (held h) t (runsHeld (after e (tankAt h t))) ≡ 0 → refusalAt h t e ≡ 0 → Outcome h t e
+
+outcome : (h : House) (t : ℕ) (e : Edit) → Outcome h t e
+outcome h t e =
+    elim (decLt 0 (refusalAt h t e)) [
+      | yes p ↦ refused p
+      | no p ↦
+          let z : refusalAt h t e ≡ 0 = omega arith in
+          elim (decLt t 8) [
+            | no l ↦ absurd (omega (arith, refusal-past h t e (omega arith)))
+            | yes l ↦
+                let f = sym (refusal-in h t e l) ∙ z in
+                done l (first-zero (refusal e (tankAt h t)) _ f) (second-zero (refusal e (tankAt h t)) _ f) z
+          ]
+    ]
+
+module _ (h : House) (t : ℕ) (v : View) (eight : length (h .tanks) ≡ 8) (t8 : t < 8) where
+  pub with-same : tankAt (withTank h t v) t ≡ v
+  with-same = getD-set-same (h .tanks) t v freshView (omega arith)
+
+  pub with-other : (u : ℕ) → u ≢ t → tankAt (withTank h t v) u ≡ tankAt h u
+  with-other u ne = getD-set-other (h .tanks) t u v freshView ne
+
+  held-with : (u : ℕ) → held (withTank h t v) u ≡ heldAfter (held h) t (runsHeld v) u
+  held-with u =
+      at-each (λ w. held (withTank h t v) w ≡ heldAfter (held h) t (runsHeld v) w) t u
+      (rw (eq-eqb t t refl) (ap runsHeld with-same))
+      (λ ne. rw (ne-eqb u t ne) (ap runsHeld (with-other u ne)))
+
+kept-with : (h : House) (t : ℕ) (v : View) → Kept h → t < 8 → judgement (h .settings) (held h) t (runsHeld v) ≡ 0 → Kept (withTank h t v)
+kept-with h t v kept t8 j = record {
+  rule = kept .rule;
+  eight = length-set (h .tanks) t v ∙ kept .eight;
+  limits = λ u l. rw (held-with h t v (kept .eight) t8 u)
+      (at-each (λ w. heldAfter (held h) t (runsHeld v) w ≤ limitOf (h .settings) w) t u
+      (rw (eq-eqb t t refl) (judge-within (h .settings) (held h) t (runsHeld v) j))
+      (λ ne. rw (ne-eqb u t ne) (kept .limits u l)));
+  sum = omega (
+    arith,
+    judge-sum (h .settings) (held h) t (runsHeld v) j,
+    claims-cong (h .settings) (held (withTank h t v)) (heldAfter (held h) t (runsHeld v)) 8 (λ u _. held-with h t v (kept .eight) t8 u),
+  );
+}
+
+-- a call keeps it, accepted or refused
+pub kept-call : (h : House) (t : ℕ) (e : Edit) → Kept h → Kept (afterAt h t e)
+kept-call h t e kept = go (outcome h t e)
+  where
+    go : Outcome h t e → Kept (afterAt h t e)
+    go (refused p) = rw (after-refused h t e p) kept
+    go (done t8 own j z) = rw (after-done h t e z) (kept-with h t (after e (tankAt h t)) kept t8 j)
+
+pub kept-all : (h : House) (cs : List Call) → Kept h → Kept (afterAll h cs)
+unfolding afterAll
+kept-all h [] k = k
+kept-all h (c ∷ cs) k = kept-all (afterAt h (c .tank) (c .edit)) cs (kept-call h (c .tank) (c .edit) k)
+
+-- so does the house that opening makes, whatever the settings
+pub kept-open : (st : List Setting) → length st ≡ 8 → Kept (opening st)
+kept-open st l = go (accepted st) refl
+  where
+    go : (b : Bool) → accepted st ≡ b → Kept (opening st)
+    go true e = let s = opens st l e in subst Kept (s .is) (kept-sound (freshly st) (s .sound))
+    go false e = let s = opens-2 st e in subst Kept (s .is) (kept-sound (freshly (replicate 8 one)) (s .sound))
+
+-- ---- no call changes the settings
+pub settings-stay : (h : House) (t : ℕ) (e : Edit) → afterAt h t e .settings ≡ h .settings
+settings-stay h t e = go (outcome h t e)
+  where
+    go : Outcome h t e → afterAt h t e .settings ≡ h .settings
+    go (refused p) = rw (after-refused h t e p)
+    go (done t8 own j z) = rw (after-done h t e z)
+
+settings-all : (h : House) (cs : List Call) → afterAll h cs .settings ≡ h .settings
+unfolding afterAll
+settings-all h [] = refl
+settings-all h (c ∷ cs) = settings-all (afterAt h (c .tank) (c .edit)) cs ∙ settings-stay h (c .tank) (c .edit)
+
+settings-open : (st : List Setting) → accepted st ≡ true → opening st .settings ≡ st
+unfolding opening
+settings-open st e = rw e
+
+-- ---- a call on one tank changes no other: no view, so no length
+pub others-stay : (h : House) (t : ℕ) (e : Edit) (u : ℕ) → u ≢ t → tankAt (afterAt h t e) u ≡ tankAt h u
+others-stay h t e u ne = go (outcome h t e)
+  where
+    go : Outcome h t e → tankAt (afterAt h t e) u ≡ tankAt h u
+    go (refused p) = rw (after-refused h t e p)
+    go (done t8 own j z) = rw (after-done h t e z) (getD-set-other (h .tanks) t u (after e (tankAt h t)) freshView ne)
+
+-- ---- refusal 10 comes exactly when no earlier one applies and the sum would pass 512
+pub record Ten (h : House) (t : ℕ) (e : Edit) : Type 0 where
+  pub tank : t < 8
+  pub own : refusal e (tankAt h t) ≡ 0
+  pub limit : runsHeld (after e (tankAt h t)) ≤ limitOf (h .settings) t
+  pub over : 512 < claims (h .settings) (heldAfter (held h) t (runsHeld (after e (tankAt h t)))) 8
+
+pub ten-then : (h : House) (t : ℕ) (e : Edit) → Ten h t e → refusalAt h t e ≡ 10
+ten-then h t e p = refusal-in h t e (p .tank) ∙ rw (p .own) (judge-10 (h .settings) (held h) t _ (p .limit) (p .over))
+
+-- the tank's own numbers are 3 to 8
+own-most : (e : Edit) (v : View) → refusal e v ≤ 8
+unfolding refusal
+own-most e v =
+    cond-le (empty e) 3 _ 8 (omega arith)
+    (cond-le (over e v) 4 _ 8 (omega arith)
+    (cond-le (long e v) 5 _ 8 (omega arith)
+    (cond-le (notNumber e) 6 _ 8 (omega arith)
+    (cond-le (clashes e v) 7 _ 8 (omega arith) (cond-le (full e v) 8 0 8 (omega arith) (omega arith))))))
+
+-- where the tank's own rules refuse, that is the number
+own-first : (h : House) (t : ℕ) (e : Edit) → t < 8 → refusal e (tankAt h t) ≢ 0 → refusalAt h t e ≡ refusal e (tankAt h t)
+own-first h t e l ne = refusal-in h t e l ∙ rw (ne-eqb (refusal e (tankAt h t)) 0 ne)
+
+judged-next : (h : House) (t : ℕ) (e : Edit) → t < 8 → refusal e (tankAt h t) ≡ 0
+    → refusalAt h t e ≡ judgement (h .settings) (held h) t (runsHeld (after e (tankAt h t)))
+judged-next h t e l z = refusal-in h t e l ∙ rw z
+
+pub ten-only : (h : House) (t : ℕ) (e : Edit) → refusalAt h t e ≡ 10 → Ten h t e
+ten-only h t e ten =
+    elim (decLt t 8) [
+      | no l ↦ absurd (omega (arith, refusal-past h t e (omega arith)))
+      | yes l ↦
+          elim (ℕ-discrete (refusal e (tankAt h t)) 0) [
+            | no ne ↦ absurd (omega (arith, own-first h t e l ne, own-most e (tankAt h t)))
+            | yes z ↦
+                let j = sym (judged-next h t e l z) ∙ ten in
+                let n : ℕ = runsHeld (after e (tankAt h t)) in
+                elim (decLe n (limitOf (h .settings) t)) [
+                  | no f ↦ absurd (omega (arith, judge-9 (h .settings) (held h) t n (omega arith)))
+                  | yes f ↦
+                      elim (decLe (claims (h .settings) (heldAfter (held h) t n) 8) 512) [
+                        | yes g ↦ absurd (omega (arith, judge-0 (h .settings) (held h) t n f g))
+                        | no g ↦ record { tank = l; own = z; limit = f; over = omega arith }
+                      ]
+                ]
+          ]
+    ]
+
+-- ---- an edit that leaves its tank at or under its share is refused by neither 9 nor 10
+module _ (h : House) (t : ℕ) (n : ℕ) (le : n ≤ shareOf (h .settings) t) where
+  claims-less : (k : ℕ) → claims (h .settings) (heldAfter (held h) t n) k ≤ claims (h .settings) (held h) k
+  unfolding claims
+  claims-less zero = omega arith
+  claims-less (suc k) = omega (arith, claims-less k, one-less)
+    where
+      one-less : max (heldAfter (held h) t n k) (shareOf (h .settings) k) ≤ max (held h k) (shareOf (h .settings) k)
+      one-less =
+          at-each (λ u. max (heldAfter (held h) t n u) (shareOf (h .settings) u) ≤ max (held h u) (shareOf (h .settings) u)) t k
+          (rw (eq-eqb t t refl) (omega arith))
+          (λ ne. rw (ne-eqb k t ne) (omega arith))
+
+  share-judged : Kept h → t < 8 → judgement (h .settings) (held h) t n ≡ 0
+  share-judged kept t8 =
+      judge-0 (h .settings) (held h) t n (omega (arith, accepted-at (h .settings) (kept .rule) t t8)) (omega (arith, claims-less 8, kept .sum))
+
+-- its number is that of the tank's own rules, which is 8 or less
+pub share-free : (h : House) (t : ℕ) (e : Edit) → Kept h → t < 8 → runsHeld (after e (tankAt h t)) ≤ shareOf (h .settings) t
+    → (refusalAt h t e ≡ refusal e (tankAt h t)) × (refusalAt h t e ≤ 8)
+share-free h t e kept t8 le =
+    let f : refusalAt h t e ≡ refusal e (tankAt h t) =
+    elim (ℕ-discrete (refusal e (tankAt h t)) 0) [
+      | no ne ↦ own-first h t e t8 ne
+      | yes z ↦ judged-next h t e t8 z ∙ share-judged h t _ le kept t8 ∙ sym z
+    ] in
+    (f, omega (arith, f, own-most e (tankAt h t)))
+
+-- ---- a call on one tank changes no answer of another, refusal 10 aside
+judge-not-10 : (st : List Setting) (f g : ℕ → ℕ) (t n : ℕ) → judgement st f t n ≢ 10 → judgement st g t n ≢ 10 → judgement st f t n ≡ judgement st g t n
+judge-not-10 st f g t n p q =
+    elim (decLe n (limitOf st t)) [
+      | no l ↦ judge-9 st f t n (omega arith) ∙ sym (judge-9 st g t n (omega arith))
+      | yes l ↦ zero-judged f p l ∙ sym (zero-judged g q l)
+    ]
+  where
+    zero-judged : (k : ℕ → ℕ) → judgement st k t n ≢ 10 → n ≤ limitOf st t → judgement st k t n ≡ 0
+    zero-judged k ne l =
+        elim (decLe (claims st (heldAfter k t n) 8) 512) [
+          | yes c ↦ judge-0 st k t n l c
+          | no c ↦ absurd (ne (judge-10 st k t n l (omega arith)))
+        ]
+
+module _ (h : House) (t : ℕ) (e : Edit) (u : ℕ) (ne : u ≢ t) where
+  -- the tank's own numbers stay, and what the edit would leave
+  pub own-stays : (d : Edit) → refusal d (tankAt (afterAt h t e) u) ≡ refusal d (tankAt h u)
+  own-stays d = ap (refusal d) (others-stay h t e u ne)
+
+  pub number-stays : (d : Edit) → refusalAt (afterAt h t e) u d ≢ 10 → refusalAt h u d ≢ 10 → refusalAt (afterAt h t e) u d ≡ refusalAt h u d
+  number-stays d p q =
+      elim (decLt u 8) [
+        | no l ↦ refusal-past (afterAt h t e) u d (omega arith) ∙ sym (refusal-past h u d (omega arith))
+        | yes l ↦
+            elim (ℕ-discrete (refusal d (tankAt h u)) 0) [
+              | no f ↦
+                  own-first (afterAt h t e) u d l (λ z. f (sym (own-stays d) ∙ z)) ∙ own-stays d ∙ sym (own-first h u d l f)
+              | yes z ↦
+                  let a = judged-next (afterAt h t e) u d l (own-stays d ∙ z) in
+                  let b = judged-next h u d l z in
+                  let c : judgement (afterAt h t e .settings) (held (afterAt h t e)) u (runsHeld (after d (tankAt (afterAt h t e) u)))
+                  ≡ judgement (h .settings) (held (afterAt h t e)) u (runsHeld (after d (tankAt h u))) =
+                  rw (settings-stay h t e, others-stay h t e u ne) in
+                  a ∙ c
+                  ∙ judge-not-10 (h .settings) (held (afterAt h t e)) (held h) u (runsHeld (after d (tankAt h u))) (λ j. p (a ∙ c ∙ j)) (λ j. q (b ∙ j))
+                  ∙ sym b
+            ]
+      ]
+
+  pub set-stays : (pos len : ℕ) → refusalAt (afterAt h t e) u (inserting pos len) ≢ 10 → refusalAt h u (inserting pos len) ≢ 10
+      → setInserted (afterAt h t e) u pos len ≡ setInserted h u pos len
+  unfolding setInserted
+  set-stays pos len p q = rw (number-stays (inserting pos len) p q, others-stay h t e u ne)
+
+  pub first-stays : (id : Identity) (last : ℕ) → refusalAt (afterAt h t e) u (removing id last) ≢ 10 → refusalAt h u (removing id last) ≢ 10
+      → firstRemoved (afterAt h t e) u id last ≡ firstRemoved h u id last
+  unfolding firstRemoved
+  first-stays id last p q = rw (number-stays (removing id last) p q, others-stay h t e u ne)
+
+-- ---- how many runs the first n tanks hold
+unfoldable pub holds : (ℕ → ℕ) → ℕ → ℕ
+holds f zero = 0
+holds f (suc n) = holds f n + f n
+
+holds-claims : (st : List Setting) (f : ℕ → ℕ) (n : ℕ) → holds f n ≤ claims st f n
+unfolding claims holds
+holds-claims st f zero = omega arith
+holds-claims st f (suc n) = omega (arith, holds-claims st f n)
+
+-- ---- demand 3: opened with accepted settings, after any calls, refused ones among them
+module _ (st : List Setting) (l : length st ≡ 8) (ok : accepted st ≡ true) (cs : List Call) where
+  unfoldable pub reached : House
+  reached = afterAll (opening st) cs
+
+  pub reached-kept : Kept reached
+  unfolding reached
+  reached-kept = kept-all (opening st) cs (kept-open st l)
+
+  reached-settings : reached .settings ≡ st
+  unfolding reached
+  reached-settings = settings-all (opening st) cs ∙ settings-open st ok
+
+  -- no tank is over its limit
+  pub within-limits : (u : ℕ) → u < 8 → held reached u ≤ limitOf st u
+  within-limits u h = rw reached-settings at (reached-kept .limits u h)
+
+  -- the sum over tanks of max(runs, share) is within 512, and so are the runs
+  pub within-512 : claims st (held reached) 8 ≤ 512
+  within-512 = rw reached-settings at (reached-kept .sum)
+
+  pub runs-512 : holds (held reached) 8 ≤ 512
+  runs-512 = omega (arith, holds-claims st (held reached) 8, within-512)
+
+  -- an edit that leaves its tank at or under its share is refused by neither 9 nor 10
+  pub never-9-or-10 : (t : ℕ) (e : Edit) → t < 8 → runsHeld (after e (tankAt reached t)) ≤ shareOf st t → refusalAt reached t e ≤ 8
+  never-9-or-10 t e t8 le = share-free reached t e reached-kept t8 (rw reached-settings le) .1

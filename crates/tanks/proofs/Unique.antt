@@ -1,0 +1,168 @@
+-- One meaning, one state.
+use Prim.Native.Nat.{ℕ, zero, suc, _+_, _-_, _*_, _≤_, _<_}
+use mathlib.Core.Path.{_≡_, sym, ap, _∙_}
+use mathlib.Core.List.{List}
+use native.Mathlib.Omega.{arith}
+use native.Mathlib.Decide.{decLt}
+use lib.ListN.{length, getD, set, replicate}
+use lib.Seq.{ext-getD}
+use Rattle.tanks.specs.declared.Setting.{Setting}
+use Rattle.tanks.specs.declared.Head.{Head}
+use Rattle.tanks.specs.declared.Run.{Run}
+use Rattle.styles.specs.Marks.{blank}
+use Rattle.tank.specs.declared.Tank.{Tank}
+use Rattle.styles.specs.declared.Identity.{Identity}
+use Rattle.styles.specs.Answers.{stylesOf}
+use Rattle.tank.specs.Rules.{freshView, Edit, inserting, removing}
+use Rattle.tank.proofs.Unique.{same-tank}
+use Rattle.tanks.specs.declared.Tanks.{Tanks}
+use Rattle.tanks.specs.declared.Opened.{Opened}
+use Rattle.tanks.specs.declared.Edited.{Edited}
+use Rattle.tanks.specs.declared.Inserted.{Inserted}
+use Rattle.tanks.specs.declared.Removed.{Removed}
+use Rattle.tanks.specs.House.{House, setInserted, firstRemoved}
+use Rattle.tanks.specs.Pool.{noHead, noRun, runsIn, before, tankOf, meaning, Sound}
+use Rattle.tanks.specs.Contracts.{Opens, CalledAt}
+use Rattle.tanks.proofs.LaidLaws.{laid-front}
+use Rattle.tanks.proofs.SettingLaws.{sound-place}
+use Rattle.tanks.proofs.MeaningLaws.{tank-at}
+use Rattle.tanks.proofs.CallLaws.{after-refused}
+
+head-eq : (a b : Head) → a .touched ≡ b .touched → a .length ≡ b .length → a .runs ≡ b .runs → a .marks ≡ b .marks → a ≡ b
+head-eq a b p q r s = λ i. record { touched = p i; length = q i; runs = r i; marks = s i }
+
+run-eq : (a b : Run) → a .len ≡ b .len → a .set ≡ b .set → a ≡ b
+run-eq a b p q = λ i. record { len = p i; set = q i }
+
+-- the tank that holds place k
+record Place (hs : List Head) (n k : ℕ) : Type 0 where
+  tank : ℕ
+  at : ℕ
+  below : tank < n
+  inside : at < runsIn hs tank
+  is : k ≡ before hs tank + at
+
+place : (hs : List Head) (n k : ℕ) → k < before hs n → Place hs n k
+unfolding before
+place hs zero k h = absurd (omega arith)
+place hs (suc n) k h =
+    elim (decLt k (before hs n)) [
+      | yes l ↦ let p = place hs n k l in record { tank = p .tank; at = p .at; below = omega (arith, p .below); inside = p .inside; is = p .is }
+      | no l ↦ record { tank = n; at = k - before hs n; below = omega arith; inside = omega arith; is = omega arith }
+    ]
+
+-- the tank whose table holds place k
+record Cell (n k : ℕ) : Type 0 where
+  tank : ℕ
+  at : ℕ
+  below : tank < n
+  inside : at < 64
+  is : k ≡ 64 * tank + at
+
+cell : (n k : ℕ) → k < 64 * n → Cell n k
+cell zero k h = absurd (omega arith)
+cell (suc n) k h =
+    elim (decLt k (64 * n)) [
+      | yes l ↦ let p = cell n k l in record { tank = p .tank; at = p .at; below = omega (arith, p .below); inside = p .inside; is = p .is }
+      | no l ↦ record { tank = n; at = k - 64 * n; below = omega arith; inside = omega arith; is = omega arith }
+    ]
+
+module _ (a b : Tanks) (sa : Sound a) (sb : Sound b) (same : (u : ℕ) → u < 8 → tankOf a u ≡ tankOf b u) where
+  heads-same : a .heads ≡ b .heads
+  unfolding tankOf
+  heads-same =
+      ext-getD noHead (a .heads) (b .heads) (sa .heads-8 ∙ sym (sb .heads-8))
+      (λ u h.
+      let e = same u (omega (arith, sa .heads-8)) in
+      head-eq (getD (a .heads) u noHead) (getD (b .heads) u noHead)
+      (ap (λ (x : Tank). x .touched) e)
+      (ap (λ (x : Tank). x .length) e)
+      (ap (λ (x : Tank). x .runs) e)
+      (ap (λ (x : Tank). x .marks) e))
+
+  run-same : (u : ℕ) → u < 8 → (j : ℕ) → j < runsIn (a .heads) u
+      → getD (a .pool) (before (a .heads) u + j) noRun ≡ getD (b .pool) (before (b .heads) u + j) noRun
+  unfolding tankOf
+  run-same u h j g =
+      let r : runsIn (a .heads) u ≡ runsIn (b .heads) u = ap (λ (x : List Head). runsIn x u) heads-same in
+      let m : runsIn (a .heads) u ≤ 514 = omega (arith, sound-place a sa u h) in
+      run-eq (getD (a .pool) (before (a .heads) u + j) noRun) (getD (b .pool) (before (b .heads) u + j) noRun)
+      (sym (laid-front (replicate 514 0) (λ k. getD (a .pool) (before (a .heads) u + k) noRun .len) (runsIn (a .heads) u) j 0 m g)
+      ∙ ap (λ (x : Tank). getD (x .lens) j 0) (same u h)
+      ∙ laid-front (replicate 514 0) (λ k. getD (b .pool) (before (b .heads) u + k) noRun .len) (runsIn (b .heads) u) j 0 (omega arith) (omega arith))
+      (sym (laid-front (replicate 514 0) (λ k. getD (a .pool) (before (a .heads) u + k) noRun .set) (runsIn (a .heads) u) j 0 m g)
+      ∙ ap (λ (x : Tank). getD (x .sets) j 0) (same u h)
+      ∙ laid-front (replicate 514 0) (λ k. getD (b .pool) (before (b .heads) u + k) noRun .set) (runsIn (b .heads) u) j 0 (omega arith) (omega arith))
+
+  pool-same : a .pool ≡ b .pool
+  pool-same =
+      ext-getD noRun (a .pool) (b .pool) (sa .pool-512 ∙ sym (sb .pool-512))
+      (λ k _. elim (decLt k (before (a .heads) 8)) [
+        | yes l ↦
+            let p = place (a .heads) 8 k l in
+            let q : before (a .heads) (p .tank) ≡ before (b .heads) (p .tank) = ap (λ (x : List Head). before x (p .tank)) heads-same in
+            let i : before (b .heads) (p .tank) + p .at ≡ k = omega (arith, p .is) in
+            ap (λ (z : ℕ). getD (a .pool) z noRun) (p .is) ∙ run-same (p .tank) (p .below) (p .at) (p .inside) ∙ ap (λ (z : ℕ). getD (b .pool) z noRun) i
+        | no l ↦
+            let q : before (a .heads) 8 ≡ before (b .heads) 8 = ap (λ (x : List Head). before x 8) heads-same in
+            sa .spare k (omega arith) ∙ sym (sb .spare k (omega arith))
+      ])
+
+  mark-same : (u : ℕ) → u < 8 → (j : ℕ) → j < 64 → getD (a .marks) (64 * u + j) blank ≡ getD (b .marks) (64 * u + j) blank
+  unfolding tankOf
+  mark-same u h j g =
+      sym (laid-front (replicate 64 blank) (λ k. getD (a .marks) (64 * u + k) blank) 64 j blank (omega arith) g)
+      ∙ ap (λ (x : Tank). getD (x .table) j blank) (same u h)
+      ∙ laid-front (replicate 64 blank) (λ k. getD (b .marks) (64 * u + k) blank) 64 j blank (omega arith) g
+
+  marks-same : a .marks ≡ b .marks
+  marks-same =
+      ext-getD blank (a .marks) (b .marks) (sa .marks-512 ∙ sym (sb .marks-512))
+      (λ k h. let p = cell 8 k (omega (arith, sa .marks-512)) in rw (p .is) (mark-same (p .tank) (p .below) (p .at) (p .inside)))
+
+  pub one-state : a .settings ≡ b .settings → a ≡ b
+  one-state e = λ i. record { settings = e i; heads = heads-same i; pool = pool-same i; marks = marks-same i }
+
+-- ---- two sound states with one meaning are equal
+pub unique : (a b : Tanks) → Sound a → Sound b → meaning a ≡ meaning b → a ≡ b
+unfolding meaning
+unique a b sa sb e =
+    one-state a b sa sb
+    (λ u h.
+    same-tank (sa .each u h) (sb .each u h)
+    (sym (tank-at a u freshView h)
+    ∙ ap (λ (x : House). getD (x .tanks) u freshView) e
+    ∙ tank-at b u freshView h))
+    (ap (λ (x : House). x .settings) e)
+
+-- ---- so what each public function hands back is settled by its contract
+pub one-opening : (st : List Setting) (r r′ : Opened) → Opens st r → Opens st r′ → r ≡ r′
+one-opening st r r′ p q =
+    let e : r .tanks ≡ r′ .tanks = unique (r .tanks) (r′ .tanks) (p .sound) (q .sound) (p .is ∙ sym (q .is)) in
+    let f : r .number ≡ r′ .number = p .number-is ∙ sym (q .number-is) in
+    λ i. record { number = f i; tanks = e i }
+
+module _ {s : Tanks} {t : ℕ} {e : Edit} {n n′ : ℕ} {x x′ : Tanks} (p : CalledAt s t e n x) (q : CalledAt s t e n′ x′) where
+  pub one-number : n ≡ n′
+  one-number = p .number-is ∙ sym (q .number-is)
+
+  pub one-next : x ≡ x′
+  one-next = unique x x′ (p .sound) (q .sound) (p .is ∙ sym (q .is))
+
+pub one-edit : (s : Tanks) (t : ℕ) (e : Edit) (r r′ : Edited) → CalledAt s t e (r .number) (r .tanks) → CalledAt s t e (r′ .number) (r′ .tanks) → r ≡ r′
+one-edit s t e r r′ p q = λ i. record { number = one-number p q i; tanks = one-next p q i }
+
+pub one-insert : (s : Tanks) (t pos len : ℕ) (r r′ : Inserted)
+    → CalledAt s t (inserting pos len) (r .number) (r .tanks) → r .styles ≡ stylesOf (setInserted (meaning s) t pos len)
+    → CalledAt s t (inserting pos len) (r′ .number) (r′ .tanks) → r′ .styles ≡ stylesOf (setInserted (meaning s) t pos len) → r ≡ r′
+one-insert s t pos len r r′ p a q b = let f = a ∙ sym b in λ i. record { number = one-number p q i; styles = f i; tanks = one-next p q i }
+
+pub one-remove : (s : Tanks) (t : ℕ) (id : Identity) (last : ℕ) (r r′ : Removed)
+    → CalledAt s t (removing id last) (r .number) (r .tanks) → r .first ≡ firstRemoved (meaning s) t id last
+    → CalledAt s t (removing id last) (r′ .number) (r′ .tanks) → r′ .first ≡ firstRemoved (meaning s) t id last → r ≡ r′
+one-remove s t id last r r′ p a q b = let f = a ∙ sym b in λ i. record { number = one-number p q i; first = f i; tanks = one-next p q i }
+
+-- a refused call hands back the very same state
+pub refused-same : (s : Tanks) (t : ℕ) (e : Edit) (n : ℕ) (x : Tanks) → Sound s → CalledAt s t e n x → 0 < n → x ≡ s
+refused-same s t e n x ok p h =
+    unique x s (p .sound) ok (p .is ∙ after-refused (meaning s) t e (omega (arith, p .number-is)))

@@ -1,0 +1,58 @@
+use borrow.Author.Needs.{needs}
+use native.Mathlib.Omega.{arith}
+use Prim.Native.Nat.{_-_, _≤_}
+use mathlib.Core.Path.{_≡_, refl}
+use Rattle.tanks.specs.Pool.{laid, freshly}
+use Rattle.tanks.proofs.LaidLaws.{laid-more-front}
+use Rattle.tanks.proofs.fresh.Statement.{statement}
+use Rattle.tanks.proofs.fresh.Tie as tie
+use Rattle.tanks.proofs.fresh.Reads as reads
+use Rattle.tanks.proofs.fresh.Lts as lts
+use Rattle.styles.proofs.table.blank.Reads as blank-reads
+
+abbrev Inv-loop : tie.InvT-loop
+Inv-loop settings pool₀ u₀ pool u = (u ≤ 8) × (pool ≡ laid pool₀ 0 (λ _. record { len = 4611686018427387903; set = 0 }) u)
+
+abbrev μ-loop : tie.MeasureT-loop
+μ-loop settings pool₀ u₀ pool u = 8 - u
+
+loop-holds : tie.Need-loop-holds Inv-loop μ-loop
+unfolding laid
+loop-holds c = (omega arith, refl)
+
+mul-pool : tie.Need-mul-pool Inv-loop μ-loop
+mul-pool c = search needs
+
+array-set-from-pool : tie.Need-array-set-from-pool Inv-loop μ-loop
+array-set-from-pool c = search needs
+
+add-u : tie.Need-add-u Inv-loop μ-loop
+add-u c = search needs
+
+loop-less : tie.Need-loop-less Inv-loop μ-loop
+loop-less c = search needs
+
+loop-again : tie.Need-loop-again Inv-loop μ-loop
+loop-again c = (omega arith, rw (c .before .loop .inv .1) (laid-more-front _ (λ _. record { len = 4611686018427387903; set = 0 }) _))
+
+blank-requires : tie.Need-blank-requires Inv-loop μ-loop
+blank-requires c κs = search needs
+
+returns : tie.Need-returns Inv-loop μ-loop
+unfolding freshly
+returns c = let e : c .before .before .loop .u ≡ 8 = omega arith in simp (c .before .before .loop .inv .1, e, c .blank .ensures)
+
+pub fresh-spec : {M : Type 1} → statement M
+fresh-spec =
+    tie.close
+    (tie.spec
+    Inv-loop
+    μ-loop
+    loop-holds
+    mul-pool
+    array-set-from-pool
+    add-u
+    loop-less
+    loop-again
+    blank-requires
+    returns)

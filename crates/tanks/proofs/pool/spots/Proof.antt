@@ -1,0 +1,54 @@
+use borrow.Author.Needs.{needs}
+use native.Mathlib.Omega.{arith}
+use Rattle.tanks.proofs.LaidLaws.{before-next}
+use Rattle.tanks.proofs.pool.spots.Statement.{statement}
+use Rattle.tanks.proofs.pool.spots.Tie as tie
+use Rattle.tanks.proofs.pool.spots.Reads as reads
+use Rattle.tanks.proofs.pool.spots.Lts as lts
+use Rattle.tanks.proofs.pool.larger.Reads as larger-reads
+use Rattle.tanks.proofs.pool.start.Reads as start-reads
+
+start-requires : tie.Need-start-requires
+start-requires c κs = search needs
+
+start-requires-2 : tie.Need-start-requires-2
+start-requires-2 c κs = search needs
+
+mul-n : tie.Need-mul-n
+mul-n c = search needs
+
+element-copy-out-n : tie.Need-element-copy-out-n
+element-copy-out-n c = search needs
+
+add-from : tie.Need-add-from
+add-from c = omega (arith, before-next (c .before .before .args .t1) (c .before .before .args .t) 8 (c .before .before .pre .0), c .before .start .ensures, c .start2 .ensures)
+
+sub-left : tie.Need-sub-left
+sub-left c = omega (arith, before-next (c .before .before .args .t1) (c .before .before .args .t) 8 (c .before .before .pre .0), c .before .start .ensures, c .start2 .ensures)
+
+add-t11 : tie.Need-add-t11
+add-t11 c = omega (arith, before-next (c .before .before .args .t1) (c .before .before .args .t) 8 (c .before .before .pre .0), c .before .start .ensures, c .start2 .ensures)
+
+larger-requires : tie.Need-larger-requires
+larger-requires c κs = search needs
+
+add-t15 : tie.Need-add-t15
+add-t15 c = omega (arith, before-next (c .before .before .before .args .t1) (c .before .before .before .args .t) 8 (c .before .before .before .pre .0), c .before .before .start .ensures, c .before .start2 .ensures, c .larger .ensures)
+
+returns : tie.Need-returns
+returns c = simp (c .larger .ensures, c .before .start2 .ensures, c .before .before .start .ensures)
+
+pub spots-spec : {M : Type 1} → statement M
+spots-spec =
+    tie.close
+    (tie.spec
+    start-requires
+    start-requires-2
+    mul-n
+    element-copy-out-n
+    add-from
+    sub-left
+    add-t11
+    larger-requires
+    add-t15
+    returns)

@@ -1,0 +1,21 @@
+use borrow.Author.Needs.{needs}
+use native.Mathlib.Omega.{arith}
+use Rattle.tanks.proofs.pool.turn.Statement.{statement}
+use Rattle.tanks.proofs.pool.turn.Tie as tie
+use Rattle.tanks.proofs.pool.turn.Reads as reads
+use Rattle.tanks.proofs.pool.turn.Lts as lts
+
+sub-result : tie.Need-sub-result
+sub-result c = search needs
+
+sub-result-2 : tie.Need-sub-result-2
+sub-result-2 c = search needs
+
+returns : tie.Need-returns
+returns c = (rw (c .if1 .taken), omega arith)
+
+returns-2 : tie.Need-returns-2
+returns-2 c = (rw (c .if1 .left), omega arith)
+
+pub turn-spec : {M : Type 1} → statement M
+turn-spec = tie.close (tie.spec sub-result sub-result-2 returns returns-2)

@@ -1,0 +1,74 @@
+use borrow.Author.Needs.{needs}
+use native.Mathlib.Omega.{arith}
+use Prim.Native.Nat.{_-_, _*_, _≤_}
+use mathlib.Core.Path.{_≡_, refl, sym, _∙_}
+use mathlib.Core.Bool.{true}
+use lib.ListN.{getD}
+use borrow.Author.Tests.{not-true, not-false}
+use Rattle.tanks.specs.Settings.{noSetting, fits, fit, shares}
+use Rattle.tanks.specs.Pool.{before}
+use Rattle.tanks.proofs.SettingLaws.{fits-facts, fit-grown, accepts-not, accepts-last, shares-more}
+use Rattle.tanks.proofs.settings.accepts.Statement.{statement}
+use Rattle.tanks.proofs.settings.accepts.Tie as tie
+use Rattle.tanks.proofs.settings.accepts.Reads as reads
+use Rattle.tanks.proofs.settings.accepts.Lts as lts
+use Rattle.tanks.proofs.settings.fits.Reads as fits-reads
+
+abbrev Inv-loop : tie.InvT-loop
+Inv-loop settings sum₀ u₀ sum u = (u ≤ 8) × (sum ≡ shares settings u) × (sum ≤ 512 * u) × (fit settings u ≡ true)
+
+abbrev μ-loop : tie.MeasureT-loop
+μ-loop settings sum₀ u₀ sum u = 8 - u
+
+loop-holds : tie.Need-loop-holds Inv-loop μ-loop
+unfolding shares fit
+loop-holds c = (omega arith, refl, omega arith, refl)
+
+mul-s : tie.Need-mul-s Inv-loop μ-loop
+mul-s c = search needs
+
+array-copy-out-s : tie.Need-array-copy-out-s Inv-loop μ-loop
+array-copy-out-s c = search needs
+
+fits-requires : tie.Need-fits-requires Inv-loop μ-loop
+fits-requires c κs = search needs
+
+returns : tie.Need-returns Inv-loop μ-loop
+returns c = let l = c .before .before .before .before .loop in accepts-not (c .before .before .before .before .before .args .t1) (l .u) (omega arith) (sym (c .before .fits2 .ensures) ∙ not-true (c .before .fits2 .result) (c .if1 .taken))
+
+add-sum : tie.Need-add-sum Inv-loop μ-loop
+add-sum c = omega (arith, fits-facts (getD (c .before .before .before .before .before .before .args .t1) (c .before .before .before .before .before .loop .u) noSetting) (sym (c .before .before .fits2 .ensures) ∙ not-false (c .before .before .fits2 .result) (c .before .if1 .left)))
+
+add-u : tie.Need-add-u Inv-loop μ-loop
+add-u c = search needs
+
+loop-less : tie.Need-loop-less Inv-loop μ-loop
+loop-less c = search needs
+
+loop-again : tie.Need-loop-again Inv-loop μ-loop
+loop-again c =
+    let st = c .before .before .before .before .before .before .args .t1 in
+    let l = c .before .before .before .before .before .loop in
+    let ok : fits (getD st (l .u) noSetting) ≡ true = sym (c .before .before .fits2 .ensures) ∙ not-false (c .before .before .fits2 .result) (c .before .if1 .left) in
+    let f = fits-facts (getD st (l .u) noSetting) ok in
+    (omega arith, omega (arith, shares-more st (l .u)), omega (arith, f), fit-grown st (l .u) (l .inv .3) ok)
+
+returns-2 : tie.Need-returns-2 Inv-loop μ-loop
+returns-2 c = accepts-last (c .before .before .args .t1) (c .before .loop .sum) (c .before .loop .u) (omega arith) (c .before .loop .inv .1) (c .before .loop .inv .3)
+
+pub accepts-spec : {M : Type 1} → statement M
+accepts-spec =
+    tie.close
+    (tie.spec
+    Inv-loop
+    μ-loop
+    loop-holds
+    mul-s
+    array-copy-out-s
+    fits-requires
+    returns
+    add-sum
+    add-u
+    loop-less
+    loop-again
+    returns-2)

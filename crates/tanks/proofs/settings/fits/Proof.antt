@@ -1,0 +1,19 @@
+use borrow.Author.Tests.{le-leb, lt-leb}
+use Rattle.tanks.specs.Pool.{before}
+use Rattle.tanks.proofs.SettingLaws.{fits-last}
+use Rattle.tanks.proofs.settings.fits.Statement.{statement}
+use Rattle.tanks.proofs.settings.fits.Tie as tie
+use Rattle.tanks.proofs.settings.fits.Reads as reads
+use Rattle.tanks.proofs.settings.fits.Lts as lts
+
+returns : tie.Need-returns
+returns c = simp (lt-leb _ _ (c .if1 .taken))
+
+returns-2 : tie.Need-returns-2
+returns-2 c = simp (le-leb _ _ (c .before .before .if1 .left), lt-leb _ _ (c .if2 .taken))
+
+returns-3 : tie.Need-returns-3
+returns-3 c = fits-last _ (c .before .before .before .if1 .left) (c .before .if2 .left)
+
+pub fits-spec : {M : Type 1} → statement M
+fits-spec = tie.close (tie.spec returns returns-2 returns-3)

@@ -1,0 +1,87 @@
+-- Document 01 over eight tanks: the settings and what each tank means, with nothing of how they are stored.
+use Prim.Native.Nat.{ℕ}
+use mathlib.Core.Bool.{Bool, cond}
+use mathlib.Core.List.{List, [], _∷_}
+use lib.Dec.{leb, eqb}
+use lib.ListN.{getD, set, replicate}
+use Rattle.styles.specs.declared.Identity.{Identity}
+use Rattle.styles.specs.declared.Mark.{Mark}
+use Rattle.tank.specs.Rules.{View, freshView, runsHeld, Edit, inserting, removing, after, refusal, forInsert, backFrom}
+use Rattle.tanks.specs.declared.Setting.{Setting}
+use Rattle.tanks.specs.Settings.{accepted, judgement}
+
+-- the settings, and eight tanks
+pub record House : Type 0 where
+  pub settings : List Setting
+  pub tanks : List View
+
+-- what a tank means
+abbrev pub tankAt : House → ℕ → View
+tankAt h t = getD (h .tanks) t freshView
+
+-- the runs that a tank holds, counted from its positions
+abbrev pub held : House → ℕ → ℕ
+held h t = runsHeld (tankAt h t)
+
+-- ---- Opening
+-- eight fresh tanks
+abbrev pub freshHouse : List Setting → House
+freshHouse st = record { settings = st; tanks = replicate 8 freshView }
+
+-- the pair (1, 1)
+abbrev pub one : Setting
+one = record { share = 1; limit = 1 }
+
+-- 2: settings break the rule
+unfoldable pub openNumber : List Setting → ℕ
+openNumber st = cond (accepted st) 0 2
+
+-- beside 2 stands the state of eight pairs (1, 1)
+unfoldable pub opening : List Setting → House
+opening st = freshHouse (cond (accepted st) st (replicate 8 one))
+
+-- ---- Refusals
+-- 1: tank is 8 or more
+abbrev pub noTank : ℕ → Bool
+noTank t = leb 8 t
+
+-- a question of a whole tank is refused by 1 alone
+abbrev pub askNumber : ℕ → ℕ
+askNumber t = cond (noTank t) 1 0
+
+-- the first number, or the second where the first is 0
+abbrev pub first : ℕ → ℕ → ℕ
+first n m = cond (eqb n 0) m n
+
+-- an edit's number, the lowest that applies, 0 for none: 1, then the tank's own 3 to 8, then 9 and 10 by the runs that it would hold
+unfoldable pub refusalAt : House → ℕ → Edit → ℕ
+refusalAt h t e =
+    cond (noTank t) 1
+    (first (refusal e (tankAt h t))
+    (judgement (h .settings) (held h) t (runsHeld (after e (tankAt h t)))))
+
+-- ---- Edits
+-- tank t becomes v
+abbrev pub withTank : House → ℕ → View → House
+withTank h t v = record { settings = h .settings; tanks = set (h .tanks) t v }
+
+-- the house after a call: a refused one leaves it as it was
+unfoldable pub afterAt : House → ℕ → Edit → House
+afterAt h t e = cond (eqb (refusalAt h t e) 0) (withTank h t (after e (tankAt h t))) h
+
+-- the answer of an insert: the set that the new positions carry; refused: the empty one
+unfoldable pub setInserted : House → ℕ → ℕ → ℕ → List Mark
+setInserted h t pos len = cond (eqb (refusalAt h t (inserting pos len)) 0) (forInsert pos (tankAt h t)) []
+
+-- the answer of a removal: the first position of the stretch, or last + 1; refused: 0
+unfoldable pub firstRemoved : House → ℕ → Identity → ℕ → ℕ
+firstRemoved h t id last = cond (eqb (refusalAt h t (removing id last)) 0) (backFrom id last (tankAt h t)) 0
+
+-- ---- Calls one after another, refused ones among them
+pub record Call : Type 0 where
+  pub tank : ℕ
+  pub edit : Edit
+
+unfoldable pub afterAll : House → List Call → House
+afterAll h [] = h
+afterAll h (c ∷ cs) = afterAll (afterAt h (c .tank) (c .edit)) cs

@@ -1,0 +1,4 @@
+pub mod Settings
+pub mod House
+pub mod Pool
+pub mod Contracts

@@ -1,0 +1,115 @@
+-- How eight tanks stand in one state: their runs packed one tank after another, their marks 64 places a tank.
+use Prim.Native.Nat.{ℕ, zero, suc, _+_, _-_, _*_, _≤_, _<_, max}
+use mathlib.Core.Path.{_≡_}
+use mathlib.Core.Bool.{true, false, cond}
+use mathlib.Core.List.{List, [], _∷_, map}
+use lib.Dec.{ltb}
+use lib.ListN.{length, getD, set, replicate}
+use Rattle.styles.specs.Marks.{blank}
+use Rattle.tank.specs.declared.Tank.{Tank}
+use Rattle.tank.specs.Rules.{freshLength}
+use Rattle.tank.specs.State.{view, Formed}
+use Rattle.tanks.specs.declared.Setting.{Setting}
+use Rattle.tanks.specs.declared.Head.{Head}
+use Rattle.tanks.specs.declared.Run.{Run}
+use Rattle.tanks.specs.declared.Spots.{Spots}
+use Rattle.tanks.specs.declared.Tanks.{Tanks}
+use Rattle.tanks.specs.Settings.{accepted, limitOf, claims}
+use Rattle.tanks.specs.House.{House}
+
+-- blanks
+abbrev pub noRun : Run
+noRun = record { len = 0; set = 0 }
+
+abbrev pub noHead : Head
+noHead = record { touched = false; length = 0; runs = 0; marks = 0 }
+
+-- how many runs tank t holds, by its head
+abbrev pub runsIn : List Head → ℕ → ℕ
+runsIn hs t = getD hs t noHead .runs
+
+-- p with f 0, .., f (n - 1) written from the place `at` on
+unfoldable pub laid {ℓ} : {A : Type ℓ} → List A → ℕ → (ℕ → A) → ℕ → List A
+laid p at f zero = p
+laid p at f (suc n) = set (laid p at f n) (at + n) (f n)
+
+-- how many runs the tanks below t hold: where tank t's begin
+unfoldable pub before : List Head → ℕ → ℕ
+before hs zero = 0
+before hs (suc t) = before hs t + runsIn hs t
+
+-- tank t on its own: its head, its runs' lengths and sets with zeros behind them, and its marks
+unfoldable pub tankOf : Tanks → ℕ → Tank
+tankOf s t = record {
+  touched = getD (s .heads) t noHead .touched;
+  length = getD (s .heads) t noHead .length;
+  runs = runsIn (s .heads) t;
+  marks = getD (s .heads) t noHead .marks;
+  lens = laid (replicate 514 0) 0 (λ k. getD (s .pool) (before (s .heads) t + k) noRun .len) (runsIn (s .heads) t);
+  sets = laid (replicate 514 0) 0 (λ k. getD (s .pool) (before (s .heads) t + k) noRun .set) (runsIn (s .heads) t);
+  table = laid (replicate 64 blank) 0 (λ k. getD (s .marks) (64 * t + k) blank) 64;
+}
+
+-- the tanks' numbers
+abbrev pub numbers : List ℕ
+numbers = 0 ∷ 1 ∷ 2 ∷ 3 ∷ 4 ∷ 5 ∷ 6 ∷ 7 ∷ []
+
+-- what a state means: its settings, and each tank by its positions
+unfoldable pub meaning : Tanks → House
+meaning s = record { settings = s .settings; tanks = map (λ t. view (tankOf s t)) numbers }
+
+-- what holds of every state: settings that keep the rule, tanks in form within their limits, the sum within 512, blanks behind the last run
+pub record Sound (s : Tanks) : Type 0 where
+  pub settings-8 : length (s .settings) ≡ 8
+  pub heads-8 : length (s .heads) ≡ 8
+  pub pool-512 : length (s .pool) ≡ 512
+  pub marks-512 : length (s .marks) ≡ 512
+  pub rule : accepted (s .settings) ≡ true
+  pub limits : (t : ℕ) → t < 8 → runsIn (s .heads) t ≤ limitOf (s .settings) t
+  pub sum : claims (s .settings) (runsIn (s .heads)) 8 ≤ 512
+  pub each : (t : ℕ) → t < 8 → Formed (tankOf s t)
+  pub spare : (k : ℕ) → before (s .heads) 8 ≤ k → getD (s .pool) k noRun ≡ noRun
+
+-- ---- A tank put back
+-- a tank's head, and its k-th run
+abbrev pub headOf : Tank → Head
+headOf x = record { touched = x .touched; length = x .length; runs = x .runs; marks = x .marks }
+
+abbrev pub runOf : List ℕ → List ℕ → ℕ → Run
+runOf lens sets k = record { len = getD lens k 0; set = getD sets k 0 }
+
+-- where tank t's runs begin and those behind it; how many runs there are from its place on once it holds m, and how many places that touches
+abbrev pub spotsOf : List Head → ℕ → ℕ → Spots
+spotsOf hs t m = record {
+  at = before hs t;
+  from = before hs t + runsIn hs t;
+  full = m + (before hs 8 - (before hs t + runsIn hs t));
+  count = max m (runsIn hs t) + (before hs 8 - (before hs t + runsIn hs t));
+}
+
+-- the k-th run from there on after the tank has become x: x's runs, then those of the tanks behind it, then blanks
+unfoldable pub runFrom : List Run → Tank → ℕ → ℕ → ℕ → Run
+runFrom pool x from full k =
+    cond (ltb k (x .runs)) (runOf (x .lens) (x .sets) k) (cond (ltb k full) (getD pool (from + (k - x .runs)) noRun) noRun)
+
+-- the pool with x's runs in the place of tank t's
+abbrev pub poolWith : List Run → Spots → Tank → List Run
+poolWith pool s x = laid pool (s .at) (runFrom pool x (s .from) (s .full)) (s .count)
+
+-- the state with x in the place of tank t
+unfoldable pub puts : Tanks → ℕ → Tank → Tanks
+puts s t x = record {
+  settings = s .settings;
+  heads = set (s .heads) t (headOf x);
+  pool = poolWith (s .pool) (spotsOf (s .heads) t (x .runs)) x;
+  marks = laid (s .marks) (64 * t) (λ k. getD (x .table) k blank) 64;
+}
+
+-- ---- Eight fresh tanks, packed
+unfoldable pub freshly : List Setting → Tanks
+freshly st = record {
+  settings = st;
+  heads = replicate 8 (record { touched = false; length = freshLength; runs = 1; marks = 0 });
+  pool = laid (replicate 512 noRun) 0 (λ _. record { len = freshLength; set = 0 }) 8;
+  marks = replicate 512 blank;
+}

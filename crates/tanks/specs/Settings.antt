@@ -1,0 +1,51 @@
+-- Document 01, "Numbers" and refusals 9 and 10: eight pairs of share and limit, and the judgement by how many runs each tank holds.
+use Prim.Native.Nat.{ℕ, zero, suc, _+_, max}
+use mathlib.Core.Bool.{Bool, true, cond, _&&_}
+use mathlib.Core.List.{List}
+use lib.Dec.{ltb, leb, eqb}
+use lib.ListN.{getD}
+use Rattle.tanks.specs.declared.Setting.{Setting}
+
+-- what stands where there is no pair
+abbrev pub noSetting : Setting
+noSetting = record { share = 0; limit = 0 }
+
+-- the share and the limit of tank t
+abbrev pub shareOf : List Setting → ℕ → ℕ
+shareOf st t = getD st t noSetting .share
+
+abbrev pub limitOf : List Setting → ℕ → ℕ
+limitOf st t = getD st t noSetting .limit
+
+-- ---- The settings' rule
+-- 1 <= share <= limit <= 512
+abbrev pub fits : Setting → Bool
+fits s = leb 1 (s .share) && (leb (s .share) (s .limit) && leb (s .limit) 512)
+
+-- each of the first n pairs does
+unfoldable pub fit : List Setting → ℕ → Bool
+fit st zero = true
+fit st (suc n) = fit st n && fits (getD st n noSetting)
+
+-- the sum of the first n shares
+unfoldable pub shares : List Setting → ℕ → ℕ
+shares st zero = 0
+shares st (suc n) = shares st n + shareOf st n
+
+-- eight such pairs, the shares summing to at most 512
+unfoldable pub accepted : List Setting → Bool
+accepted st = fit st 8 && leb (shares st 8) 512
+
+-- ---- Refusals 9 and 10, by how many runs each tank holds
+-- the sum over the first n tanks of max(runs, share)
+unfoldable pub claims : List Setting → (ℕ → ℕ) → ℕ → ℕ
+claims st held zero = 0
+claims st held (suc n) = claims st held n + max (held n) (shareOf st n)
+
+-- tank t comes to hold n runs, the others hold what they held
+abbrev pub heldAfter : (ℕ → ℕ) → ℕ → ℕ → ℕ → ℕ
+heldAfter held t n u = cond (eqb u t) n (held u)
+
+-- 9: more runs than the tank's limit; 10: the sum over tanks of max(runs after, share) would pass 512; 0 for neither
+unfoldable pub judgement : List Setting → (ℕ → ℕ) → ℕ → ℕ → ℕ
+judgement st held t n = cond (ltb (limitOf st t) n) 9 (cond (ltb 512 (claims st (heldAfter held t n) 8)) 10 0)

@@ -1,0 +1,108 @@
+ghost use mathlib.Core.Path.{_≡_};
+ghost use mathlib.Core.Bool.{cond};
+ghost use Prim.Native.Nat.{_<_, max};
+ghost use lib.Dec.{eqb};
+ghost use Rattle.tanks.specs.Settings.{fits, accepted, claims, heldAfter, judgement};
+ghost use Rattle.tanks.specs.House.{first};
+ghost use Rattle.tanks.specs.Pool.{runsIn};
+ghost use Rattle.tanks.specs.Contracts.{Judged, Small};
+use super::Head;
+use super::Setting;
+
+pub fn wide(x: usize) -> u64
+    ensures { λ r. ⌜ r ≡ x ⌝ }
+{
+    x as u64
+}
+
+pub fn narrow(x: u64) -> usize
+    ensures { λ r. ⌜ r ≡ x ⌝ }
+{
+    x as usize
+}
+
+fn larger(a: u64, b: u64) -> u64
+    ensures { λ r. ⌜ r ≡ max a b ⌝ }
+{
+    if a < b { b } else { a }
+}
+
+// Whether a pair of share and limit keeps the rule.
+fn fits(s: Setting) -> bool
+    ensures { λ r. ⌜ r ≡ fits s ⌝ }
+{
+    if s.share < 1 {
+        return false;
+    }
+    if s.limit < s.share {
+        return false;
+    }
+    s.limit <= 512
+}
+
+// Whether eight pairs keep the rule. Each is tested before its share is added, so the sum fits.
+pub fn accepts(settings: [Setting; 8]) -> bool
+    ensures { λ r. ⌜ r ≡ accepted settings ⌝ }
+{
+    let mut sum = 0;
+    let mut u = 0;
+    while u < 8 {
+        let s = settings[u];
+        if !fits(s) {
+            return false;
+        }
+        sum += s.share;
+        u += 1;
+    }
+    sum <= 512
+}
+
+// What tank u holds after tank t has come to hold n runs.
+fn held_after(u: usize, t: usize, n: u64, runs: u64) -> u64
+    ensures { λ r. ⌜ r ≡ cond (eqb u t) n runs ⌝ }
+{
+    if u == t { n } else { runs }
+}
+
+// The sum over tanks of the larger of runs and share, were tank t to hold n runs.
+fn claimed(settings: [Setting; 8], heads: [Head; 8], t: usize, n: u64) -> u64
+    requires { ⌜ Small settings heads n ⌝ }
+    ensures { λ r. ⌜ r ≡ claims settings (heldAfter (runsIn heads) t n) 8 ⌝ }
+{
+    let mut sum = 0;
+    let mut u = 0;
+    while u < 8 {
+        let runs = held_after(u, t, n, wide(heads[u].runs));
+        sum += larger(runs, settings[u].share);
+        u += 1;
+    }
+    sum
+}
+
+// 9 or 10, or 0 where tank t may hold n runs.
+fn judge(settings: [Setting; 8], heads: [Head; 8], t: usize, n: u64) -> u64
+    requires { ⌜ t < 8 ⌝ }
+    requires { ⌜ Judged settings heads ⌝ }
+    ensures { λ r. ⌜ r ≡ judgement settings (runsIn heads) t n ⌝ }
+{
+    if settings[t].limit < n {
+        return 9;
+    }
+    let sum = claimed(settings, heads, t, n);
+    if 512 < sum {
+        return 10;
+    }
+    0
+}
+
+// The number that the tank's own edit was refused by; else 9 or 10, or 0 where tank t may hold n runs.
+pub fn verdict(settings: [Setting; 8], heads: [Head; 8], t: usize, number: u64, n: u64) -> u64
+    requires { ⌜ t < 8 ⌝ }
+    requires { ⌜ Judged settings heads ⌝ }
+    ensures { λ r. ⌜ r ≡ first number (judgement settings (runsIn heads) t n) ⌝ }
+{
+    if 0 < number {
+        return number;
+    }
+    judge(settings, heads, t, n)
+}

@@ -1,0 +1,319 @@
+-- The parsers are exact: a text is accepted where it is the text of a number below 2^64, and the answer is that number. So what is accepted is what is printed (`same-text`).
+use mathlib.Core.Path.{_≡_, refl, sym, ap, _∙_, subst}
+use mathlib.Core.Bool.{Bool, true, false, cond}
+use mathlib.Core.List.{List, [], _∷_, _++_}
+use Prim.Native.Nat.{ℕ, zero, suc, _+_, _-_, _*_, _/_, _%_, _^_, _≤_, _<_}
+use native.Mathlib.Nat.{div-div-eq-div-mul, div-one, div-eq-of-lt, div-le-self, div-add-mod', mul-add-div-right, add-mul-mod-self-right, mod-eq-of-lt, mod-lt, pow-zero, pow-suc, pow-succ', pow-le-pow-right, one-le-pow, le-div-iff-mul-le, div-lt-iff-lt-mul, one-mul, add-comm}
+use native.Mathlib.Decide.{decLt, ℕ-discrete}
+use native.Mathlib.Omega.{arith}
+use lib.Dec.{ltb, eqb}
+use lib.ListN.{length, getD, length-append}
+use borrow.Author.Tests.{lt-ltb, le-ltb, eq-eqb, ne-eqb, ltb-true, ltb-false, eqb-true, eqb-false}
+use Rattle.io.specs.Digits.{glyph, digits, Fewest}
+use Rattle.text.specs.declared.Parsed.{Parsed}
+use Rattle.text.specs.Number.{digitOf, numberFrom, decimalOf, hexOf, Text, placesFrom, decimalText, hexText}
+use Rattle.text.proofs.Steps.{digit-low, digit-high, glyph-low, glyph-high}
+
+all-of : (b n : ℕ) → n / b ^ 0 ≡ n
+all-of b n = ap (λ (m : ℕ). n / m) (pow-zero b) ∙ div-one n
+
+pub digits-front : (b k n : ℕ) → digits b (suc k) n ≡ glyph (n / b ^ k % b) ∷ digits b k n
+digits-front b zero n = ap (λ (q : ℕ). glyph (q % b) ∷ []) (sym (all-of b n))
+digits-front b (suc k) n =
+    ap (λ (l : List ℕ). l ++ (glyph (n % b) ∷ [])) (digits-front b k (n / b))
+    ∙ ap (λ (q : ℕ). glyph (q % b) ∷ digits b (suc k) n) (div-div-eq-div-mul n b (b ^ k) ∙ ap (λ (m : ℕ). n / m) (sym (pow-succ' b k)))
+
+pub digit-glyph : (d : ℕ) → d < 16 → digitOf (glyph d) ≡ d
+digit-glyph d h =
+    elim (decLt d 10) [
+      | yes k ↦ rw (glyph-low d k) (rw (digit-low (48 + d) (omega arith)) (omega arith))
+      | no k ↦ rw (glyph-high d (omega arith)) (rw (digit-high (87 + d) (omega arith)) (omega arith))
+    ]
+
+-- what is known where all three tests pass
+pub record Opened (b v c n : ℕ) (cs : List ℕ) : Type 0 where
+  pub small : digitOf c < b
+  pub is-glyph : glyph (digitOf c) ≡ c
+  pub fits : v * b + digitOf c < 2 ^ 64
+  pub rest : numberFrom b (v * b + digitOf c) cs ≡ Parsed.Number n
+
+opened : (t u w : Bool) (n : ℕ) (p : Parsed) → cond t (cond u (cond w p Parsed.Bad) Parsed.Bad) Parsed.Bad ≡ Parsed.Number n → (t ≡ true) × (u ≡ true) × (w ≡ true) × (p ≡ Parsed.Number n)
+opened true true true n p e = (refl, refl, refl, e)
+opened true true false n p e = let z : _≡_ {A = ℕ} 0 1 = cc in absurd (omega arith)
+opened true false w n p e = let z : _≡_ {A = ℕ} 0 1 = cc in absurd (omega arith)
+opened false u w n p e = let z : _≡_ {A = ℕ} 0 1 = cc in absurd (omega arith)
+
+opens : (b v c n : ℕ) (cs : List ℕ) → numberFrom b v (c ∷ cs) ≡ Parsed.Number n → Opened b v c n cs
+unfolding numberFrom
+opens b v c n cs e =
+    let o = opened (ltb (digitOf c) b) (eqb (glyph (digitOf c)) c) (ltb (v * b + digitOf c) (2 ^ 64)) n (numberFrom b (v * b + digitOf c) cs) e in
+    record { small = ltb-true _ _ (o .0); is-glyph = eqb-true _ _ (o .1); fits = ltb-true _ _ (o .2); rest = o .3 }
+
+shuts : (b v c n : ℕ) (cs : List ℕ) → Opened b v c n cs → numberFrom b v (c ∷ cs) ≡ Parsed.Number n
+unfolding numberFrom
+shuts b v c n cs o = simp (lt-ltb _ _ (o .small), eq-eqb _ _ (o .is-glyph), lt-ltb _ _ (o .fits)) (o .rest)
+
+-- the answer's last digits are the text, and what is in front of them is v
+pub record Read (b v n : ℕ) (cs : List ℕ) : Type 0 where
+  pub below : n < 2 ^ 64
+  pub front : n / b ^ length cs ≡ v
+  pub back : cs ≡ digits b (length cs) n
+
+module _ (b : ℕ) (one : 1 ≤ b) (few : b ≤ 16) where
+  over : (v d : ℕ) → d < b → (v * b + d) / b ≡ v
+  over v d h = mul-add-div-right {m = b} one v d ∙ (let e : d / b ≡ 0 = div-eq-of-lt h in omega arith)
+
+  under : (v d : ℕ) → d < b → (v * b + d) % b ≡ d
+  under v d h = ap (λ (x : ℕ). x % b) (add-comm (v * b) d) ∙ add-mul-mod-self-right d v b ∙ mod-eq-of-lt h
+
+  next-front : (n k : ℕ) → n / b ^ suc k ≡ n / b ^ k / b
+  next-front n k = ap (λ (m : ℕ). n / m) (pow-suc b k) ∙ sym (div-div-eq-div-mul n (b ^ k) b)
+
+  pub reads : (cs : List ℕ) (v n : ℕ) → v < 2 ^ 64 → numberFrom b v cs ≡ Parsed.Number n → Read b v n cs
+  unfolding numberFrom
+  reads [] v n h e = let q : v ≡ n = cc in record { below = omega arith; front = all-of b n ∙ sym q; back = refl }
+  reads (c ∷ cs) v n h e =
+      let o = opens b v c n cs e in
+      let r = reads cs (v * b + digitOf c) n (o .fits) (o .rest) in
+      record {
+        below = r .below;
+        front = next-front n (length cs) ∙ ap (λ (q : ℕ). q / b) (r .front) ∙ over v (digitOf c) (o .small);
+        back = ap (λ (l : List ℕ). c ∷ l) (r .back)
+            ∙ ap (λ (g : ℕ). g ∷ digits b (length cs) n) (sym (o .is-glyph) ∙ ap (λ (d : ℕ). glyph d) (sym (under v (digitOf c) (o .small)) ∙ ap (λ (q : ℕ). q % b) (sym (r .front))))
+            ∙ sym (digits-front b (length cs) n);
+      }
+
+  pub accepts : (cs : List ℕ) (v n : ℕ) → Read b v n cs → numberFrom b v cs ≡ Parsed.Number n
+  unfolding numberFrom
+  accepts [] v n r = ap Parsed.Number (sym (r .front) ∙ all-of b n)
+  accepts (c ∷ cs) v n r =
+      let q : ℕ = n / b ^ length cs in
+      let whole : c ∷ cs ≡ glyph (q % b) ∷ digits b (length cs) n = r .back ∙ digits-front b (length cs) n in
+      let head : c ≡ glyph (q % b) = cc in
+      let tail : cs ≡ digits b (length cs) n = cc in
+      let m : q % b < b = mod-lt q one in
+      let d : digitOf c ≡ q % b = ap (λ (x : ℕ). digitOf x) head ∙ digit-glyph (q % b) (omega arith) in
+      let v-is : v ≡ q / b = sym (r .front) ∙ next-front n (length cs) in
+      let sum : v * b + digitOf c ≡ q = ap (λ (x : ℕ). x * b + digitOf c) v-is ∙ ap (λ (x : ℕ). q / b * b + x) d ∙ div-add-mod' q b in
+      let le : q ≤ n = div-le-self n (b ^ length cs) in
+      shuts b v c n cs (record {
+        small = omega arith;
+        is-glyph = ap (λ (x : ℕ). glyph x) d ∙ sym head;
+        fits = omega (arith, r .below);
+        rest = accepts cs (v * b + digitOf c) n (record { below = r .below; front = sym sum; back = tail });
+      })
+
+-- n < b ^ k is that nothing is in front of its last k digits
+none-front : (b n k : ℕ) → 1 ≤ b → n / b ^ k ≡ 0 → n < b ^ k
+none-front b n k one e = omega (arith, div-lt-iff-lt-mul {k = b ^ k} {x = n} {y = 1} (one-le-pow k b one) .0 (omega arith), one-mul (b ^ k))
+
+-- the first digit of a number of k + 1 digits is not 0
+first-pos : (b n k : ℕ) → 1 ≤ b → b ^ k ≤ n → 1 ≤ n / b ^ k
+first-pos b n k one h = le-div-iff-mul-le {k = b ^ k} {x = 1} {y = n} (one-le-pow k b one) .1 (omega (arith, one-mul (b ^ k)))
+
+pos-first : (b n k : ℕ) → 1 ≤ b → 1 ≤ n / b ^ k → b ^ k ≤ n
+pos-first b n k one h = omega (arith, one-mul (b ^ k), le-div-iff-mul-le {k = b ^ k} {x = 1} {y = n} (one-le-pow k b one) .0 h)
+
+first-small : (b n k : ℕ) → 1 ≤ b → n < b ^ suc k → n / b ^ k < b
+first-small b n k one h = div-lt-iff-lt-mul {k = b ^ k} {x = n} {y = b} (one-le-pow k b one) .1 (omega (arith, pow-succ' b k))
+
+pred-is : (k : ℕ) → suc k - 1 ≡ k
+pred-is k = omega arith
+
+-- ---- decimals
+-- what `decimalOf` asks of its text besides the digits
+no-lead : (t u w : Bool) (n : ℕ) (p : Parsed) → cond t Parsed.Bad (cond u (cond w Parsed.Bad p) p) ≡ Parsed.Number n → (t ≡ false) × (u ≡ true → w ≡ false) × (p ≡ Parsed.Number n)
+no-lead true u w n p e = let z : _≡_ {A = ℕ} 0 1 = cc in absurd (omega arith)
+no-lead false true true n p e = let z : _≡_ {A = ℕ} 0 1 = cc in absurd (omega arith)
+no-lead false true false n p e = (refl, (λ _. refl), e)
+no-lead false false w n p e = (refl, (λ z. absurd (false-true z)), e)
+  where
+    false-true : false ≡ true → ⊥
+    false-true z = let y : _≡_ {A = ℕ} 0 1 = cc in omega arith
+
+-- what is accepted is the text of its answer
+pub decimal-reads : (t : List ℕ) (n : ℕ) → decimalOf t ≡ Parsed.Number n → Text 10 1 t n × (n < 2 ^ 64)
+unfolding decimalOf
+decimal-reads [] n e = let z : _≡_ {A = ℕ} 0 1 = cc in absurd (omega arith)
+decimal-reads (c ∷ cs) n e =
+    let o = no-lead (ltb (length (c ∷ cs)) 1) (ltb 1 (length (c ∷ cs))) (eqb c 48) n (numberFrom 10 0 (c ∷ cs)) e in
+    let r = reads 10 (omega arith) (omega arith) (c ∷ cs) 0 n (omega arith) (o .2) in
+    let whole : c ∷ cs ≡ glyph (n / 10 ^ length cs % 10) ∷ digits 10 (length cs) n = r .back ∙ digits-front 10 (length cs) n in
+    let head : c ≡ glyph (n / 10 ^ length cs % 10) = cc in (
+      record {
+        fewest = (
+          omega arith,
+          none-front 10 n (suc (length cs)) (omega arith) (r .front),
+          λ h.
+              elim (decLt 0 (n / 10 ^ length cs)) [
+                | yes k ↦ subst (λ (m : ℕ). 10 ^ m ≤ n) (sym (pred-is (length cs))) (pos-first 10 n (length cs) (omega arith) k)
+                | no k ↦
+                    let q : n / 10 ^ length cs ≡ 0 = omega arith in
+                    let z : c ≡ 48 = head ∙ ap (λ (x : ℕ). glyph (x % 10)) q in
+                    absurd (eqb-false c 48 (o .1 (lt-ltb 1 (suc (length cs)) h)) z)
+              ],
+        );
+        spelled = r .back;
+      },
+      r .below,
+    )
+
+-- the text of a number below 2^64 is accepted, and the answer is the number
+pub decimal-accepts : (t : List ℕ) (n : ℕ) → Text 10 1 t n → n < 2 ^ 64 → decimalOf t ≡ Parsed.Number n
+unfolding decimalOf
+decimal-accepts [] n x h = absurd (omega (arith, x .fewest .0))
+decimal-accepts (c ∷ cs) n x h =
+    let p : numberFrom 10 0 (c ∷ cs) ≡ Parsed.Number n = accepts 10 (omega arith) (omega arith) (c ∷ cs) 0 n (record { below = h; front = div-eq-of-lt (x .fewest .1); back = x .spelled }) in
+    elim (decLt 1 (suc (length cs))) [
+      | yes k ↦
+          let q : ℕ = n / 10 ^ length cs in
+          let whole : c ∷ cs ≡ glyph (q % 10) ∷ digits 10 (length cs) n = x .spelled ∙ digits-front 10 (length cs) n in
+          let head : c ≡ glyph (q % 10) = cc in
+          let low : 1 ≤ q = first-pos 10 n (length cs) (omega arith) (subst (λ (m : ℕ). 10 ^ m ≤ n) (pred-is (length cs)) (x .fewest .2 k)) in
+          let high : q < 10 = first-small 10 n (length cs) (omega arith) (x .fewest .1) in
+          let is-c : c ≡ 48 + q = head ∙ ap (λ (d : ℕ). glyph d) (mod-eq-of-lt high) ∙ glyph-low q high in
+          simp (le-ltb (suc (length cs)) 1 (omega arith), lt-ltb 1 (suc (length cs)) k, ne-eqb c 48 (λ z. omega arith)) p
+      | no k ↦ simp (le-ltb (suc (length cs)) 1 (omega arith), le-ltb 1 (suc (length cs)) (omega arith)) p
+    ]
+
+-- ---- sixteen hexadecimal digits
+is-sixteen : (t : Bool) (n : ℕ) (p : Parsed) → cond t p Parsed.Bad ≡ Parsed.Number n → (t ≡ true) × (p ≡ Parsed.Number n)
+is-sixteen true n p e = (refl, e)
+is-sixteen false n p e = let z : _≡_ {A = ℕ} 0 1 = cc in absurd (omega arith)
+
+pub hex-reads : (t : List ℕ) (n : ℕ) → hexOf t ≡ Parsed.Number n → Text 16 16 t n × (n < 2 ^ 64)
+unfolding hexOf
+hex-reads t n e =
+    let o = is-sixteen (eqb (length t) 16) n (numberFrom 16 0 t) e in
+    let l : length t ≡ 16 = eqb-true _ _ (o .0) in
+    let r = reads 16 (omega arith) (omega arith) t 0 n (omega arith) (o .1) in
+    (record { fewest = (omega arith, none-front 16 n (length t) (omega arith) (r .front), λ h. absurd (omega arith)); spelled = r .back }, r .below)
+
+pub hex-accepts : (t : List ℕ) (n : ℕ) → Text 16 16 t n → n < 2 ^ 64 → hexOf t ≡ Parsed.Number n
+unfolding hexOf
+hex-accepts t n x h =
+    let p : numberFrom 16 0 t ≡ Parsed.Number n = accepts 16 (omega arith) (omega arith) t 0 n (record { below = h; front = div-eq-of-lt (x .fewest .1); back = x .spelled }) in
+    elim (decLt 16 (length t)) [
+      | yes k ↦
+          let long : 16 ^ 16 ≤ 16 ^ (length t - 1) = pow-le-pow-right {n = 16} (omega arith) {i = 16} {j = length t - 1} (omega arith) in
+          let low : 16 ^ (length t - 1) ≤ n = x .fewest .2 k in
+          absurd (omega arith)
+      | no k ↦
+          let l : length t ≡ 16 = omega (arith, x .fewest .0) in
+          simp (eq-eqb (length t) 16 l) p
+    ]
+
+-- ---- a number has one text: what is accepted is what is printed
+length-once : (b least n k l : ℕ) → 2 ≤ b → Fewest b least n k → Fewest b least n l → l ≤ k
+length-once b least n k l two x y =
+    elim (decLt k l) [
+      | yes h ↦
+          let up : b ^ k ≤ b ^ (l - 1) = pow-le-pow-right {n = b} (omega arith) {i = k} {j = l - 1} (omega arith) in
+          let low : b ^ (l - 1) ≤ n = y .2 (omega (arith, x .0)) in
+          absurd (omega (arith, x .1))
+      | no h ↦ omega arith
+    ]
+
+pub same-text : (b least n : ℕ) (s t : List ℕ) → 2 ≤ b → Text b least s n → Text b least t n → s ≡ t
+same-text b least n s t two x y =
+    let up : length s ≤ length t = length-once b least n (length t) (length s) two (y .fewest) (x .fewest) in
+    let down : length t ≤ length s = length-once b least n (length s) (length t) two (x .fewest) (y .fewest) in
+    let e : length s ≡ length t = omega arith in
+    x .spelled ∙ ap (λ (k : ℕ). digits b k n) e ∙ sym (y .spelled)
+
+pub length-digits : (b k n : ℕ) → length (digits b k n) ≡ k
+length-digits b zero n = refl
+length-digits b (suc k) n = simp length-append (omega (arith, length-digits b k (n / b)))
+
+-- `placesFrom` is the fewest
+pub fewest-from : (f n : ℕ) → n < 10 ^ suc f → Fewest 10 1 n (placesFrom f n)
+unfolding placesFrom
+fewest-from zero n h = (omega arith, h, λ l. absurd (omega arith))
+fewest-from (suc f) n h =
+    elim (decLt n 10) [
+      | yes k ↦ rw (lt-ltb n 10 k) (omega arith, k, λ l. absurd (omega arith))
+      | no k ↦
+          let p : ℕ = placesFrom f (n / 10) in
+          let r : Fewest 10 1 (n / 10) p = fewest-from f (n / 10) (div-lt-iff-lt-mul {k = 10} {x = n} {y = 10 ^ suc f} (omega arith) .1 (omega (arith, pow-suc 10 (suc f)))) in
+          rw (le-ltb n 10 (omega arith)) (
+            omega arith,
+            omega (arith, pow-suc 10 p, div-lt-iff-lt-mul {k = 10} {x = n} {y = 10 ^ p} (omega arith) .0 (r .1)),
+            λ l.
+                subst (λ (m : ℕ). 10 ^ m ≤ n) (sym (pred-is p)) (
+                elim (decLt 1 p) [
+                  | yes i ↦
+                      let e : p ≡ suc (p - 1) = omega arith in
+                      let low : 10 ^ (p - 1) * 10 ≤ n = le-div-iff-mul-le {k = 10} {x = 10 ^ (p - 1)} {y = n} (omega arith) .0 (r .2 i) in
+                      subst (λ (m : ℕ). 10 ^ m ≤ n) (sym e) (omega (arith, pow-suc 10 (p - 1)))
+                  | no i ↦
+                      let e : p ≡ 1 = omega (arith, r .0) in
+                      subst (λ (m : ℕ). 10 ^ m ≤ n) (sym e) (omega arith)
+                ]),
+          )
+    ]
+
+pub decimal-text : (n : ℕ) → n < 2 ^ 64 → Text 10 1 (decimalText n) n
+unfolding decimalText
+decimal-text n h =
+    let l : length (digits 10 (placesFrom 19 n) n) ≡ placesFrom 19 n = length-digits 10 (placesFrom 19 n) n in
+    record { fewest = subst (λ (k : ℕ). Fewest 10 1 n k) (sym l) (fewest-from 19 n (omega arith)); spelled = ap (λ (k : ℕ). digits 10 k n) (sym l) }
+
+-- parsing what is printed gives the number back, and what is accepted is what is printed of its number
+pub decimal-back : (n : ℕ) → n < 2 ^ 64 → decimalOf (decimalText n) ≡ Parsed.Number n
+decimal-back n h = decimal-accepts (decimalText n) n (decimal-text n h) h
+
+pub decimal-only : (t : List ℕ) (n : ℕ) → decimalOf t ≡ Parsed.Number n → t ≡ decimalText n
+decimal-only t n e = let r = decimal-reads t n e in same-text 10 1 n t (decimalText n) (omega arith) (r .0) (decimal-text n (r .1))
+
+pub hex-text : (n : ℕ) → n < 2 ^ 64 → Text 16 16 (hexText n) n
+unfolding hexText
+hex-text n h =
+    let l : length (digits 16 16 n) ≡ 16 = length-digits 16 16 n in
+    record { fewest = subst (λ (k : ℕ). Fewest 16 16 n k) (sym l) (omega arith, omega arith, λ i. absurd (omega arith)); spelled = ap (λ (k : ℕ). digits 16 k n) (sym l) }
+
+pub hex-back : (n : ℕ) → n < 2 ^ 64 → hexOf (hexText n) ≡ Parsed.Number n
+hex-back n h = hex-accepts (hexText n) n (hex-text n h) h
+
+pub hex-only : (t : List ℕ) (n : ℕ) → hexOf t ≡ Parsed.Number n → t ≡ hexText n
+hex-only t n e = let r = hex-reads t n e in same-text 16 16 n t (hexText n) (omega arith) (r .0) (hex-text n (r .1))
+
+-- what io's `decimal` and `hex` write is the text
+pub digits-decimal : (n k : ℕ) → n < 2 ^ 64 → Fewest 10 1 n k → digits 10 k n ≡ decimalText n
+unfolding decimalText
+digits-decimal n k h x =
+    let y = fewest-from 19 n (omega arith) in
+    let up : k ≤ placesFrom 19 n = length-once 10 1 n (placesFrom 19 n) k (omega arith) y x in
+    let down : placesFrom 19 n ≤ k = length-once 10 1 n k (placesFrom 19 n) (omega arith) x y in
+    let e : k ≡ placesFrom 19 n = omega arith in
+    ap (λ (m : ℕ). digits 10 m n) e
+
+pub length-decimal : (n : ℕ) → n < 2 ^ 64 → length (decimalText n) ≤ 20
+length-decimal n h =
+    let x = decimal-text n h .fewest in
+    elim (decLt 20 (length (decimalText n))) [
+      | yes k ↦
+          let up : 10 ^ 20 ≤ 10 ^ (length (decimalText n) - 1) = pow-le-pow-right {n = 10} (omega arith) {i = 20} {j = length (decimalText n) - 1} (omega arith) in
+          let low : 10 ^ (length (decimalText n) - 1) ≤ n = x .2 (omega arith) in
+          absurd (omega arith)
+      | no k ↦ omega arith
+    ]
+
+pub digits-hex : (n k : ℕ) → n < 2 ^ 64 → Fewest 16 16 n k → digits 16 k n ≡ hexText n
+unfolding hexText
+digits-hex n k h x =
+    let down : k ≤ 16 = length-once 16 16 n 16 k (omega arith) (omega arith, omega arith, λ l. absurd (omega arith)) x in
+    let e : k ≡ 16 = omega (arith, x .0) in
+    ap (λ (m : ℕ). digits 16 m n) e
+
+pub length-hex : (n : ℕ) → length (hexText n) ≡ 16
+unfolding hexText
+length-hex n = length-digits 16 16 n
+
+-- a decimal does not begin with a minus
+pub first-glyph : (t : List ℕ) (n : ℕ) → decimalOf t ≡ Parsed.Number n → getD t 0 0 ≡ 45 → ⊥
+unfolding decimalOf
+first-glyph [] n e h = omega arith
+first-glyph (c ∷ cs) n e h =
+    let o = no-lead (ltb (length (c ∷ cs)) 1) (ltb 1 (length (c ∷ cs))) (eqb c 48) n (numberFrom 10 0 (c ∷ cs)) e in
+    let p = opens 10 0 c n cs (o .2) in
+    omega (arith, p .small, p .is-glyph, glyph-low (digitOf c) (p .small))

@@ -1,0 +1,7 @@
+pub mod Steps
+pub mod Laws
+pub mod Prefix
+pub mod Negated
+pub mod Integers
+pub mod Putting
+pub mod Tests

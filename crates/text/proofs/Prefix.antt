@@ -1,0 +1,82 @@
+-- A text that starts with another, or is another: the loop's steps, and what the answer says.
+use mathlib.Core.Path.{_≡_, refl, sym, ap, ap₂, _∙_}
+use mathlib.Core.Bool.{Bool, true, false, cond}
+use mathlib.Core.List.{List, [], _∷_, _++_}
+use Prim.Native.Nat.{ℕ, suc, _+_, _≤_, _<_}
+use native.Mathlib.Numerals.{add-one}
+use native.Mathlib.Omega.{arith}
+use lib.Dec.{eqb}
+use lib.ListN.{length, take, drop, getD, length-take, take-append-drop}
+use lib.Seq.{drop-cons, drop-length, take-all, take-append-seam}
+use borrow.Author.Tests.{eq-eqb, ne-eqb, eqb-true}
+use Rattle.text.specs.Starts.{startsOf, sameOf}
+
+module _ (s p : List ℕ) (i : ℕ) (whole : Bool) (inv : startsOf (drop i s) (drop i p) ≡ whole) (h : i < length p) where
+  pub too-short : length s ≤ i → i ≤ length s → false ≡ whole
+  unfolding startsOf
+  too-short l k =
+      let e : length s ≡ i = omega arith in
+      ap₂ startsOf (sym (drop-length s) ∙ ap (λ (j : ℕ). drop j s) e) (sym (drop-cons p i 0 h)) ∙ inv
+
+  pub differs : i < length s → (getD s i 0 ≡ getD p i 0 → ⊥) → false ≡ whole
+  unfolding startsOf
+  differs l n = sym (simp (ne-eqb _ _ n)) ∙ ap₂ startsOf (sym (drop-cons s i 0 l)) (sym (drop-cons p i 0 h)) ∙ inv
+
+  pub agrees : i < length s → getD s i 0 ≡ getD p i 0 → startsOf (drop (i + 1) s) (drop (i + 1) p) ≡ whole
+  unfolding startsOf
+  agrees l e = rw (add-one i) (sym (simp (eq-eqb _ _ e)) ∙ ap₂ startsOf (sym (drop-cons s i 0 l)) (sym (drop-cons p i 0 h)) ∙ inv)
+
+pub all-there : (s p : List ℕ) (i : ℕ) (whole : Bool) → startsOf (drop i s) (drop i p) ≡ whole → length p ≤ i → i ≤ length p → true ≡ whole
+unfolding startsOf
+all-there s p i whole inv l k =
+    let e : length p ≡ i = omega arith in
+    ap (startsOf (drop i s)) (sym (drop-length p) ∙ ap (λ (j : ℕ). drop j p) e) ∙ inv
+
+-- the answer is that the front of s is p
+pub starts-front : (s p : List ℕ) → startsOf s p ≡ true → take (length p) s ≡ p
+unfolding startsOf
+starts-front s [] e = refl
+starts-front [] (c ∷ p) e = let z : _≡_ {A = ℕ} 0 1 = cc in absurd (omega arith)
+starts-front (x ∷ s) (c ∷ p) e =
+    let o = both (eqb x c) (startsOf s p) e in
+    ap₂ (λ (a : ℕ) (l : List ℕ). a ∷ l) (eqb-true x c (o .0)) (starts-front s p (o .1))
+  where
+    both : (t u : Bool) → cond t u false ≡ true → (t ≡ true) × (u ≡ true)
+    both true u e = (refl, e)
+    both false u e = let z : _≡_ {A = ℕ} 0 1 = cc in absurd (omega arith)
+
+pub front-starts : (s p : List ℕ) → take (length p) s ≡ p → startsOf s p ≡ true
+unfolding startsOf
+front-starts s [] e = refl
+front-starts [] (c ∷ p) e = let z : _≡_ {A = ℕ} 0 1 = cc in absurd (omega arith)
+front-starts (x ∷ s) (c ∷ p) e =
+    let h : x ≡ c = cc in
+    let t : take (length p) s ≡ p = cc in
+    simp (eq-eqb x c h) (front-starts s p t)
+
+-- a text is as long as one that it starts with, or longer
+pub starts-length : (s p : List ℕ) → startsOf s p ≡ true → length p ≤ length s
+starts-length s p e = omega (arith, ap length (starts-front s p e), length-take (length p) s)
+
+-- a text that starts with another is that one and what is behind it
+pub starts-split : (s p : List ℕ) → startsOf s p ≡ true → s ≡ p ++ drop (length p) s
+starts-split s p e = sym (take-append-drop (length p) s) ∙ ap (λ (l : List ℕ). l ++ drop (length p) s) (starts-front s p e)
+
+pub split-starts : (p t : List ℕ) → startsOf (p ++ t) p ≡ true
+split-starts p t = front-starts (p ++ t) p (take-append-seam p t)
+
+-- `sameOf` is equality
+pub same-is : (s t : List ℕ) → sameOf s t ≡ true → s ≡ t
+unfolding sameOf
+same-is s t e =
+    let o = both (eqb (length s) (length t)) (startsOf s t) e in
+    let l : length s ≡ length t = eqb-true _ _ (o .0) in
+    sym (take-all (length t) s (omega arith)) ∙ starts-front s t (o .1)
+  where
+    both : (a b : Bool) → cond a b false ≡ true → (a ≡ true) × (b ≡ true)
+    both true b e = (refl, e)
+    both false b e = let z : _≡_ {A = ℕ} 0 1 = cc in absurd (omega arith)
+
+pub same-self : (s : List ℕ) → sameOf s s ≡ true
+unfolding sameOf
+same-self s = rw (eq-eqb (length s) (length s) refl) (front-starts s s (take-all (length s) s (omega arith)))

@@ -1,0 +1,73 @@
+use mathlib.Core.Path.{_≡_, refl, sym, ap, _∙_}
+use Prim.Native.Nat.{ℕ, _+_, _-_, _*_, _<_, _≤_, _^_}
+use native.Mathlib.Omega.{arith}
+use native.Mathlib.Numerals.{add-one}
+use lib.ListN.{length, drop, getD}
+use lib.Seq.{drop-cons}
+use borrow.Author.Needs.{needs}
+use Rattle.text.specs.Number.{stepOf, numberFrom}
+use Rattle.text.proofs.Steps.{goes-on, stops, ends}
+use Rattle.text.proofs.number.Statement.{statement}
+use Rattle.text.proofs.number.Tie as tie
+use Rattle.text.proofs.number.Reads as reads
+use Rattle.text.proofs.number.Lts as lts
+use Rattle.text.proofs.step.Reads as step-reads
+
+abbrev Inv-loop : tie.InvT-loop
+Inv-loop base s v₀ i₀ v i = (i ≤ length s) × (numberFrom base v (drop i s) ≡ numberFrom base 0 s)
+
+abbrev μ-loop : tie.MeasureT-loop
+μ-loop base s v₀ i₀ v i = length s - i
+
+loop-holds : tie.Need-loop-holds Inv-loop μ-loop
+loop-holds c = search needs
+
+shared-slice-read-step : tie.Need-shared-slice-read-step Inv-loop μ-loop
+shared-slice-read-step c = search needs
+
+step-requires : tie.Need-step-requires Inv-loop μ-loop
+step-requires c κs = search needs
+
+enum-known-w : tie.Need-enum-known-w Inv-loop μ-loop
+enum-known-w c = search needs
+
+enum-told : tie.Need-enum-told Inv-loop μ-loop
+enum-told c = search needs
+
+returns : tie.Need-returns Inv-loop μ-loop
+returns c =
+    let s = c .before .before in
+    let l = s .before .before in
+    stops _ _ _ _ _ (l .loop-test .taken) (l .before .loop .inv .1) (sym (s .step .ensures) ∙ c .enum-told .given .1)
+
+add-i : tie.Need-add-i Inv-loop μ-loop
+add-i c = search needs
+
+loop-less : tie.Need-loop-less Inv-loop μ-loop
+loop-less c = omega arith
+
+loop-again : tie.Need-loop-again Inv-loop μ-loop
+loop-again c =
+    let s = c .before .before .before in
+    let l = s .before .before in
+    (omega arith, goes-on _ _ _ _ _ (l .loop-test .taken) (l .before .loop .inv .1) _ (sym (s .step .ensures) ∙ c .before .w .given .1))
+
+returns-2 : tie.Need-returns-2 Inv-loop μ-loop
+returns-2 c = ends _ _ _ _ _ (c .loop-test .left) (c .before .loop .inv .0) (c .before .loop .inv .1)
+
+pub number-spec : {M : Type 1} → statement M
+number-spec =
+    tie.close
+    (tie.spec
+    Inv-loop
+    μ-loop
+    loop-holds
+    shared-slice-read-step
+    step-requires
+    enum-known-w
+    enum-told
+    returns
+    add-i
+    loop-less
+    loop-again
+    returns-2)
