@@ -5,7 +5,9 @@ use crate::print::say_mark;
 use crate::print::say_number;
 use crate::print::say_refusal;
 use crate::print::say_set;
+use crate::print::say_shown;
 use crate::print::say_tank;
+use crate::print::say_told;
 use styles::Mark;
 use styles::Value;
 use tank::Tank;
@@ -30,6 +32,45 @@ fn b() -> Mark {
 
 fn c() -> Mark {
     mark(2, 3, 1)
+}
+
+// The mark with yes or no for its value.
+fn saying(m: Mark, b: bool) -> Mark {
+    Mark {
+        key: m.key,
+        flags: m.flags,
+        lamport: m.lamport,
+        peer: m.peer,
+        value: Value::Flag(b),
+    }
+}
+
+// What a key shows at a position.
+fn shows(t: Tank, pos: u64, key: u16)
+    requires { ⌜ Sound t ⌝ }
+{
+    say(b"key ");
+    say_number(key as u64);
+    say(b" at ");
+    say_number(pos);
+    say(b":");
+    say_shown(questions::value_at(t, pos, key));
+    say(b"\n");
+}
+
+// Whether a range has a key.
+fn has_key(t: Tank, start: u64, end: u64, key: u16)
+    requires { ⌜ Sound t ⌝ }
+{
+    say(b"key ");
+    say_number(key as u64);
+    say(b" in ");
+    say_number(start);
+    say(b"..");
+    say_number(end);
+    say(b":");
+    say_told(questions::range_contains_key(t, start, end, key));
+    say(b"\n");
 }
 
 // The tank for the next call, which takes at most 512 runs. No example comes near that; a fresh one would stand in.
@@ -165,6 +206,9 @@ pub(crate) fn seven() {
     let t = marked();
     let u = annotate(t, 10, 20, b());
     insert(u, 15, 1);
+    let v = annotate(Tank::fresh(), 10, 20, saying(a(), false));
+    let w = annotate(v, 10, 20, saying(b(), true));
+    shows(w, 15, 1);
 }
 
 pub(crate) fn eight() {
@@ -186,4 +230,12 @@ pub(crate) fn ten() {
     let u = remove(t, a(), 14);
     remove(u, a(), 19);
     remove(t, a(), 5);
+}
+
+pub(crate) fn eleven() {
+    say(b"example 11\n");
+    let t = annotate(Tank::fresh(), 10, 20, a());
+    has_key(t, 20, 30, 1);
+    has_key(t, 19, 20, 1);
+    has_key(t, 5, 5, 1);
 }

@@ -1,4 +1,4 @@
-// Document 01's examples 1 to 10 on the code, one tank each: every call with its answer and what the tank holds after it.
+// Document 01's examples 1 to 11 on the code, one tank each: every call with its answer and what the tank holds after it.
 mod cases;
 mod print;
 
@@ -13,4 +13,5 @@ fn main() {
     cases::eight();
     cases::nine();
     cases::ten();
+    cases::eleven();
 }

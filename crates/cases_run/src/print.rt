@@ -1,7 +1,10 @@
 // Answers as text.
 use libc::STDOUT_FILENO;
+use questions::Shown;
+use questions::Told;
 use styles::Mark;
 use styles::Styles;
+use styles::Value;
 use tank::Tank;
 
 pub(crate) fn say(text: &[u8]) {
@@ -56,4 +59,36 @@ pub(crate) fn say_tank(t: Tank) {
     say(b" carried=");
     say_number(t.marks as u64);
     say(b"\n");
+}
+
+// Yes or no, or the refusal's number.
+pub(crate) fn say_told(t: Told) {
+    match t {
+        Told::Refused(n) => say_refusal(n),
+        Told::No => say(b" no"),
+        Told::Yes => say(b" yes"),
+    }
+}
+
+fn say_value(v: Value) {
+    match v {
+        Value::Null => say(b" null"),
+        Value::Flag(b) => {
+            if b {
+                say(b" yes");
+            } else {
+                say(b" no");
+            }
+        }
+        Value::Whole(_) => say(b" a whole number"),
+        Value::Decimal(_) => say(b" a decimal"),
+    }
+}
+
+pub(crate) fn say_shown(s: Shown) {
+    match s {
+        Shown::Refused(n) => say_refusal(n),
+        Shown::Nothing => say(b" nothing"),
+        Shown::Shows(v) => say_value(v),
+    }
 }
