@@ -23,5 +23,5 @@ fn main() {
     let t = a.tanks;
     let c = t.annotate(0, 15, 25, mark(2, 3, 1));
     let u = c.tanks;
-    session::show(u, 0);
+    clerk::show(u, 0);
 }

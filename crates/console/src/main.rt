@@ -140,5 +140,5 @@ fn main() {
         page();
         return;
     }
-    session::run();
+    clerk::run();
 }

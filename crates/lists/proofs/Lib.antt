@@ -4,3 +4,4 @@ pub mod CursorLaws
 pub mod AnchorListLaws
 pub mod Leaves
 pub mod ListTests
+pub mod Stretches

@@ -1,4 +1,4 @@
 // Runs a fixed list of calls, whose answers are known: see oracle/SAMPLE.md.
 fn main() {
-    session::run();
+    clerk::run();
 }

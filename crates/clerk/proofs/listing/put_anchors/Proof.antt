@@ -5,12 +5,12 @@ use native.Mathlib.Omega.{arith}
 use lib.ListN.{length}
 use Rattle.lists.specs.Anchors.{Stands, Steps}
 use borrow.Author.Needs.{needs}
-use Rattle.session.proofs.listing.put_anchors.Statement.{statement}
-use Rattle.session.proofs.listing.put_anchors.Tie as tie
-use Rattle.session.proofs.listing.put_anchors.Reads as reads
-use Rattle.session.proofs.listing.put_anchors.Lts as lts
+use Rattle.clerk.proofs.listing.put_anchors.Statement.{statement}
+use Rattle.clerk.proofs.listing.put_anchors.Tie as tie
+use Rattle.clerk.proofs.listing.put_anchors.Reads as reads
+use Rattle.clerk.proofs.listing.put_anchors.Lts as lts
 use Rattle.lists.proofs.anchors.next_anchor.Reads as next-anchor-reads
-use Rattle.session.proofs.listing.put_anchor.Reads as put-anchor-reads
+use Rattle.clerk.proofs.listing.put_anchor.Reads as put-anchor-reads
 
 abbrev Inv-loop : tie.InvT-loop
 Inv-loop out₀ at t left k₀ c₀ i₀ out k c i = (length out ≡ length out₀) × Stands t c

@@ -4,11 +4,11 @@ use Prim.Native.Nat.{_-_, _≤_}
 use native.Mathlib.Omega.{arith}
 use lib.ListN.{length}
 use borrow.Author.Needs.{needs}
-use Rattle.session.proofs.listing.put_stretches.Statement.{statement}
-use Rattle.session.proofs.listing.put_stretches.Tie as tie
-use Rattle.session.proofs.listing.put_stretches.Reads as reads
-use Rattle.session.proofs.listing.put_stretches.Lts as lts
-use Rattle.session.proofs.answers.say.Reads as say-reads
+use Rattle.clerk.proofs.listing.put_stretches.Statement.{statement}
+use Rattle.clerk.proofs.listing.put_stretches.Tie as tie
+use Rattle.clerk.proofs.listing.put_stretches.Reads as reads
+use Rattle.clerk.proofs.listing.put_stretches.Lts as lts
+use Rattle.clerk.proofs.answers.say.Reads as say-reads
 
 abbrev Inv-loop : tie.InvT-loop
 Inv-loop out₀ at tank list count k₀ i₀ t9 t10 t11 out k i = length out ≡ length out₀

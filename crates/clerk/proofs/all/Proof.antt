@@ -4,11 +4,11 @@ use native.Mathlib.Omega.{arith}
 use lib.ListN.{length}
 use Rattle.tanks.specs.Pool.{Sound}
 use borrow.Author.Needs.{needs}
-use Rattle.session.proofs.all.Statement.{statement}
-use Rattle.session.proofs.all.Tie as tie
-use Rattle.session.proofs.all.Reads as reads
-use Rattle.session.proofs.all.Lts as lts
-use Rattle.session.proofs.turn.Reads as turn-reads
+use Rattle.clerk.proofs.all.Statement.{statement}
+use Rattle.clerk.proofs.all.Tie as tie
+use Rattle.clerk.proofs.all.Reads as reads
+use Rattle.clerk.proofs.all.Lts as lts
+use Rattle.clerk.proofs.turn.Reads as turn-reads
 
 abbrev Inv-loop : tie.InvT-loop
 Inv-loop out₀ tanks₀ stand₀ turns₀ out tanks stand turns = (length out ≡ length out₀) × Sound tanks

@@ -2,13 +2,13 @@
 use native.Mathlib.Omega.{arith}
 use lib.ListN.{length-take}
 use borrow.Author.Needs.{needs}
-use Rattle.session.proofs.listing.whole_in.Statement.{statement}
-use Rattle.session.proofs.listing.whole_in.Tie as tie
-use Rattle.session.proofs.listing.whole_in.Reads as reads
-use Rattle.session.proofs.listing.whole_in.Lts as lts
+use Rattle.clerk.proofs.listing.whole_in.Statement.{statement}
+use Rattle.clerk.proofs.listing.whole_in.Tie as tie
+use Rattle.clerk.proofs.listing.whole_in.Reads as reads
+use Rattle.clerk.proofs.listing.whole_in.Lts as lts
 use Rattle.ask.proofs.list_whole.Reads as list-whole-reads
-use Rattle.session.proofs.listing.places.Reads as places-reads
-use Rattle.session.proofs.listing.put_list.Reads as put-list-reads
+use Rattle.clerk.proofs.listing.places.Reads as places-reads
+use Rattle.clerk.proofs.listing.put_list.Reads as put-list-reads
 
 array-read-places : tie.Need-array-read-places
 array-read-places c = search needs

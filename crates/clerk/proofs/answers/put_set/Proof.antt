@@ -4,13 +4,13 @@ use Prim.Native.Nat.{_-_, _≤_}
 use native.Mathlib.Omega.{arith}
 use lib.ListN.{length}
 use borrow.Author.Needs.{needs}
-use Rattle.session.proofs.answers.put_set.Statement.{statement}
-use Rattle.session.proofs.answers.put_set.Tie as tie
-use Rattle.session.proofs.answers.put_set.Reads as reads
-use Rattle.session.proofs.answers.put_set.Lts as lts
-use Rattle.session.proofs.answers.put_mark.Reads as put-mark-reads
-use Rattle.session.proofs.answers.say.Reads as say-reads
-use Rattle.session.proofs.answers.wide.Reads as wide-reads
+use Rattle.clerk.proofs.answers.put_set.Statement.{statement}
+use Rattle.clerk.proofs.answers.put_set.Tie as tie
+use Rattle.clerk.proofs.answers.put_set.Reads as reads
+use Rattle.clerk.proofs.answers.put_set.Lts as lts
+use Rattle.clerk.proofs.answers.put_mark.Reads as put-mark-reads
+use Rattle.clerk.proofs.answers.say.Reads as say-reads
+use Rattle.clerk.proofs.answers.wide.Reads as wide-reads
 
 abbrev Inv-loop : tie.InvT-loop
 Inv-loop out₀ at count marks k₀ i₀ out k i = (i ≤ 64) × (length out ≡ length out₀)

@@ -5,13 +5,13 @@ use native.Mathlib.Omega.{arith}
 use lib.ListN.{length}
 use Rattle.tanks.specs.Pool.{Sound}
 use borrow.Author.Needs.{needs}
-use Rattle.session.proofs.eat.Statement.{statement}
-use Rattle.session.proofs.eat.Tie as tie
-use Rattle.session.proofs.eat.Reads as reads
-use Rattle.session.proofs.eat.Lts as lts
+use Rattle.clerk.proofs.eat.Statement.{statement}
+use Rattle.clerk.proofs.eat.Tie as tie
+use Rattle.clerk.proofs.eat.Reads as reads
+use Rattle.clerk.proofs.eat.Lts as lts
 use Rattle.script.proofs.feed.Reads as feed-reads
-use Rattle.session.proofs.perform.Reads as perform-reads
-use Rattle.session.proofs.put_bad.Reads as put-bad-reads
+use Rattle.clerk.proofs.perform.Reads as perform-reads
+use Rattle.clerk.proofs.put_bad.Reads as put-bad-reads
 
 abbrev Inv-loop : tie.InvT-loop
 Inv-loop bytes out₀ tanks₀ reader₀ at₀ from₀ out tanks reader at from = (from ≤ length bytes) × (length out ≡ length out₀) × Sound tanks

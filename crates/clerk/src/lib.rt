@@ -1,4 +1,4 @@
-// A session with the tank map: calls as they are read, their answers as text.
+// The clerk of the tank map: takes calls as they are read, and writes their answers as text.
 mod edits; // edits.rt: calls that change the state
 mod asking; // asking.rt: calls that ask
 mod listing; // listing.rt: stretches and anchors
@@ -25,7 +25,7 @@ pub struct Done {
     pub at: usize,
 }
 
-// Where a session stands but for the tanks: the reader, how much of the output waits, and whether it is over.
+// Where a run stands but for the tanks: the reader, how much of the output waits, and whether it is over.
 struct Stand {
     reader: Reader,
     at: usize,
@@ -81,7 +81,7 @@ fn perform(s: Tanks, call: Call, out: &mut [u8], at: usize) -> Done
     }
 }
 
-// The number of the line at which a session ends.
+// The number of the line at which the run ends.
 fn put_bad(out: &mut [u8], at: usize, r: Reader) -> usize
     requires { ⌜ 512 ≤ length (now out) ⌝ }
 {
@@ -180,7 +180,7 @@ fn turn(s: Tanks, stand: Stand, out: &mut [u8]) -> Eaten
     eat(&buf[..n], s, stand, out)
 }
 
-// All of the input: the count of turns is one that no session uses up. Answers how much of the output waits.
+// All of the input: the count of turns is one that no run uses up. Answers how much of the output waits.
 fn all(s: Tanks, first: Stand, out: &mut [u8]) -> usize
     requires { ⌜ Sound s ⌝ }
     requires { ⌜ 512 ≤ length (now out) ⌝ }
