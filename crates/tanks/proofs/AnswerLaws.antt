@@ -1,17 +1,20 @@
 -- What stands beside the number: the tank's own answer where the call is done, the empty set or 0 where it is refused.
 use Prim.Native.Nat.{ℕ, _<_}
-use mathlib.Core.Path.{_≡_, sym, ap, _∙_}
+use mathlib.Core.Path.{_≡_, refl, sym, ap, _∙_}
 use mathlib.Core.List.{[]}
 use native.Mathlib.Omega.{arith}
 use borrow.Author.Tests.{ne-eqb}
 use Rattle.styles.specs.declared.Identity.{Identity}
+use Rattle.styles.specs.Answers.{stylesOf}
 use Rattle.tank.specs.declared.Tank.{Tank}
-use Rattle.tank.specs.Rules.{freshView, Edit, inserting, removing, refusal, insertedSet, removedFirst}
+use Rattle.tank.specs.Rules.{freshView, Edit, annotating, inserting, deleting, removing, refusal, insertedSet, removedFirst}
 use Rattle.tank.specs.State.{view}
+use Rattle.tanks.specs.declared.Done.{Done}
+use Rattle.tanks.specs.declared.Performed.{Performed}
 use Rattle.tanks.specs.declared.Tanks.{Tanks}
 use Rattle.tanks.specs.House.{tankAt, refusalAt, setInserted, firstRemoved}
 use Rattle.tanks.specs.Pool.{tankOf, meaning}
-use Rattle.tanks.specs.Contracts.{Taken}
+use Rattle.tanks.specs.Contracts.{CalledAt, Taken, setBeside, firstBeside, setAt, firstAt, PerformedAs, DoneAt}
 use Rattle.tanks.proofs.SettingLaws.{first-zero}
 use Rattle.tanks.proofs.MeaningLaws.{tank-at}
 use Rattle.tanks.proofs.CallLaws.{refusal-in}
@@ -24,20 +27,66 @@ module _ (s : Tanks) (t : ℕ) where
   pub own-view : (x : Tank) (u : ℕ) → t < 8 → u ≡ t → Taken s u x → view x ≡ tankAt (meaning s) t
   own-view x u h same taken = ap view (taken .is ∙ ap (tankOf s) same) ∙ sym (tank-at s t freshView h)
 
-  pub set-done : (pos len : ℕ) (x : Tank) (u : ℕ) → t < 8 → u ≡ t → Taken s u x → refusalAt (meaning s) t (inserting pos len) ≡ 0
+  set-done : (pos len : ℕ) (x : Tank) (u : ℕ) → t < 8 → u ≡ t → Taken s u x → refusalAt (meaning s) t (inserting pos len) ≡ 0
       → insertedSet pos len (view x) ≡ setInserted (meaning s) t pos len
   unfolding setInserted
   set-done pos len x u h same taken z = rw (own-view x u h same taken, z, own-zero (inserting pos len) h z)
 
-  pub set-refused : (pos len : ℕ) → 0 < refusalAt (meaning s) t (inserting pos len) → [] ≡ setInserted (meaning s) t pos len
+  set-refused : (pos len : ℕ) → 0 < refusalAt (meaning s) t (inserting pos len) → [] ≡ setInserted (meaning s) t pos len
   unfolding setInserted
   set-refused pos len h = rw (ne-eqb (refusalAt (meaning s) t (inserting pos len)) 0 (λ z. omega arith))
 
-  pub first-done : (id : Identity) (last : ℕ) (x : Tank) (u : ℕ) → t < 8 → u ≡ t → Taken s u x → refusalAt (meaning s) t (removing id last) ≡ 0
+  first-done : (id : Identity) (last : ℕ) (x : Tank) (u : ℕ) → t < 8 → u ≡ t → Taken s u x → refusalAt (meaning s) t (removing id last) ≡ 0
       → removedFirst id last (view x) ≡ firstRemoved (meaning s) t id last
   unfolding firstRemoved
   first-done id last x u h same taken z = rw (own-view x u h same taken, z, own-zero (removing id last) h z)
 
-  pub first-refused : (id : Identity) (last : ℕ) → 0 < refusalAt (meaning s) t (removing id last) → 0 ≡ firstRemoved (meaning s) t id last
+  first-refused : (id : Identity) (last : ℕ) → 0 < refusalAt (meaning s) t (removing id last) → 0 ≡ firstRemoved (meaning s) t id last
   unfolding firstRemoved
   first-refused id last h = rw (ne-eqb (refusalAt (meaning s) t (removing id last)) 0 (λ z. omega arith))
+
+  -- the same for every edit
+  set-beside : (e : Edit) (x : Tank) (u : ℕ) → t < 8 → u ≡ t → Taken s u x → refusalAt (meaning s) t e ≡ 0 → setBeside e (view x) ≡ setAt (meaning s) t e
+  set-beside (annotating a b m) x u h same taken z = refl
+  set-beside (inserting pos len) x u h same taken z = set-done pos len x u h same taken z
+  set-beside (deleting a b) x u h same taken z = refl
+  set-beside (removing id last) x u h same taken z = refl
+
+  first-beside : (e : Edit) (x : Tank) (u : ℕ) → t < 8 → u ≡ t → Taken s u x → refusalAt (meaning s) t e ≡ 0 → firstBeside e (view x) ≡ firstAt (meaning s) t e
+  first-beside (annotating a b m) x u h same taken z = refl
+  first-beside (inserting pos len) x u h same taken z = refl
+  first-beside (deleting a b) x u h same taken z = refl
+  first-beside (removing id last) x u h same taken z = first-done id last x u h same taken z
+
+  no-set : (e : Edit) → 0 < refusalAt (meaning s) t e → [] ≡ setAt (meaning s) t e
+  no-set (annotating a b m) h = refl
+  no-set (inserting pos len) h = set-refused pos len h
+  no-set (deleting a b) h = refl
+  no-set (removing id last) h = refl
+
+  no-first : (e : Edit) → 0 < refusalAt (meaning s) t e → 0 ≡ firstAt (meaning s) t e
+  no-first (annotating a b m) h = refl
+  no-first (inserting pos len) h = refl
+  no-first (deleting a b) h = refl
+  no-first (removing id last) h = first-refused id last h
+
+  -- a refused edit
+  pub done-refused : (e : Edit) (v : ℕ) (r : Done) → CalledAt s t e v s → 0 < v → (r .number ≡ v) × (r .styles ≡ stylesOf []) × (r .first ≡ 0) × (r .tanks ≡ s) → DoneAt s t e r
+  done-refused e v r called h is =
+      let l : 0 < refusalAt (meaning s) t e = omega (arith, called .number-is) in
+      record {
+        called = rw (is .0, is .3) called;
+        styles-are = is .1 ∙ ap stylesOf (no-set e l);
+        first-is = is .2 ∙ no-first e l;
+      }
+
+  -- an edit that is done: the answer is the tank's own
+  pub done-by : (e : Edit) (x : Tank) (u : ℕ) (p : Performed) (next : Tanks) → t < 8 → u ≡ t → Taken s u x → PerformedAs e x p → CalledAt s t e 0 next
+      → DoneAt s t e (record { number = 0; styles = p .styles; first = p .first; tanks = next })
+  done-by e x u p next h same taken performed called =
+      let z = sym (called .number-is) in
+      record {
+        called = called;
+        styles-are = performed .styles-are ∙ ap stylesOf (set-beside e x u h same taken z);
+        first-is = performed .first-is ∙ first-beside e x u h same taken z;
+      }

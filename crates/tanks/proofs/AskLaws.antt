@@ -7,7 +7,7 @@ use Rattle.tank.specs.Rules.{View, freshView}
 use Rattle.tank.specs.State.{view}
 use Rattle.tanks.specs.declared.Tanks.{Tanks}
 use Rattle.tanks.specs.House.{tankAt, held, askNumber}
-use Rattle.tanks.specs.Pool.{noHead, tankOf, meaning, Sound}
+use Rattle.tanks.specs.Pool.{noHead, tankIn, tankOf, meaning, Sound}
 use Rattle.tanks.specs.Contracts.{answered}
 use Rattle.tanks.proofs.MeaningLaws.{tank-at, held-is}
 
@@ -21,11 +21,11 @@ module _ {A R : Type 0} (refused : ℕ → R) (given : A → R) (t : ℕ) where
 -- ---- the head says what the tank means; the code's number of the tank is u
 module _ (s : Tanks) (u t : ℕ) (same : u ≡ t) (h : t < 8) where
   pub length-said : getD (s .heads) u noHead .length ≡ tankAt (meaning s) t .length
-  unfolding tankOf view
+  unfolding tankOf tankIn view
   length-said = rw same (sym (ap (λ (v : View). v .length) (tank-at s t freshView h)))
 
   pub touched-said : getD (s .heads) u noHead .touched ≡ tankAt (meaning s) t .touched
-  unfolding tankOf view
+  unfolding tankOf tankIn view
   touched-said = rw same (sym (ap (λ (v : View). v .touched) (tank-at s t freshView h)))
 
   pub runs-said : Sound s → getD (s .heads) u noHead .runs ≡ held (meaning s) t

@@ -10,13 +10,12 @@ use Rattle.tank.specs.Rules.{View, freshView, runsHeld, Edit, after, refusal, a
 use Rattle.tank.specs.State.{view, Called}
 use Rattle.tank.proofs.Unique.{runs-held}
 use Rattle.tanks.specs.declared.Tanks.{Tanks}
-use Rattle.tanks.specs.declared.Edited.{Edited}
 use Rattle.tanks.specs.Settings.{judgement}
 use Rattle.tanks.specs.House.{House, tankAt, held, first, refusalAt, withTank, afterAt}
 use Rattle.tanks.specs.Pool.{runsIn, tankOf, meaning, Sound}
-use Rattle.tanks.specs.Contracts.{CalledAt, Taken, Settled}
+use Rattle.tanks.specs.Contracts.{CalledAt, Taken}
 use Rattle.tanks.proofs.SettingLaws.{first-zero}
-use Rattle.tanks.proofs.MeaningLaws.{tank-at, judged-is}
+use Rattle.tanks.proofs.MeaningLaws.{tank-at, judged-is, Settled}
 
 -- where the test holds the two agree, so they agree under it
 pub cond-when : {A : Type 0} (b : Bool) (x y z : A) → (b ≡ true → x ≡ y) → cond b x z ≡ cond b y z
@@ -48,7 +47,7 @@ after-done h t e z = rw z
 pub done-is : (e : Edit) (v : View) → refusal e v ≡ 0 → afterCall e v ≡ after e v
 done-is e v z = rw z
 
-module _ (s : Tanks) (t : ℕ) (e : Edit) (number : ℕ) (x : Tank) (r : Edited) (ok : Sound s) (t8 : t < 8) (called : Called e (tankOf s t) number x) (settled : Settled s t number x r) where
+module _ (s : Tanks) (t : ℕ) (e : Edit) (number : ℕ) (x : Tank) (v : ℕ) (next : Tanks) (ok : Sound s) (t8 : t < 8) (called : Called e (tankOf s t) number x) (settled : Settled s t number x v next) where
   is-view : tankAt (meaning s) t ≡ view (tankOf s t)
   is-view = tank-at s t freshView t8
 
@@ -66,31 +65,31 @@ module _ (s : Tanks) (t : ℕ) (e : Edit) (number : ℕ) (x : Tank) (r : Edited)
       sym (judged-is s ok t (x .runs))
       ∙ ap (judgement (s .settings) (held (meaning s)) t) (sym (runs-held (called .formed .laid)) ∙ ap runsHeld (is-after z))
 
-  is-number : r .number ≡ refusalAt (meaning s) t e
+  is-number : v ≡ refusalAt (meaning s) t e
   unfolding meaning
   is-number =
-      settled .number-is
+      settled .verdict-is
       ∙ first-when number _ _ is-judged
       ∙ ap (λ (n : ℕ). first n (judgement (s .settings) (held (meaning s)) t (runsHeld (after e (tankAt (meaning s) t))))) is-refusal
       ∙ sym (refusal-in (meaning s) t e t8)
 
-  is-state : meaning (r .tanks) ≡ afterAt (meaning s) t e
+  is-state : meaning next ≡ afterAt (meaning s) t e
   unfolding afterAt
   is-state =
       settled .is
-      ∙ cond-when (eqb (r .number) 0) _ _ (meaning s) (λ b. ap (withTank (meaning s) t) (is-after (first-zero number _ (sym (settled .number-is) ∙ eqb-true (r .number) 0 b))))
+      ∙ cond-when (eqb v 0) _ _ (meaning s) (λ b. ap (withTank (meaning s) t) (is-after (first-zero number _ (sym (settled .verdict-is) ∙ eqb-true v 0 b))))
       ∙ ap (λ (n : ℕ). cond (eqb n 0) (withTank (meaning s) t (after e (tankAt (meaning s) t))) (meaning s)) is-number
 
-  pub called-at : CalledAt s t e (r .number) (r .tanks)
+  pub called-at : CalledAt s t e v next
   called-at = record { number-is = is-number; is = is-state; sound = settled .sound }
 
--- an edit of this crate, call by call: the tank taken out, its own call, the tail
-pub called-by : (s : Tanks) (tank t : ℕ) (e : Edit) (x : Tank) (number : ℕ) (next : Tank) (r : Edited) → Sound s → tank < 8 → t ≡ tank
-    → Taken s t x → Called e x number next → Settled s t number next r → CalledAt s tank e (r .number) (r .tanks)
-called-by s tank t e x number next r ok h same taken called settled =
-    called-at s tank e number next r ok h
-    (subst (λ y. Called e y number next) (taken .is ∙ ap (tankOf s) same) called)
-    (subst (λ u. Settled s u number next r) same settled)
+-- the tank taken out, its own call, the tail
+pub called-by : (s : Tanks) (tank t : ℕ) (e : Edit) (x : Tank) (number : ℕ) (y : Tank) (v : ℕ) (next : Tanks) → Sound s → tank < 8 → t ≡ tank
+    → Taken s t x → Called e x number y → Settled s t number y v next → CalledAt s tank e v next
+called-by s tank t e x number y v next ok h same taken called settled =
+    called-at s tank e number y v next ok h
+    (subst (λ z. Called e z number y) (taken .is ∙ ap (tankOf s) same) called)
+    (subst (λ u. Settled s u number y v next) same settled)
 
 -- 1: the very same state
 pub called-past : (s : Tanks) (t : ℕ) (e : Edit) → Sound s → 8 ≤ t → CalledAt s t e 1 s

@@ -1,5 +1,5 @@
 -- What a state means, tank by tank; and what a tank put back does to the meaning, and that the state stays sound.
-use Prim.Native.Nat.{ℕ, zero, suc, _*_, _≤_, _<_}
+use Prim.Native.Nat.{ℕ, zero, suc, _≤_, _<_}
 use mathlib.Core.Path.{_≡_, refl, sym, ap, _∙_, subst}
 use mathlib.Core.Bool.{Bool, true, false, cond}
 use mathlib.Core.Logic.{_≢_}
@@ -9,7 +9,6 @@ use lib.Dec.{eqb}
 use borrow.Author.Tests.{eqb-true, eqb-false, eq-eqb, ne-eqb}
 use lib.ListN.{length, getD, set, length-set}
 use lib.Seq.{getD-set-same, getD-set-other, ext-getD}
-use Rattle.styles.specs.Marks.{blank}
 use Rattle.tank.specs.declared.Tank.{Tank}
 use Rattle.tank.specs.Rules.{View, freshView, runsHeld}
 use Rattle.tank.specs.State.{view, Formed}
@@ -18,9 +17,7 @@ use Rattle.tanks.specs.declared.Head.{Head}
 use Rattle.tanks.specs.declared.Tanks.{Tanks}
 use Rattle.tanks.specs.Settings.{limitOf, claims, heldAfter, judgement}
 use Rattle.tanks.specs.House.{held, first, withTank}
-use Rattle.tanks.specs.Pool.{noHead, runsIn, laid, before, tankOf, headOf, puts, meaning, Sound}
-use Rattle.tanks.specs.Contracts.{Settled}
-use Rattle.tanks.proofs.LaidLaws.{length-laid}
+use Rattle.tanks.specs.Pool.{noHead, runsIn, before, tankIn, tankOf, headOf, tableIn, puts, meaning, Sound}
 use Rattle.tanks.proofs.PutLaws.{put-length, put-blank, put-same, put-other}
 use Rattle.tanks.proofs.SettingLaws.{claims-cong, before-claims, judge-within, judge-sum, second-zero}
 
@@ -57,7 +54,7 @@ views-are s vs l h =
 
 -- runs held, by the positions and by the heads
 pub held-is : (s : Tanks) → Sound s → (u : ℕ) → u < 8 → held (meaning s) u ≡ runsIn (s .heads) u
-unfolding tankOf
+unfolding tankOf tankIn
 held-is s ok u h = ap runsHeld (tank-at s u freshView h) ∙ runs-held (ok .each u h .laid)
 
 pub judged-is : (s : Tanks) → Sound s → (t n : ℕ) → judgement (s .settings) (held (meaning s)) t n ≡ judgement (s .settings) (runsIn (s .heads)) t n
@@ -96,8 +93,8 @@ module _ (s : Tanks) (t : ℕ) (x : Tank) (ok : Sound s) (t8 : t < 8) (formed : 
   put-sound = record {
     settings-8 = ok .settings-8;
     heads-8 = length-set (s .heads) t (headOf x) ∙ ok .heads-8;
+    tables-8 = length-set (s .tables) t (tableIn x) ∙ ok .tables-8;
     pool-512 = put-length s t x ok t8 formed room;
-    marks-512 = length-laid (s .marks) (64 * t) (λ k. getD (x .table) k blank) 64 ∙ ok .marks-512;
     rule = ok .rule;
     limits = λ u h. rw (runs-next u)
         (at-each (λ v. heldAfter (runsIn (s .heads)) t (x .runs) v ≤ limitOf (s .settings) v) t u
@@ -126,12 +123,19 @@ module _ (s : Tanks) (t : ℕ) (x : Tank) (ok : Sound s) (t8 : t < 8) (formed : 
   unfolding meaning puts
   put-means = λ i. record { settings = s .settings; tanks = put-views i }
 
+-- ---- the tail of an edit
+-- tank t has become x, unless its own call was refused by `number` or the judgement refuses it
+pub record Settled (s : Tanks) (t number : ℕ) (x : Tank) (verdict : ℕ) (next : Tanks) : Type 0 where
+  pub verdict-is : verdict ≡ first number (judgement (s .settings) (runsIn (s .heads)) t (x .runs))
+  pub is : meaning next ≡ cond (eqb verdict 0) (withTank (meaning s) t (view x)) (meaning s)
+  pub sound : Sound next
+
 pub settled-refused : (s : Tanks) (t number : ℕ) (x : Tank) (v : ℕ) → Sound s
-    → v ≡ first number (judgement (s .settings) (runsIn (s .heads)) t (x .runs)) → 0 < v → Settled s t number x (record { number = v; tanks = s })
-settled-refused s t number x v ok e h = record { number-is = e; is = rw (ne-eqb v 0 (λ z. omega arith)); sound = ok }
+    → v ≡ first number (judgement (s .settings) (runsIn (s .heads)) t (x .runs)) → 0 < v → Settled s t number x v s
+settled-refused s t number x v ok e h = record { verdict-is = e; is = rw (ne-eqb v 0 (λ z. omega arith)); sound = ok }
 
 pub settled-done : (s : Tanks) (t number : ℕ) (x : Tank) → Sound s → t < 8 → Formed x
-    → first number (judgement (s .settings) (runsIn (s .heads)) t (x .runs)) ≡ 0 → Settled s t number x (record { number = 0; tanks = puts s t x })
+    → first number (judgement (s .settings) (runsIn (s .heads)) t (x .runs)) ≡ 0 → Settled s t number x 0 (puts s t x)
 settled-done s t number x ok t8 formed z =
     let j = second-zero number (judgement (s .settings) (runsIn (s .heads)) t (x .runs)) z in
-    record { number-is = sym z; is = put-means s t x ok t8 formed j; sound = put-sound s t x ok t8 formed j }
+    record { verdict-is = sym z; is = put-means s t x ok t8 formed j; sound = put-sound s t x ok t8 formed j }

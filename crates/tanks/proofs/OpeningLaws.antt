@@ -1,11 +1,10 @@
 -- A fresh state: eight fresh tanks, sound.
-use Prim.Native.Nat.{ℕ, zero, suc, _+_, _*_, _≤_, _<_}
+use Prim.Native.Nat.{ℕ, zero, suc, _+_, _≤_, _<_}
 use mathlib.Core.Path.{_≡_, refl, sym, ap, _∙_, subst}
 use mathlib.Core.Bool.{true, false}
 use mathlib.Core.List.{List}
 use native.Mathlib.Omega.{arith}
 use lib.ListN.{length, getD, set, replicate, getD-replicate}
-use lib.Seq.{ext-getD}
 use Rattle.styles.specs.Marks.{blank}
 use Rattle.runs.specs.Runs.{Spare}
 use Rattle.tank.specs.declared.Tank.{Tank}
@@ -16,9 +15,10 @@ use Rattle.tank.proofs.FreshLaws as tank
 use Rattle.tanks.specs.declared.Setting.{Setting}
 use Rattle.tanks.specs.declared.Head.{Head}
 use Rattle.tanks.specs.declared.Run as pool
+use Rattle.tanks.specs.declared.Table.{Table}
 use Rattle.tanks.specs.Settings.{accepted, fit, shares, claims}
 use Rattle.tanks.specs.House.{one, openNumber, opening}
-use Rattle.tanks.specs.Pool.{noHead, noRun, runsIn, laid, before, tankOf, headOf, meaning, Sound, freshly}
+use Rattle.tanks.specs.Pool.{noHead, noRun, noTable, runsIn, laid, before, tankIn, tankOf, headOf, tableIn, meaning, Sound, freshly}
 use Rattle.tanks.specs.Contracts.{Opens}
 use Rattle.tanks.proofs.LaidLaws.{length-laid, laid-front, laid-out, blank-at}
 use Rattle.tanks.proofs.PutLaws.{tank-eq}
@@ -56,17 +56,8 @@ module _ (st : List Setting) where
       let e : before eight u + 0 ≡ u = omega (arith, before-one u (omega arith)) in
       rw e (laid-front (replicate 512 noRun) (λ _. record { len = T; set = 0 }) 8 u noRun (omega arith) h)
 
-  no-marks : (u : ℕ) → laid (replicate 64 blank) 0 (λ k. getD (replicate 512 blank) (64 * u + k) blank) 64 ≡ replicate 64 blank
-  no-marks u =
-      ext-getD blank (laid (replicate 64 blank) 0 (λ k. getD (replicate 512 blank) (64 * u + k) blank) 64) (replicate 64 blank) (length-laid (replicate 64 blank) 0 _ 64)
-      (λ k h.
-      let l : k < 64 = omega (arith, length-laid (replicate 64 blank) 0 (λ k. getD (replicate 512 blank) (64 * u + k) blank) 64) in
-      laid-front (replicate 64 blank) (λ k. getD (replicate 512 blank) (64 * u + k) blank) 64 k blank (omega arith) l
-      ∙ blank-at 512 (64 * u + k) blank
-      ∙ sym (blank-at 64 k blank))
-
   pub tank-fresh : (u : ℕ) → u < 8 → tankOf (freshly st) u ≡ fresh
-  unfolding tankOf freshly laid eight
+  unfolding tankOf tankIn freshly laid eight
   tank-fresh u h =
       let e = getD-replicate 8 u (headOf fresh) noHead h in
       tank-eq (tankOf (freshly st) u) fresh
@@ -76,7 +67,7 @@ module _ (st : List Setting) where
       (ap (λ (x : Head). x .marks) e)
       (rw (runs-one u h) (ap (λ (r : pool.Run). set (replicate 514 0) 0 (r .len)) (run-fresh u h)))
       (rw (runs-one u h) (ap (λ (r : pool.Run). set (replicate 514 0) 0 (r .set)) (run-fresh u h)))
-      (no-marks u)
+      (ap (λ (m : Table). m .marks) (getD-replicate 8 u (tableIn fresh) noTable h))
 
   pub means-fresh : meaning (freshly st) .tanks ≡ replicate 8 freshView
   means-fresh =
@@ -94,8 +85,8 @@ module _ (st : List Setting) where
     fresh-sound = record {
       settings-8 = l;
       heads-8 = refl;
+      tables-8 = refl;
       pool-512 = length-laid (replicate 512 noRun) 0 (λ _. record { len = T; set = 0 }) 8;
-      marks-512 = refl;
       rule = ok;
       limits = λ u h. omega (arith, runs-one u h, accepted-at st ok u h);
       sum = omega (arith, claims-one 8 (omega arith), accepted-sum st ok);

@@ -1,5 +1,5 @@
 -- What `puts` does to the tanks: tank t becomes x, and every other tank stays.
-use Prim.Native.Nat.{ℕ, _+_, _-_, _*_, _≤_, _<_, max}
+use Prim.Native.Nat.{ℕ, _+_, _-_, _≤_, _<_, max}
 use mathlib.Core.Path.{_≡_, sym, ap, _∙_}
 use mathlib.Core.Logic.{_≢_}
 use mathlib.Core.List.{List}
@@ -11,11 +11,11 @@ use lib.Seq.{getD-set-same, getD-set-other, ext-getD}
 use Rattle.tanks.specs.declared.Head.{Head}
 use Rattle.tanks.specs.declared.Run.{Run}
 use Rattle.tank.specs.declared.Tank.{Tank}
+use Rattle.tanks.specs.declared.Table.{Table}
 use Rattle.tanks.specs.declared.Tanks.{Tanks}
-use Rattle.styles.specs.Marks.{blank}
 use Rattle.runs.specs.Runs.{Spare}
 use Rattle.tank.specs.State.{Formed}
-use Rattle.tanks.specs.Pool.{noRun, noHead, runsIn, laid, before, tankOf, headOf, runOf, runFrom, puts, Sound}
+use Rattle.tanks.specs.Pool.{noRun, noHead, noTable, runsIn, laid, before, tankIn, tankOf, headOf, tableIn, runOf, runFrom, puts, Sound}
 use Rattle.tanks.proofs.SettingLaws.{sound-held}
 use Rattle.tanks.proofs.LaidLaws.{length-laid, laid-out, laid-in, laid-front, laid-cong, blank-at, before-next, before-same, before-later}
 
@@ -135,24 +135,8 @@ module _ (s : Tanks) (t : ℕ) (x : Tank) (ok : Sound s) (t8 : t < 8) (formed : 
         | no h ↦ laid-out (replicate 514 0) 0 f (x .runs) k 0 (λ j g i. omega arith) ∙ blank-at 514 k 0 ∙ sym (spare k (omega arith))
       ])
 
-  -- the marks of the tank put, and of another
-  put-table : laid (replicate 64 blank) 0 (λ k. getD (puts s t x .marks) (64 * t + k) blank) 64 ≡ x .table
-  unfolding puts
-  put-table =
-      ext-getD blank (laid (replicate 64 blank) 0 (λ k. getD (puts s t x .marks) (64 * t + k) blank) 64) (x .table) (length-laid (replicate 64 blank) 0 _ 64 ∙ sym (formed .laid .table-64))
-      (λ k h.
-      let l : k < 64 = omega (arith, length-laid (replicate 64 blank) 0 (λ k. getD (puts s t x .marks) (64 * t + k) blank) 64) in
-      laid-front (replicate 64 blank) (λ k. getD (puts s t x .marks) (64 * t + k) blank) 64 k blank (omega arith) l
-      ∙ laid-in (s .marks) (64 * t) (λ k. getD (x .table) k blank) 64 k blank (omega (arith, ok .marks-512)) l)
-
-  kept-table : (u : ℕ) → u ≢ t → laid (replicate 64 blank) 0 (λ k. getD (puts s t x .marks) (64 * u + k) blank) 64 ≡ laid (replicate 64 blank) 0 (λ k. getD (s .marks) (64 * u + k) blank) 64
-  unfolding puts
-  kept-table u ne =
-      laid-cong (replicate 64 blank) 0 _ _ 64
-      (λ k h. laid-out (s .marks) (64 * t) (λ k. getD (x .table) k blank) 64 (64 * u + k) blank (λ j g i. ne (omega arith)))
-
   pub put-same : tankOf (puts s t x) t ≡ x
-  unfolding tankOf puts Spare
+  unfolding tankOf tankIn puts Spare
   put-same =
       let r : runsIn (set (s .heads) t (headOf x)) t ≡ x .runs = ap (λ (h : Head). h .runs) head-same in
       let few : x .runs ≤ 514 = omega (arith, fits) in
@@ -163,10 +147,10 @@ module _ (s : Tanks) (t : ℕ) (x : Tank) (ok : Sound s) (t8 : t < 8) (formed : 
       (ap (λ (h : Head). h .marks) head-same)
       (rw r (array (x .lens) (λ k. getD (puts s t x .pool) (before (puts s t x .heads) t + k) noRun .len) (formed .laid .lens-514) few (λ k h. ap (λ (r : Run). r .len) (put-run k h)) (λ k h. formed .laid .spare k h .0)))
       (rw r (array (x .sets) (λ k. getD (puts s t x .pool) (before (puts s t x .heads) t + k) noRun .set) (formed .laid .sets-514) few (λ k h. ap (λ (r : Run). r .set) (put-run k h)) (λ k h. formed .laid .spare k h .1)))
-      put-table
+      (ap (λ (m : Table). m .marks) (getD-set-same (s .tables) t (tableIn x) noTable (omega (arith, ok .tables-8))))
 
   pub put-other : (u : ℕ) → u ≢ t → u < 8 → tankOf (puts s t x) u ≡ tankOf s u
-  unfolding tankOf puts
+  unfolding tankOf tankIn puts
   put-other u ne u8 =
       let e : getD (set (s .heads) t (headOf x)) u noHead ≡ getD (s .heads) u noHead = getD-set-other (s .heads) t u (headOf x) noHead ne in
       let r : runsIn (set (s .heads) t (headOf x)) u ≡ runsIn (s .heads) u = ap (λ (h : Head). h .runs) e in
@@ -177,4 +161,4 @@ module _ (s : Tanks) (t : ℕ) (x : Tank) (ok : Sound s) (t8 : t < 8) (formed : 
       (ap (λ (h : Head). h .marks) e)
       (rw r (laid-cong (replicate 514 0) 0 _ _ (runsIn (s .heads) u) (λ k h. ap (λ (r : Run). r .len) (moved u ne u8 k h))))
       (rw r (laid-cong (replicate 514 0) 0 _ _ (runsIn (s .heads) u) (λ k h. ap (λ (r : Run). r .set) (moved u ne u8 k h))))
-      (kept-table u ne)
+      (ap (λ (m : Table). m .marks) (getD-set-other (s .tables) t u (tableIn x) noTable ne))

@@ -13,7 +13,7 @@ use Rattle.tanks.specs.declared.Setting.{Setting}
 use Rattle.tanks.specs.declared.Head.{Head}
 use Rattle.tanks.specs.declared.Tanks.{Tanks}
 use Rattle.tanks.specs.House.{first}
-use Rattle.tanks.specs.Pool.{runsIn, before, tankOf, Sound}
+use Rattle.tanks.specs.Pool.{tankIn, runsIn, before, tankOf, Sound}
 use Rattle.tanks.specs.Settings.{noSetting, shareOf, limitOf, fits, fit, shares, accepted, claims, heldAfter, judgement}
 use Rattle.tank.specs.declared.Tank.{Tank}
 use Rattle.tanks.specs.Contracts.{Taken, Judged, Small}
@@ -131,7 +131,7 @@ module _ (s : Tanks) (ok : Sound s) where
   sound-place t h = omega (arith, sound-held, before-next (s .heads) t 8 h)
 
   few : (t : ℕ) → t < 8 → tankOf s t .runs ≤ 512
-  unfolding tankOf
+  unfolding tankOf tankIn
   few t h = omega (arith, sound-place t h)
 
   pub taken : (t : ℕ) (x : Tank) → t < 8 → x ≡ tankOf s t → Taken s t x

@@ -1,5 +1,5 @@
--- What the two loops of `settle` do to the state, step by step, and that their places are inside the arrays.
-use Prim.Native.Nat.{ℕ, suc, _+_, _-_, _*_, _≤_, _<_}
+-- What the loop of `edit` does to the state, step by step, and that its places are inside the arrays.
+use Prim.Native.Nat.{ℕ, suc, _+_, _-_, _≤_, _<_}
 use mathlib.Core.Path.{_≡_, refl, sym, ap, _∙_}
 use mathlib.Core.Bool.{Bool, true, false, cond}
 use mathlib.Core.List.{List}
@@ -8,25 +8,21 @@ use lib.Dec.{ltb}
 use native.Mathlib.Numerals.{add-one}
 use borrow.Author.Tests.{lt-ltb, le-ltb, ltb-true, ltb-false}
 use lib.ListN.{length, getD, set}
-use Rattle.styles.specs.Marks.{blank}
-use Rattle.styles.specs.declared.Mark.{Mark}
 use Rattle.tank.specs.declared.Tank.{Tank}
 use Rattle.tank.specs.State.{Formed}
+use Rattle.tanks.specs.declared.Head.{Head}
 use Rattle.tanks.specs.declared.Run.{Run}
 use Rattle.tanks.specs.declared.Spots.{Spots}
 use Rattle.tanks.specs.declared.Tanks.{Tanks}
 use Rattle.tanks.specs.Settings.{judgement}
 use Rattle.tanks.specs.House.{first}
-use Rattle.tanks.specs.Pool.{noRun, runsIn, laid, headOf, runOf, runFrom, spotsOf, puts, Sound}
+use Rattle.tanks.specs.Pool.{noRun, runsIn, laid, headOf, tableIn, runOf, runFrom, spotsOf, puts, Sound}
 use Rattle.tanks.proofs.LaidLaws.{laid-out, laid-more, laid-back, laid-cong, before-next, before-later}
 use Rattle.tanks.proofs.SettingLaws.{sound-held, second-zero}
 use Rattle.tanks.proofs.MeaningLaws.{room}
 
 abbrev pub withPool : Tanks → List Run → Tanks
-withPool s p = record { settings = s .settings; heads = s .heads; pool = p; marks = s .marks }
-
-abbrev pub withMarks : Tanks → List Mark → Tanks
-withMarks s m = record { settings = s .settings; heads = s .heads; pool = s .pool; marks = m }
+withPool s p = record { settings = s .settings; heads = s .heads; tables = s .tables; pool = p }
 
 -- ---- part of the runs written: k of them from the lo-th on
 abbrev pub part : List Run → ℕ → (ℕ → Run) → ℕ → ℕ → List Run
@@ -88,11 +84,6 @@ part-all p at f back count =
     all-by true e = rw e
     all-by false e = refl
 
--- one mark written
-pub mark-step : (s now : Tanks) (p : List Mark) (at : ℕ) (f : ℕ → Mark) (k : ℕ) → now ≡ withMarks s (laid p at f k)
-    → withMarks now (set (now .marks) (at + k) (f k)) ≡ withMarks s (laid p at f (k + 1))
-mark-step s now p at f k e = rw e (ap (withMarks s) (laid-more p at f k))
-
 -- ---- which run is written
 module _ (pool : List Run) (x : Tank) (from full k : ℕ) where
   pub run-own : k < x .runs → runOf (x .lens) (x .sets) k ≡ runFrom pool x from full k
@@ -140,9 +131,8 @@ module _ (s : Tanks) (t number : ℕ) (x : Tank) (ok : Sound s) (t8 : t < 8) (fo
       })
 
 -- the state at the end
-pub put-at-last : (s a b : Tanks) (t : ℕ) (x : Tank) (r : Spots) → r ≡ spotsOf (s .heads) t (x .runs)
+pub put-at-last : (s a : Tanks) (t : ℕ) (x : Tank) (r : Spots) (h : Head) → r ≡ spotsOf (s .heads) t (x .runs) → h ≡ headOf x
     → a ≡ withPool s (laid (s .pool) (r .at) (runFrom (s .pool) x (r .from) (r .full)) (r .count))
-    → b ≡ withMarks a (laid (a .marks) (64 * t) (λ k. getD (x .table) k blank) 64)
-    → record { settings = b .settings; heads = set (b .heads) t (headOf x); pool = b .pool; marks = b .marks } ≡ puts s t x
+    → record { settings = a .settings; heads = set (a .heads) t h; tables = set (a .tables) t (tableIn x); pool = a .pool } ≡ puts s t x
 unfolding puts
-put-at-last s a b t x r g e f = rw (f, e, g)
+put-at-last s a t x r h g i e = rw (e, g, i)

@@ -1,5 +1,5 @@
 -- One meaning, one state.
-use Prim.Native.Nat.{ℕ, zero, suc, _+_, _-_, _*_, _≤_, _<_}
+use Prim.Native.Nat.{ℕ, zero, suc, _+_, _-_, _≤_, _<_}
 use mathlib.Core.Path.{_≡_, sym, ap, _∙_}
 use mathlib.Core.List.{List}
 use native.Mathlib.Omega.{arith}
@@ -9,7 +9,7 @@ use lib.Seq.{ext-getD}
 use Rattle.tanks.specs.declared.Setting.{Setting}
 use Rattle.tanks.specs.declared.Head.{Head}
 use Rattle.tanks.specs.declared.Run.{Run}
-use Rattle.styles.specs.Marks.{blank}
+use Rattle.tanks.specs.declared.Table.{Table}
 use Rattle.tank.specs.declared.Tank.{Tank}
 use Rattle.styles.specs.declared.Identity.{Identity}
 use Rattle.styles.specs.Answers.{stylesOf}
@@ -21,7 +21,7 @@ use Rattle.tanks.specs.declared.Edited.{Edited}
 use Rattle.tanks.specs.declared.Inserted.{Inserted}
 use Rattle.tanks.specs.declared.Removed.{Removed}
 use Rattle.tanks.specs.House.{House, setInserted, firstRemoved}
-use Rattle.tanks.specs.Pool.{noHead, noRun, runsIn, before, tankOf, meaning, Sound}
+use Rattle.tanks.specs.Pool.{noHead, noRun, noTable, runsIn, before, tankIn, tankOf, meaning, Sound}
 use Rattle.tanks.specs.Contracts.{Opens, CalledAt}
 use Rattle.tanks.proofs.LaidLaws.{laid-front}
 use Rattle.tanks.proofs.SettingLaws.{sound-place}
@@ -33,6 +33,9 @@ head-eq a b p q r s = λ i. record { touched = p i; length = q i; runs = r i; ma
 
 run-eq : (a b : Run) → a .len ≡ b .len → a .set ≡ b .set → a ≡ b
 run-eq a b p q = λ i. record { len = p i; set = q i }
+
+table-eq : (a b : Table) → a .marks ≡ b .marks → a ≡ b
+table-eq a b p = λ i. record { marks = p i }
 
 -- the tank that holds place k
 record Place (hs : List Head) (n k : ℕ) : Type 0 where
@@ -51,25 +54,9 @@ place hs (suc n) k h =
       | no l ↦ record { tank = n; at = k - before hs n; below = omega arith; inside = omega arith; is = omega arith }
     ]
 
--- the tank whose table holds place k
-record Cell (n k : ℕ) : Type 0 where
-  tank : ℕ
-  at : ℕ
-  below : tank < n
-  inside : at < 64
-  is : k ≡ 64 * tank + at
-
-cell : (n k : ℕ) → k < 64 * n → Cell n k
-cell zero k h = absurd (omega arith)
-cell (suc n) k h =
-    elim (decLt k (64 * n)) [
-      | yes l ↦ let p = cell n k l in record { tank = p .tank; at = p .at; below = omega (arith, p .below); inside = p .inside; is = p .is }
-      | no l ↦ record { tank = n; at = k - 64 * n; below = omega arith; inside = omega arith; is = omega arith }
-    ]
-
 module _ (a b : Tanks) (sa : Sound a) (sb : Sound b) (same : (u : ℕ) → u < 8 → tankOf a u ≡ tankOf b u) where
   heads-same : a .heads ≡ b .heads
-  unfolding tankOf
+  unfolding tankOf tankIn
   heads-same =
       ext-getD noHead (a .heads) (b .heads) (sa .heads-8 ∙ sym (sb .heads-8))
       (λ u h.
@@ -82,7 +69,7 @@ module _ (a b : Tanks) (sa : Sound a) (sb : Sound b) (same : (u : ℕ) → u < 8
 
   run-same : (u : ℕ) → u < 8 → (j : ℕ) → j < runsIn (a .heads) u
       → getD (a .pool) (before (a .heads) u + j) noRun ≡ getD (b .pool) (before (b .heads) u + j) noRun
-  unfolding tankOf
+  unfolding tankOf tankIn
   run-same u h j g =
       let r : runsIn (a .heads) u ≡ runsIn (b .heads) u = ap (λ (x : List Head). runsIn x u) heads-same in
       let m : runsIn (a .heads) u ≤ 514 = omega (arith, sound-place a sa u h) in
@@ -108,20 +95,14 @@ module _ (a b : Tanks) (sa : Sound a) (sb : Sound b) (same : (u : ℕ) → u < 8
             sa .spare k (omega arith) ∙ sym (sb .spare k (omega arith))
       ])
 
-  mark-same : (u : ℕ) → u < 8 → (j : ℕ) → j < 64 → getD (a .marks) (64 * u + j) blank ≡ getD (b .marks) (64 * u + j) blank
-  unfolding tankOf
-  mark-same u h j g =
-      sym (laid-front (replicate 64 blank) (λ k. getD (a .marks) (64 * u + k) blank) 64 j blank (omega arith) g)
-      ∙ ap (λ (x : Tank). getD (x .table) j blank) (same u h)
-      ∙ laid-front (replicate 64 blank) (λ k. getD (b .marks) (64 * u + k) blank) 64 j blank (omega arith) g
-
-  marks-same : a .marks ≡ b .marks
-  marks-same =
-      ext-getD blank (a .marks) (b .marks) (sa .marks-512 ∙ sym (sb .marks-512))
-      (λ k h. let p = cell 8 k (omega (arith, sa .marks-512)) in rw (p .is) (mark-same (p .tank) (p .below) (p .at) (p .inside)))
+  tables-same : a .tables ≡ b .tables
+  unfolding tankOf tankIn
+  tables-same =
+      ext-getD noTable (a .tables) (b .tables) (sa .tables-8 ∙ sym (sb .tables-8))
+      (λ u h. table-eq (getD (a .tables) u noTable) (getD (b .tables) u noTable) (ap (λ (x : Tank). x .table) (same u (omega (arith, sa .tables-8)))))
 
   pub one-state : a .settings ≡ b .settings → a ≡ b
-  one-state e = λ i. record { settings = e i; heads = heads-same i; pool = pool-same i; marks = marks-same i }
+  one-state e = λ i. record { settings = e i; heads = heads-same i; tables = tables-same i; pool = pool-same i }
 
 -- ---- two sound states with one meaning are equal
 pub unique : (a b : Tanks) → Sound a → Sound b → meaning a ≡ meaning b → a ≡ b

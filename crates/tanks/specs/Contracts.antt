@@ -2,20 +2,24 @@
 use Prim.Native.Nat.{ℕ, _≤_, _<_}
 use mathlib.Core.Path.{_≡_}
 use mathlib.Core.Bool.{Bool, true, cond}
-use mathlib.Core.List.{List}
+use mathlib.Core.List.{List, []}
 use lib.Dec.{eqb}
+use Rattle.styles.specs.declared.Mark.{Mark}
+use Rattle.styles.specs.Answers.{stylesOf}
 use Rattle.tank.specs.declared.Tank.{Tank}
-use Rattle.tank.specs.Rules.{Edit}
+use Rattle.tank.specs.Rules.{View, Edit, annotating, inserting, deleting, removing, insertedSet, removedFirst}
 use Rattle.tank.specs.State as state
 use Rattle.tanks.specs.declared.Setting.{Setting}
 use Rattle.tanks.specs.declared.Head.{Head}
 use Rattle.tanks.specs.declared.Tanks.{Tanks}
 use Rattle.tanks.specs.declared.Opened.{Opened}
-use Rattle.tanks.specs.declared.Edited.{Edited}
+use Rattle.tanks.specs.declared.Edit as code
+use Rattle.tanks.specs.declared.Performed.{Performed}
+use Rattle.tanks.specs.declared.Done.{Done}
 use Rattle.tanks.specs.declared.Count.{Count}
 use Rattle.tanks.specs.declared.YesNo.{YesNo}
 use Rattle.tanks.specs.Settings.{accepted, shareOf, limitOf, judgement}
-use Rattle.tanks.specs.House.{openNumber, opening, first, refusalAt, withTank, afterAt}
+use Rattle.tanks.specs.House.{House, openNumber, opening, refusalAt, afterAt, setInserted, firstRemoved}
 use Rattle.tanks.specs.Pool.{runsIn, tankOf, meaning, Sound}
 
 -- ---- Public functions
@@ -58,14 +62,47 @@ pub record Small (st : List Setting) (hs : List Head) (n : ℕ) : Type 0 where
   pub runs : (t : ℕ) → t < 8 → runsIn hs t ≤ 512
   pub more : n ≤ 512
 
--- what the tail of an edit asks
-pub record Settles (s : Tanks) (t : ℕ) (x : Tank) : Type 0 where
-  pub tank : t < 8
-  pub sound : Sound s
-  pub formed : state.Formed x
+-- an edit as the rules have it
+abbrev pub editOf : code.Edit → Edit
+editOf (code.Edit.Annotate start end mark) = annotating start end mark
+editOf (code.Edit.Insert pos len) = inserting pos len
+editOf (code.Edit.Delete start end) = deleting start end
+editOf (code.Edit.Remove id last) = removing id last
 
--- tank t becomes x, unless its edit was refused or the judgement refuses it
-pub record Settled (s : Tanks) (t number : ℕ) (x : Tank) (r : Edited) : Type 0 where
-  pub number-is : r .number ≡ first number (judgement (s .settings) (runsIn (s .heads)) t (x .runs))
-  pub is : meaning (r .tanks) ≡ cond (eqb (r .number) 0) (withTank (meaning s) t (state.view x)) (meaning s)
-  pub sound : Sound (r .tanks)
+-- what stands beside the number of one tank's own call: the set of an insertion, the first position of a removal
+abbrev pub setBeside : Edit → View → List Mark
+setBeside (annotating a b m) v = []
+setBeside (inserting pos len) v = insertedSet pos len v
+setBeside (deleting a b) v = []
+setBeside (removing id last) v = []
+
+abbrev pub firstBeside : Edit → View → ℕ
+firstBeside (annotating a b m) v = 0
+firstBeside (inserting pos len) v = 0
+firstBeside (deleting a b) v = 0
+firstBeside (removing id last) v = removedFirst id last v
+
+-- and beside that of a call on one of eight
+abbrev pub setAt : House → ℕ → Edit → List Mark
+setAt h t (annotating a b m) = []
+setAt h t (inserting pos len) = setInserted h t pos len
+setAt h t (deleting a b) = []
+setAt h t (removing id last) = []
+
+abbrev pub firstAt : House → ℕ → Edit → ℕ
+firstAt h t (annotating a b m) = 0
+firstAt h t (inserting pos len) = 0
+firstAt h t (deleting a b) = 0
+firstAt h t (removing id last) = firstRemoved h t id last
+
+-- what an edit of a tank taken out hands back
+pub record PerformedAs (e : Edit) (x : Tank) (r : Performed) : Type 0 where
+  pub called : state.Called e x (r .number) (r .tank)
+  pub styles-are : r .styles ≡ stylesOf (setBeside e (state.view x))
+  pub first-is : r .first ≡ firstBeside e (state.view x)
+
+-- what an edit of tank t hands back
+pub record DoneAt (s : Tanks) (t : ℕ) (e : Edit) (r : Done) : Type 0 where
+  pub called : CalledAt s t e (r .number) (r .tanks)
+  pub styles-are : r .styles ≡ stylesOf (setAt (meaning s) t e)
+  pub first-is : r .first ≡ firstAt (meaning s) t e

@@ -1,5 +1,5 @@
--- How eight tanks stand in one state: their runs packed one tank after another, their marks 64 places a tank.
-use Prim.Native.Nat.{ℕ, zero, suc, _+_, _-_, _*_, _≤_, _<_, max}
+-- How eight tanks stand in one state: a head and a table of marks for each, and their runs packed one tank after another.
+use Prim.Native.Nat.{ℕ, zero, suc, _+_, _-_, _≤_, _<_, max}
 use mathlib.Core.Path.{_≡_}
 use mathlib.Core.Bool.{true, false, cond}
 use mathlib.Core.List.{List, [], _∷_, map}
@@ -13,6 +13,7 @@ use Rattle.tanks.specs.declared.Setting.{Setting}
 use Rattle.tanks.specs.declared.Head.{Head}
 use Rattle.tanks.specs.declared.Run.{Run}
 use Rattle.tanks.specs.declared.Spots.{Spots}
+use Rattle.tanks.specs.declared.Table.{Table}
 use Rattle.tanks.specs.declared.Tanks.{Tanks}
 use Rattle.tanks.specs.Settings.{accepted, limitOf, claims}
 use Rattle.tanks.specs.House.{House}
@@ -23,6 +24,9 @@ noRun = record { len = 0; set = 0 }
 
 abbrev pub noHead : Head
 noHead = record { touched = false; length = 0; runs = 0; marks = 0 }
+
+abbrev pub noTable : Table
+noTable = record { marks = [] }
 
 -- how many runs tank t holds, by its head
 abbrev pub runsIn : List Head → ℕ → ℕ
@@ -39,16 +43,19 @@ before hs zero = 0
 before hs (suc t) = before hs t + runsIn hs t
 
 -- tank t on its own: its head, its runs' lengths and sets with zeros behind them, and its marks
-unfoldable pub tankOf : Tanks → ℕ → Tank
-tankOf s t = record {
-  touched = getD (s .heads) t noHead .touched;
-  length = getD (s .heads) t noHead .length;
-  runs = runsIn (s .heads) t;
-  marks = getD (s .heads) t noHead .marks;
-  lens = laid (replicate 514 0) 0 (λ k. getD (s .pool) (before (s .heads) t + k) noRun .len) (runsIn (s .heads) t);
-  sets = laid (replicate 514 0) 0 (λ k. getD (s .pool) (before (s .heads) t + k) noRun .set) (runsIn (s .heads) t);
-  table = laid (replicate 64 blank) 0 (λ k. getD (s .marks) (64 * t + k) blank) 64;
+unfoldable pub tankIn : List Head → List Run → Table → ℕ → Tank
+tankIn hs pool table t = record {
+  touched = getD hs t noHead .touched;
+  length = getD hs t noHead .length;
+  runs = runsIn hs t;
+  marks = getD hs t noHead .marks;
+  lens = laid (replicate 514 0) 0 (λ k. getD pool (before hs t + k) noRun .len) (runsIn hs t);
+  sets = laid (replicate 514 0) 0 (λ k. getD pool (before hs t + k) noRun .set) (runsIn hs t);
+  table = table .marks;
 }
+
+unfoldable pub tankOf : Tanks → ℕ → Tank
+tankOf s t = tankIn (s .heads) (s .pool) (getD (s .tables) t noTable) t
 
 -- the tanks' numbers
 abbrev pub numbers : List ℕ
@@ -62,8 +69,8 @@ meaning s = record { settings = s .settings; tanks = map (λ t. view (tankOf s t
 pub record Sound (s : Tanks) : Type 0 where
   pub settings-8 : length (s .settings) ≡ 8
   pub heads-8 : length (s .heads) ≡ 8
+  pub tables-8 : length (s .tables) ≡ 8
   pub pool-512 : length (s .pool) ≡ 512
-  pub marks-512 : length (s .marks) ≡ 512
   pub rule : accepted (s .settings) ≡ true
   pub limits : (t : ℕ) → t < 8 → runsIn (s .heads) t ≤ limitOf (s .settings) t
   pub sum : claims (s .settings) (runsIn (s .heads)) 8 ≤ 512
@@ -71,9 +78,12 @@ pub record Sound (s : Tanks) : Type 0 where
   pub spare : (k : ℕ) → before (s .heads) 8 ≤ k → getD (s .pool) k noRun ≡ noRun
 
 -- ---- A tank put back
--- a tank's head, and its k-th run
+-- a tank's head, its table, and its k-th run
 abbrev pub headOf : Tank → Head
 headOf x = record { touched = x .touched; length = x .length; runs = x .runs; marks = x .marks }
+
+abbrev pub tableIn : Tank → Table
+tableIn x = record { marks = x .table }
 
 abbrev pub runOf : List ℕ → List ℕ → ℕ → Run
 runOf lens sets k = record { len = getD lens k 0; set = getD sets k 0 }
@@ -101,8 +111,8 @@ unfoldable pub puts : Tanks → ℕ → Tank → Tanks
 puts s t x = record {
   settings = s .settings;
   heads = set (s .heads) t (headOf x);
+  tables = set (s .tables) t (tableIn x);
   pool = poolWith (s .pool) (spotsOf (s .heads) t (x .runs)) x;
-  marks = laid (s .marks) (64 * t) (λ k. getD (x .table) k blank) 64;
 }
 
 -- ---- Eight fresh tanks, packed
@@ -110,6 +120,6 @@ unfoldable pub freshly : List Setting → Tanks
 freshly st = record {
   settings = st;
   heads = replicate 8 (record { touched = false; length = freshLength; runs = 1; marks = 0 });
+  tables = replicate 8 (record { marks = replicate 64 blank });
   pool = laid (replicate 512 noRun) 0 (λ _. record { len = freshLength; set = 0 }) 8;
-  marks = replicate 512 blank;
 }

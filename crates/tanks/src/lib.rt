@@ -3,15 +3,17 @@ mod settings; // settings.rt: shares and limits
 mod pool; // pool.rt: the tanks' runs and marks in one state
 
 ghost use mathlib.Core.Path.{_≡_};
+ghost use mathlib.Core.List.{[]};
 ghost use Prim.Native.Nat.{_<_};
 ghost use Rattle.styles.specs.Answers.{stylesOf};
+ghost use Rattle.tank.specs.State as state;
 ghost use Rattle.tank.specs.Rules.{annotating, deleting, inserting, removing};
 ghost use Rattle.tanks.specs.House.{tankAt, held, setInserted, firstRemoved, askNumber};
 ghost use Rattle.tanks.specs.Pool.{freshly, meaning, Sound};
-ghost use Rattle.tanks.specs.Contracts.{Opens, CalledAt, counts, says, Taken, Settles, Settled};
+ghost use Rattle.tanks.specs.Contracts.{Opens, CalledAt, counts, says, Taken, editOf, PerformedAs, DoneAt};
+use pool::head_of;
 use pool::spots;
-use pool::start;
-use pool::table_of;
+use pool::taken;
 use pool::turn;
 use settings::accepts;
 use settings::narrow;
@@ -48,12 +50,17 @@ struct Spots {
     count: usize,
 }
 
-// The runs of tank 0, then those of tank 1, and so on, blanks behind them; tank t's marks from place 64 t on.
+// A tank's marks.
+pub struct Table {
+    pub marks: [Mark; 64],
+}
+
+// In the pool stand the runs of tank 0, then those of tank 1, and so on, and blanks behind them.
 pub struct Tanks {
     pub settings: [Setting; 8],
     pub heads: [Head; 8],
+    pub tables: [Table; 8],
     pub pool: [Run; 512],
-    pub marks: [Mark; 512],
 }
 
 pub struct Opened {
@@ -76,6 +83,30 @@ pub struct Removed {
     pub number: u64,
     pub first: u64,
     pub tanks: Tanks,
+}
+
+// An edit of one tank.
+enum Edit {
+    Annotate(u64, u64, Mark),
+    Insert(u64, u64),
+    Delete(u64, u64),
+    Remove(Identity, u64),
+}
+
+// What an edit hands back, whichever it is: the set of an insertion, the first position of a removal.
+struct Done {
+    number: u64,
+    styles: Styles,
+    first: u64,
+    tanks: Tanks,
+}
+
+// The same of a tank taken out.
+struct Performed {
+    number: u64,
+    styles: Styles,
+    first: u64,
+    tank: Tank,
 }
 
 // A number that was asked for, or the refusal's.
@@ -111,8 +142,10 @@ fn fresh(settings: [Setting; 8]) -> Tanks
             runs: 1,
             marks: 0,
         }; 8],
+        tables: [Table {
+            marks: [styles::table::blank(); 64],
+        }; 8],
         pool: pool,
-        marks: [styles::table::blank(); 512],
     }
 }
 
@@ -132,6 +165,63 @@ pub fn open(settings: [Setting; 8]) -> Opened
     }
 }
 
+// An edit that answers its number alone.
+fn plain(e: tank::Edited) -> Performed
+    ensures { λ r. ⌜ (r .number ≡ e .number) × (r .styles ≡ stylesOf []) × (r .first ≡ 0) × (r .tank ≡ e .tank) ⌝ }
+{
+    let tank = e.tank;
+    Performed {
+        number: e.number,
+        styles: styles::table::no_marks(),
+        first: 0,
+        tank: tank,
+    }
+}
+
+// A tank's own call.
+fn perform(x: Tank, call: Edit) -> Performed
+    requires { ⌜ state.Sound x ⌝ }
+    ensures { λ r. ⌜ PerformedAs (editOf call) x r ⌝ }
+{
+    match call {
+        Edit::Annotate(start, end, mark) => plain(x.annotate(start, end, mark)),
+        Edit::Delete(start, end) => plain(x.delete(start, end)),
+        Edit::Insert(pos, len) => {
+            let e = x.insert(pos, len);
+            let styles = e.styles;
+            let tank = e.tank;
+            Performed {
+                number: e.number,
+                styles: styles,
+                first: 0,
+                tank: tank,
+            }
+        }
+        Edit::Remove(id, last) => {
+            let e = x.remove_style_scanning_backward(id, last);
+            let tank = e.tank;
+            Performed {
+                number: e.number,
+                styles: styles::table::no_marks(),
+                first: e.first,
+                tank: tank,
+            }
+        }
+    }
+}
+
+// A refused call: the state as it was.
+fn refused(number: u64, tanks: Tanks) -> Done
+    ensures { λ r. ⌜ (r .number ≡ number) × (r .styles ≡ stylesOf []) × (r .first ≡ 0) × (r .tanks ≡ tanks) ⌝ }
+{
+    Done {
+        number: number,
+        styles: styles::table::no_marks(),
+        first: 0,
+        tanks: tanks,
+    }
+}
+
 impl Tanks {
     // Tank t on its own.
     pub fn take(self, t: usize) -> Tank
@@ -139,48 +229,27 @@ impl Tanks {
         requires { ⌜ Sound self ⌝ }
         ensures { λ r. ⌜ Taken self t r ⌝ }
     {
-        let heads = self.heads;
-        let at = start(heads, t);
-        let h = heads[t];
-        let n = h.runs;
-        let pool = self.pool;
-        let marks = self.marks;
-        let table = table_of(marks, t);
-        let mut lens = [0u64; 514];
-        let mut sets = [0u64; 514];
-        let mut i = 0;
-        while i < n {
-            let r = pool[at + i];
-            lens[i] = r.len;
-            sets[i] = r.set;
-            i += 1;
-        }
-        Tank {
-            touched: h.touched,
-            length: h.length,
-            runs: n,
-            marks: h.marks,
-            lens: lens,
-            sets: sets,
-            table: table,
-        }
+        taken(self.heads, self.pool, self.tables[t], t)
     }
 
-    // Tank t becomes x, unless its own edit was refused by `number` or the judgement refuses it: then the state stays as it was.
-    // The runs of the tanks behind it move, from the front or from the back, so that none is written over before it has moved.
-    fn settle(mut self, t: usize, number: u64, x: Tank) -> Edited
-        requires { ⌜ Settles self t x ⌝ }
-        ensures { λ r. ⌜ Settled self t number x r ⌝ }
+    // One edit of one tank: it is taken out, edited by its own rules, judged, and put back. The runs of the tanks behind it move, from the
+    // front or from the back, so that none is written over before it has moved. All edits are this one function, and thin above it, so
+    // that the state is copied in and out once.
+    fn edit(mut self, tank: u64, call: Edit) -> Done
+        requires { ⌜ Sound self ⌝ }
+        ensures { λ r. ⌜ DoneAt self tank (editOf call) r ⌝ }
     {
-        let settings = self.settings;
+        if 8 <= tank {
+            return refused(1, self);
+        }
+        let t = narrow(tank);
         let heads = self.heads;
+        let done = perform(taken(heads, self.pool, self.tables[t], t), call);
+        let x = done.tank;
         let m = x.runs;
-        let refused = verdict(settings, heads, t, number, wide(m));
-        if 0 < refused {
-            return Edited {
-                number: refused,
-                tanks: self,
-            };
+        let number = verdict(self.settings, heads, t, done.number, wide(m));
+        if 0 < number {
+            return refused(number, self);
         }
         let s = spots(heads, t, m);
         let at = s.at;
@@ -205,19 +274,14 @@ impl Tanks {
                 }
             }
         }
-        let mut i = 0;
-        while i < 64 {
-            self.marks[64 * t + i] = x.table[i];
-            i += 1;
-        }
-        self.heads[t] = Head {
-            touched: x.touched,
-            length: x.length,
-            runs: m,
-            marks: x.marks,
-        };
-        Edited {
+        self.heads[t] = head_of(x);
+        let marks = x.table;
+        self.tables[t] = Table { marks: marks };
+        let styles = done.styles;
+        Done {
             number: 0,
+            styles: styles,
+            first: done.first,
             tanks: self,
         }
     }
@@ -227,17 +291,12 @@ impl Tanks {
         requires { ⌜ Sound self ⌝ }
         ensures { λ r. ⌜ CalledAt self tank (annotating start end mark) (r .number) (r .tanks) ⌝ }
     {
-        if 8 <= tank {
-            return Edited {
-                number: 1,
-                tanks: self,
-            };
+        let done = self.edit(tank, Edit::Annotate(start, end, mark));
+        let tanks = done.tanks;
+        Edited {
+            number: done.number,
+            tanks: tanks,
         }
-        let t = narrow(tank);
-        let x = self.take(t);
-        let e = x.annotate(start, end, mark);
-        let marked = e.tank;
-        self.settle(t, e.number, marked)
     }
 
     // The positions start .. end of the tank go, and later ones move down.
@@ -245,17 +304,12 @@ impl Tanks {
         requires { ⌜ Sound self ⌝ }
         ensures { λ r. ⌜ CalledAt self tank (deleting start end) (r .number) (r .tanks) ⌝ }
     {
-        if 8 <= tank {
-            return Edited {
-                number: 1,
-                tanks: self,
-            };
+        let done = self.edit(tank, Edit::Delete(start, end));
+        let tanks = done.tanks;
+        Edited {
+            number: done.number,
+            tanks: tanks,
         }
-        let t = narrow(tank);
-        let x = self.take(t);
-        let e = x.delete(start, end);
-        let shorter = e.tank;
-        self.settle(t, e.number, shorter)
     }
 
     // `len` positions more before `pos` of the tank, with the marks that both its neighbours carry: the answer is that set.
@@ -264,29 +318,11 @@ impl Tanks {
         ensures { λ r. ⌜ CalledAt self tank (inserting pos len) (r .number) (r .tanks) ⌝ }
         ensures { λ r. ⌜ r .styles ≡ stylesOf (setInserted (meaning self) tank pos len) ⌝ }
     {
-        if 8 <= tank {
-            return Inserted {
-                number: 1,
-                styles: styles::table::no_marks(),
-                tanks: self,
-            };
-        }
-        let t = narrow(tank);
-        let x = self.take(t);
-        let e = x.insert(pos, len);
-        let longer = e.tank;
-        let done = self.settle(t, e.number, longer);
+        let done = self.edit(tank, Edit::Insert(pos, len));
         let tanks = done.tanks;
-        if 0 < done.number {
-            return Inserted {
-                number: done.number,
-                styles: styles::table::no_marks(),
-                tanks: tanks,
-            };
-        }
-        let styles = e.styles;
+        let styles = done.styles;
         Inserted {
-            number: 0,
+            number: done.number,
             styles: styles,
             tanks: tanks,
         }
@@ -298,29 +334,11 @@ impl Tanks {
         ensures { λ r. ⌜ CalledAt self tank (removing id last) (r .number) (r .tanks) ⌝ }
         ensures { λ r. ⌜ r .first ≡ firstRemoved (meaning self) tank id last ⌝ }
     {
-        if 8 <= tank {
-            return Removed {
-                number: 1,
-                first: 0,
-                tanks: self,
-            };
-        }
-        let t = narrow(tank);
-        let x = self.take(t);
-        let e = x.remove_style_scanning_backward(id, last);
-        let bare = e.tank;
-        let done = self.settle(t, e.number, bare);
+        let done = self.edit(tank, Edit::Remove(id, last));
         let tanks = done.tanks;
-        if 0 < done.number {
-            return Removed {
-                number: done.number,
-                first: 0,
-                tanks: tanks,
-            };
-        }
         Removed {
-            number: 0,
-            first: e.first,
+            number: done.number,
+            first: done.first,
             tanks: tanks,
         }
     }

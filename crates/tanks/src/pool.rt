@@ -1,12 +1,12 @@
 ghost use mathlib.Core.Path.{_≡_};
 ghost use mathlib.Core.Bool.{cond};
 ghost use Prim.Native.Nat.{_+_, _-_, _*_, _≤_, _<_, max};
-ghost use lib.ListN.{replicate, getD};
-ghost use Rattle.styles.specs.Marks.{blank};
-ghost use Rattle.tanks.specs.Pool.{laid, before, spotsOf};
+ghost use Rattle.tanks.specs.Pool.{before, tankIn, headOf, spotsOf};
 use super::Head;
+use super::Run;
 use super::Spots;
-use styles::Mark;
+use super::Table;
+use tank::Tank;
 
 // Where tank t's runs begin; for 8, where the last tank's end.
 pub fn start(heads: [Head; 8], t: usize) -> usize
@@ -54,16 +54,43 @@ pub fn turn(back: bool, k: usize, count: usize) -> usize
     if back { count - 1 - k } else { k }
 }
 
-// Tank t's marks.
-pub fn table_of(marks: [Mark; 512], t: usize) -> [Mark; 64]
-    requires { ⌜ t < 8 ⌝ }
-    ensures { λ r. ⌜ r ≡ laid (replicate 64 blank) 0 (λ k. getD marks (64 * t + k) blank) 64 ⌝ }
+// Tank t on its own.
+pub fn taken(heads: [Head; 8], pool: [Run; 512], table: Table, t: usize) -> Tank
+    requires { ⌜ (t < 8) × (before heads 8 ≤ 512) ⌝ }
+    ensures { λ r. ⌜ r ≡ tankIn heads pool table t ⌝ }
 {
-    let mut p = [styles::table::blank(); 64];
+    let at = start(heads, t);
+    let h = heads[t];
+    let n = h.runs;
+    let marks = table.marks;
+    let mut lens = [0u64; 514];
+    let mut sets = [0u64; 514];
     let mut i = 0;
-    while i < 64 {
-        p[i] = marks[64 * t + i];
+    while i < n {
+        let r = pool[at + i];
+        lens[i] = r.len;
+        sets[i] = r.set;
         i += 1;
     }
-    p
+    Tank {
+        touched: h.touched,
+        length: h.length,
+        runs: n,
+        marks: h.marks,
+        lens: lens,
+        sets: sets,
+        table: marks,
+    }
+}
+
+// A tank without its runs and marks.
+pub fn head_of(x: Tank) -> Head
+    ensures { λ r. ⌜ r ≡ headOf x ⌝ }
+{
+    Head {
+        touched: x.touched,
+        length: x.length,
+        runs: x.runs,
+        marks: x.marks,
+    }
 }

@@ -1,0 +1,315 @@
+-- The tank is put back run by run; what the loop has written so far is a part of the pool that `puts` says.
+use borrow.Author.Needs.{needs}
+use native.Mathlib.Omega.{arith}
+use Prim.Native.Nat.{ℕ, _+_, _-_, _≤_, _<_}
+use mathlib.Core.Path.{_≡_, refl, sym, ap, _∙_}
+use lib.Dec.{ltb}
+use Rattle.tanks.specs.Settings.{judgement}
+use Rattle.tanks.specs.House.{first}
+use Rattle.tanks.specs.Pool.{runsIn, laid, runFrom, tankOf}
+use Rattle.tanks.specs.Contracts.{Taken, editOf}
+use Rattle.tanks.proofs.SettingLaws.{sound-held, sound-judged, taken}
+use Rattle.tanks.proofs.MeaningLaws.{settled-refused, settled-done}
+use Rattle.tanks.proofs.CallLaws.{called-by, called-past}
+use Rattle.tanks.proofs.AnswerLaws.{done-refused, done-by}
+use Rattle.tanks.proofs.SettleLaws.{withPool, part, lowest, run-step, read-kept, part-all, run-own, run-behind, run-blank, Inside, inside, put-at-last}
+use Rattle.tanks.proofs.Tanks.edit.Statement.{statement}
+use Rattle.tanks.proofs.Tanks.edit.Tie as tie
+use Rattle.tanks.proofs.Tanks.edit.Reads as reads
+use Rattle.tanks.proofs.Tanks.edit.Lts as lts
+use Rattle.tanks.proofs.perform.Reads as perform-reads
+use Rattle.tanks.proofs.pool.head_of.Reads as head-of-reads
+use Rattle.tanks.proofs.pool.spots.Reads as spots-reads
+use Rattle.tanks.proofs.pool.taken.Reads as taken-reads
+use Rattle.tanks.proofs.pool.turn.Reads as turn-reads
+use Rattle.tanks.proofs.refused.Reads as refused-reads
+use Rattle.tanks.proofs.settings.narrow.Reads as narrow-reads
+use Rattle.tanks.proofs.settings.verdict.Reads as verdict-reads
+use Rattle.tanks.proofs.settings.wide.Reads as wide-reads
+
+abbrev Inv-loop : tie.InvT-loop
+Inv-loop tank self₀ t done x m number at from full count grows k₀ self k =
+    (k ≤ count)
+    × Inside x m at from full count
+    × (grows ≡ ltb from (at + m))
+    × (self ≡ withPool self₀ (part (self₀ .pool) at (runFrom (self₀ .pool) x from full) (lowest grows count k) k))
+
+abbrev μ-loop : tie.MeasureT-loop
+μ-loop tank self₀ t done x m number at from full count grows k₀ self k = count - k
+
+-- ---- what is known on the way
+-- there is such a tank
+tank-8 : (c : tie.After-narrow Inv-loop μ-loop) → c .narrow .result < 8
+tank-8 c = omega (arith, c .narrow .ensures, c .before .if1 .left)
+
+-- it is taken out
+own : (c : tie.After-taken Inv-loop μ-loop) → Taken (c .before .before .before .before .before .before .args .t1) (c .before .before .before .before .narrow .result) (c .taken .result)
+unfolding tankOf
+own c = taken (c .before .before .before .before .before .before .args .t1) (c .before .before .before .before .before .before .pre) (c .before .before .before .before .narrow .result) _ (tank-8 (c .before .before .before .before)) (c .taken .ensures)
+
+-- the verdict, by the runs that it would hold
+judged : (c : tie.After-verdict Inv-loop μ-loop)
+    → let s = c .before .before .before .before .before .before .before .before .before .before .before .args .t1 in let p = c .before .before .before .before .perform .result in
+    c .verdict .result ≡ first (p .number) (judgement (s .settings) (runsIn (s .heads)) (c .before .before .before .before .before .before .before .before .before .narrow .result) (p .tank .runs))
+judged c =
+    let s = c .before .before .before .before .before .before .before .before .before .before .before .args .t1 in
+    let p = c .before .before .before .before .perform .result in
+    c .verdict .ensures ∙ ap (λ (n : ℕ). first (p .number) (judgement (s .settings) (runsIn (s .heads)) (c .before .before .before .before .before .before .before .before .before .narrow .result) n)) (c .before .wide .ensures)
+
+-- no refusal: the places of the loop are inside the arrays
+accepted : (c : tie.Else2 Inv-loop μ-loop)
+    → let s = c .before .before .before .before .before .before .before .before .before .before .before .before .args .t1 in let p = c .before .before .before .before .before .perform .result in
+    first (p .number) (judgement (s .settings) (runsIn (s .heads)) (c .before .before .before .before .before .before .before .before .before .before .narrow .result) (p .tank .runs)) ≡ 0
+accepted c = let z : c .before .verdict .result ≡ 0 = omega (arith, c .if2 .left) in sym (judged (c .before)) ∙ z
+
+places : (c : tie.After-spots Inv-loop μ-loop)
+    → let x = c .before .before .before .before .before .before .perform .result .tank in let r = c .spots .result in Inside x (x .runs) (r .at) (r .from) (r .full) (r .count)
+places c =
+    let a = c .before .before .before .before .before .before .before .before .before .before .before .before .before in
+    let p = c .before .before .before .before .before .before .perform in
+    inside (a .args .t1) (c .before .before .before .before .before .before .before .before .before .before .before .narrow .result) (p .result .number) (p .result .tank) (a .pre) (tank-8 (c .before .before .before .before .before .before .before .before .before .before .before)) (p .ensures .called .formed) (accepted (c .before)) _ (c .spots .ensures)
+
+-- ---- what is asked for
+refused-requires : tie.Need-refused-requires Inv-loop μ-loop
+refused-requires c κs = search needs
+
+returns : tie.Need-returns Inv-loop μ-loop
+returns c =
+    let a = c .before .before in
+    done-refused (a .args .t1) (a .args .tank) (editOf (a .args .call)) 1 _ (called-past (a .args .t1) (a .args .tank) (editOf (a .args .call)) (a .pre) (c .before .if1 .taken)) (omega arith) (c .refused .ensures)
+
+narrow-requires : tie.Need-narrow-requires Inv-loop μ-loop
+narrow-requires c κs = search needs
+
+mul-taken : tie.Need-mul-taken Inv-loop μ-loop
+mul-taken c = search needs
+
+element-copy-out-taken : tie.Need-element-copy-out-taken Inv-loop μ-loop
+element-copy-out-taken c = search needs
+
+taken-requires : tie.Need-taken-requires Inv-loop μ-loop
+taken-requires c κs = let a = c .before .before .before .before .before in (tank-8 (c .before .before .before), sound-held (a .args .t1) (a .pre))
+
+perform-requires : tie.Need-perform-requires Inv-loop μ-loop
+perform-requires c κs = own c .sound
+
+wide-requires : tie.Need-wide-requires Inv-loop μ-loop
+wide-requires c κs = search needs
+
+verdict-requires : tie.Need-verdict-requires Inv-loop μ-loop
+verdict-requires c κs = let a = c .before .before .before .before .before .before .before .before .before .before in (tank-8 (c .before .before .before .before .before .before .before .before), sound-judged (a .args .t1) (a .pre))
+
+refused-requires-2 : tie.Need-refused-requires-2 Inv-loop μ-loop
+refused-requires-2 c κs = search needs
+
+returns-2 : tie.Need-returns-2 Inv-loop μ-loop
+returns-2 c =
+    let v = c .before .before in
+    let a = v .before .before .before .before .before .before .before .before .before .before .before in
+    let p = v .before .before .before .before in
+    let k =
+    called-by (a .args .t1) (a .args .tank) _ (editOf (a .args .call)) _ _ _ _ _ (a .pre) (v .before .before .before .before .before .before .before .before .before .before .if1 .left) (v .before .before .before .before .before .before .before .before .before .narrow .ensures)
+    (own (p .before)) (p .perform .ensures .called) (settled-refused (a .args .t1) _ _ _ _ (a .pre) (judged v) (c .before .if2 .taken)) in
+    done-refused (a .args .t1) (a .args .tank) (editOf (a .args .call)) _ _ k (c .before .if2 .taken) (c .refused2 .ensures)
+
+spots-requires : tie.Need-spots-requires Inv-loop μ-loop
+spots-requires c κs = let a = c .before .before .before .before .before .before .before .before .before .before .before .before in (tank-8 (c .before .before .before .before .before .before .before .before .before .before), c .before .before .before .before .before .perform .ensures .called .formed .laid .most, sound-held (a .args .t1) (a .pre))
+
+add-grows : tie.Need-add-grows Inv-loop μ-loop
+add-grows c = omega (arith, places c)
+
+loop-holds : tie.Need-loop-holds Inv-loop μ-loop
+unfolding laid
+loop-holds c = (omega arith, places c, refl, refl)
+
+turn-requires : tie.Need-turn-requires Inv-loop μ-loop
+turn-requires c κs = search needs
+
+add-k : tie.Need-add-k Inv-loop μ-loop
+add-k c = search needs
+
+mul-t33 : tie.Need-mul-t33 Inv-loop μ-loop
+mul-t33 c = search needs
+
+element-copy-out-t36 : tie.Need-element-copy-out-t36 Inv-loop μ-loop
+element-copy-out-t36 c = search needs
+
+mul-t37 : tie.Need-mul-t37 Inv-loop μ-loop
+mul-t37 c = search needs
+
+element-copy-out-t40 : tie.Need-element-copy-out-t40 Inv-loop μ-loop
+element-copy-out-t40 c = search needs
+
+add-t42 : tie.Need-add-t42 Inv-loop μ-loop
+add-t42 c = search needs
+
+mul-t43 : tie.Need-mul-t43 Inv-loop μ-loop
+mul-t43 c = search needs
+
+element-set-from-self : tie.Need-element-set-from-self Inv-loop μ-loop
+element-set-from-self c = search needs
+
+loop-less : tie.Need-loop-less Inv-loop μ-loop
+loop-less c = search needs
+
+loop-again : tie.Need-loop-again Inv-loop μ-loop
+loop-again c =
+    let s = c .before .before .before .before .before .before .before .before .before .before .before .before .before .before .before .before .before .before .before .args .t1 in
+    let q = c .before .before .before .before .before .before .spots .result in
+    let l = c .before .before .before .before .before .loop in
+    let x = c .before .before .before .before .before .before .before .before .before .before .before .before .perform .result .tank in
+    let j = c .before .before .before .turn in (
+      omega arith,
+      l .inv .1,
+      l .inv .2,
+      run-step s (l .self) (s .pool) (q .at) (runFrom (s .pool) x (q .from) (q .full)) (ltb (q .from) (q .at + x .runs)) (q .count) (l .k) (j .result) _
+          (omega arith) (j .ensures .0) (l .inv .3)
+          (run-own (s .pool) x (q .from) (q .full) (j .result) (omega arith)),
+    )
+
+add-self : tie.Need-add-self Inv-loop μ-loop
+add-self c = search needs
+
+mul-self : tie.Need-mul-self Inv-loop μ-loop
+mul-self c = search needs
+
+element-copy-out-self : tie.Need-element-copy-out-self Inv-loop μ-loop
+element-copy-out-self c = search needs
+
+add-t53 : tie.Need-add-t53 Inv-loop μ-loop
+add-t53 c = search needs
+
+mul-t54 : tie.Need-mul-t54 Inv-loop μ-loop
+mul-t54 c = search needs
+
+element-set-from-self-2 : tie.Need-element-set-from-self-2 Inv-loop μ-loop
+element-set-from-self-2 c = search needs
+
+loop-less-2 : tie.Need-loop-less-2 Inv-loop μ-loop
+loop-less-2 c = search needs
+
+loop-again-2 : tie.Need-loop-again-2 Inv-loop μ-loop
+loop-again-2 c =
+    let s = c .before .before .before .before .before .before .before .before .before .before .before .before .before .before .before .before .before .before .before .args .t1 in
+    let q = c .before .before .before .before .before .before .spots .result in
+    let l = c .before .before .before .before .before .loop in
+    let x = c .before .before .before .before .before .before .before .before .before .before .before .before .perform .result .tank in
+    let j = c .before .before .before .turn in (
+      omega arith,
+      l .inv .1,
+      l .inv .2,
+      run-step s (l .self) (s .pool) (q .at) (runFrom (s .pool) x (q .from) (q .full)) (ltb (q .from) (q .at + x .runs)) (q .count) (l .k) (j .result) _
+          (omega arith) (j .ensures .0) (l .inv .3)
+          (read-kept s (l .self) (q .at) (runFrom (s .pool) x (q .from) (q .full)) (ltb (q .from) (q .at + x .runs)) (q .from) (x .runs) (q .count) (l .k) (j .result) (l .inv .2) (omega arith) (j .ensures .0) (omega arith) (l .inv .3)
+          ∙ run-behind (s .pool) x (q .from) (q .full) (j .result) (omega arith) (omega arith)),
+    )
+
+add-t58 : tie.Need-add-t58 Inv-loop μ-loop
+add-t58 c = search needs
+
+mul-t59 : tie.Need-mul-t59 Inv-loop μ-loop
+mul-t59 c = search needs
+
+element-set-from-self-3 : tie.Need-element-set-from-self-3 Inv-loop μ-loop
+element-set-from-self-3 c = search needs
+
+loop-less-3 : tie.Need-loop-less-3 Inv-loop μ-loop
+loop-less-3 c = search needs
+
+loop-again-3 : tie.Need-loop-again-3 Inv-loop μ-loop
+loop-again-3 c =
+    let s = c .before .before .before .before .before .before .before .before .before .before .before .before .before .before .before .before .before .before .args .t1 in
+    let q = c .before .before .before .before .before .spots .result in
+    let l = c .before .before .before .before .loop in
+    let x = c .before .before .before .before .before .before .before .before .before .before .before .perform .result .tank in
+    let j = c .before .before .turn in (
+      omega arith,
+      l .inv .1,
+      l .inv .2,
+      run-step s (l .self) (s .pool) (q .at) (runFrom (s .pool) x (q .from) (q .full)) (ltb (q .from) (q .at + x .runs)) (q .count) (l .k) (j .result) _
+          (omega arith) (j .ensures .0) (l .inv .3)
+          (run-blank (s .pool) x (q .from) (q .full) (j .result) (omega arith) (omega arith)),
+    )
+
+head-of-requires : tie.Need-head-of-requires Inv-loop μ-loop
+head-of-requires c κs = search needs
+
+mul-t25 : tie.Need-mul-t25 Inv-loop μ-loop
+mul-t25 c = search needs
+
+element-set-from-self-4 : tie.Need-element-set-from-self-4 Inv-loop μ-loop
+element-set-from-self-4 c = search needs
+
+mul-t25-2 : tie.Need-mul-t25-2 Inv-loop μ-loop
+mul-t25-2 c = search needs
+
+element-set-from-self-5 : tie.Need-element-set-from-self-5 Inv-loop μ-loop
+element-set-from-self-5 c = search needs
+
+returns-3 : tie.Need-returns-3 Inv-loop μ-loop
+returns-3 c =
+    let a = c .before .before .before .before .before .before .before .before .before .before .before .before .before .before .before .before .before .before in
+    let r = c .before .before .before .before .before in
+    let l = c .before .before .before .before .loop in
+    let p = c .before .before .before .before .before .before .before .before .before .before .before in
+    let n = c .before .before .before .before .before .before .before .before .before .before .before .before .before .before .before .before in
+    let e : l .k ≡ r .spots .result .count = omega arith in
+    let g : l .self ≡ withPool (a .args .t1) (laid (a .args .t1 .pool) (r .spots .result .at) (runFrom (a .args .t1 .pool) (p .perform .result .tank) (r .spots .result .from) (r .spots .result .full)) (r .spots .result .count)) =
+    (rw e at (l .inv .3)) ∙ ap (withPool (a .args .t1)) (part-all (a .args .t1 .pool) (r .spots .result .at) _ (ltb (r .spots .result .from) (r .spots .result .at + p .perform .result .tank .runs)) (r .spots .result .count)) in
+    let k =
+    called-by (a .args .t1) (a .args .tank) _ (editOf (a .args .call)) _ _ _ _ _ (a .pre) (n .before .if1 .left) (n .narrow .ensures)
+    (own (p .before)) (p .perform .ensures .called)
+    (settled-done (a .args .t1) _ _ _ (a .pre) (tank-8 n) (p .perform .ensures .called .formed) (accepted (r .before))) in
+    rw (put-at-last (a .args .t1) (l .self) (n .narrow .result) (p .perform .result .tank) (r .spots .result) _ (r .spots .ensures) (c .before .before .head-of .ensures) g)
+    (done-by (a .args .t1) (a .args .tank) (editOf (a .args .call)) _ _ (p .perform .result) _ (n .before .if1 .left) (n .narrow .ensures) (own (p .before)) (p .perform .ensures) k)
+
+pub edit-spec : {M : Type 1} → statement M
+edit-spec =
+    tie.close
+    (tie.spec
+    Inv-loop
+    μ-loop
+    refused-requires
+    returns
+    narrow-requires
+    mul-taken
+    element-copy-out-taken
+    taken-requires
+    perform-requires
+    wide-requires
+    verdict-requires
+    refused-requires-2
+    returns-2
+    spots-requires
+    add-grows
+    loop-holds
+    turn-requires
+    add-k
+    mul-t33
+    element-copy-out-t36
+    mul-t37
+    element-copy-out-t40
+    add-t42
+    mul-t43
+    element-set-from-self
+    loop-less
+    loop-again
+    add-self
+    mul-self
+    element-copy-out-self
+    add-t53
+    mul-t54
+    element-set-from-self-2
+    loop-less-2
+    loop-again-2
+    add-t58
+    mul-t59
+    element-set-from-self-3
+    loop-less-3
+    loop-again-3
+    head-of-requires
+    mul-t25
+    element-set-from-self-4
+    mul-t25-2
+    element-set-from-self-5
+    returns-3)

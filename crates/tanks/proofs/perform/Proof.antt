@@ -1,0 +1,95 @@
+-- In each case the tank's own function is called, and its promise is the case's.
+use borrow.Author.Needs.{needs}
+use Prim.Native.Nat.{ℕ}
+use mathlib.Core.Path.{_≡_, refl}
+use mathlib.Core.List.{[]}
+use Rattle.styles.specs.Answers.{stylesOf}
+use Rattle.tank.specs.declared.Tank.{Tank}
+use Rattle.tank.specs.Rules.{Edit}
+use Rattle.tank.specs.State.{view, Called}
+use Rattle.tanks.specs.declared.Performed.{Performed}
+use Rattle.tanks.specs.Contracts.{setBeside, firstBeside, PerformedAs}
+use Rattle.tanks.proofs.perform.Statement.{statement}
+use Rattle.tanks.proofs.perform.Tie as tie
+use Rattle.tanks.proofs.perform.Reads as reads
+use Rattle.tanks.proofs.perform.Lts as lts
+use Rattle.styles.proofs.table.no_marks.Reads as no-marks-reads
+use Rattle.tank.proofs.Tank.annotate.Reads as annotate-reads
+use Rattle.tank.proofs.Tank.delete.Reads as delete-reads
+use Rattle.tank.proofs.Tank.insert.Reads as insert-reads
+use Rattle.tank.proofs.Tank.remove_style_scanning_backward.Reads as remove-style-scanning-backward-reads
+use Rattle.tanks.proofs.plain.Reads as plain-reads
+
+-- an edit that answers its number alone
+as-plain : (e : Edit) (x : Tank) (n : ℕ) (y : Tank) (r : Performed) → Called e x n y → setBeside e (view x) ≡ [] → firstBeside e (view x) ≡ 0
+    → (r .number ≡ n) × (r .styles ≡ stylesOf []) × (r .first ≡ 0) × (r .tank ≡ y) → PerformedAs e x r
+as-plain e x n y r called none zero h = record { called = rw (h .0, h .3) called; styles-are = rw none (h .1); first-is = rw zero (h .2) }
+
+enum-known-call : tie.Need-enum-known-call
+enum-known-call c = search needs
+
+annotate-requires : tie.Need-annotate-requires
+annotate-requires c κs = search needs
+
+plain-requires : tie.Need-plain-requires
+plain-requires c κs = search needs
+
+enum-known-call-2 : tie.Need-enum-known-call-2
+enum-known-call-2 c = search needs
+
+delete-requires : tie.Need-delete-requires
+delete-requires c κs = search needs
+
+plain-requires-2 : tie.Need-plain-requires-2
+plain-requires-2 c κs = search needs
+
+enum-known-call-3 : tie.Need-enum-known-call-3
+enum-known-call-3 c = search needs
+
+insert-requires : tie.Need-insert-requires
+insert-requires c κs = search needs
+
+enum-known-call-4 : tie.Need-enum-known-call-4
+enum-known-call-4 c = search needs
+
+remove-style-scanning-backward-requires : tie.Need-remove-style-scanning-backward-requires
+remove-style-scanning-backward-requires c κs = search needs
+
+no-marks-requires : tie.Need-no-marks-requires
+no-marks-requires c κs = search needs
+
+returns : tie.Need-returns
+returns c = rw (c .before .before .before .call .given .1) (as-plain _ _ _ _ _ (c .before .annotate .ensures) refl refl (c .plain .ensures))
+
+returns-2 : tie.Need-returns-2
+returns-2 c = rw (c .before .before .before .call2 .given .1) (as-plain _ _ _ _ _ (c .before .delete .ensures) refl refl (c .plain2 .ensures))
+
+returns-3 : tie.Need-returns-3
+returns-3 c =
+    let i = c .before .before .insert .ensures in
+    rw (c .before .before .before .before .call3 .given .1) (record { called = i .0; styles-are = i .1; first-is = refl })
+
+returns-4 : tie.Need-returns-4
+returns-4 c =
+    let i = c .before .before .remove-style-scanning-backward .ensures in
+    rw (c .before .before .before .before .call4 .given .1) (record { called = i .0; styles-are = c .no-marks .ensures; first-is = i .1 })
+
+pub perform-spec : {M : Type 1} → statement M
+perform-spec =
+    tie.close
+    (tie.spec
+    enum-known-call
+    annotate-requires
+    plain-requires
+    enum-known-call-2
+    delete-requires
+    plain-requires-2
+    enum-known-call-3
+    insert-requires
+    enum-known-call-4
+    remove-style-scanning-backward-requires
+    no-marks-requires
+    returns
+    returns-2
+    returns-3
+    returns-4)

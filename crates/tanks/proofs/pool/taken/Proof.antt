@@ -1,0 +1,102 @@
+use borrow.Author.Needs.{needs}
+use native.Mathlib.Omega.{arith}
+use Prim.Native.Nat.{_+_, _-_, _≤_}
+use mathlib.Core.Path.{_≡_, refl, _∙_}
+use lib.ListN.{getD, set, replicate}
+use Rattle.tanks.specs.Pool.{noRun, runsIn, laid, before, tankIn}
+use Rattle.tanks.proofs.LaidLaws.{laid-more-front, before-next}
+use Rattle.tanks.proofs.PutLaws.{tank-eq}
+use Rattle.tanks.proofs.pool.taken.Statement.{statement}
+use Rattle.tanks.proofs.pool.taken.Tie as tie
+use Rattle.tanks.proofs.pool.taken.Reads as reads
+use Rattle.tanks.proofs.pool.taken.Lts as lts
+use Rattle.tanks.proofs.pool.start.Reads as start-reads
+
+abbrev Inv-loop : tie.InvT-loop
+Inv-loop t pool at h n marks lens₀ sets₀ i₀ lens sets i =
+    (i ≤ n)
+    × (at + n ≤ 512)
+    × (lens ≡ laid lens₀ 0 (λ k. getD pool (at + k) noRun .len) i)
+    × (sets ≡ laid sets₀ 0 (λ k. getD pool (at + k) noRun .set) i)
+
+abbrev μ-loop : tie.MeasureT-loop
+μ-loop t pool at h n marks lens₀ sets₀ i₀ lens sets i = n - i
+
+start-requires : tie.Need-start-requires Inv-loop μ-loop
+start-requires c κs = search needs
+
+mul-h : tie.Need-mul-h Inv-loop μ-loop
+mul-h c = search needs
+
+array-copy-out-h : tie.Need-array-copy-out-h Inv-loop μ-loop
+array-copy-out-h c = search needs
+
+loop-holds : tie.Need-loop-holds Inv-loop μ-loop
+unfolding laid
+loop-holds c =
+    let a = c .before .before .before in
+    (omega arith, omega (arith, c .before .before .start .ensures, before-next (a .args .t1) (a .args .t) 8 (a .pre .0), a .pre .1), refl, refl)
+
+add-r : tie.Need-add-r Inv-loop μ-loop
+add-r c = search needs
+
+mul-r : tie.Need-mul-r Inv-loop μ-loop
+mul-r c = search needs
+
+array-copy-out-r : tie.Need-array-copy-out-r Inv-loop μ-loop
+array-copy-out-r c = search needs
+
+mul-lens : tie.Need-mul-lens Inv-loop μ-loop
+mul-lens c = search needs
+
+array-write-lens : tie.Need-array-write-lens Inv-loop μ-loop
+array-write-lens c = search needs
+
+mul-sets : tie.Need-mul-sets Inv-loop μ-loop
+mul-sets c = search needs
+
+array-write-sets : tie.Need-array-write-sets Inv-loop μ-loop
+array-write-sets c = search needs
+
+add-i : tie.Need-add-i Inv-loop μ-loop
+add-i c = search needs
+
+loop-less : tie.Need-loop-less Inv-loop μ-loop
+loop-less c = search needs
+
+loop-again : tie.Need-loop-again Inv-loop μ-loop
+loop-again c = let l = c .before .before .loop in (omega arith, l .inv .1, rw (l .inv .2) (laid-more-front _ _ _), rw (l .inv .3) (laid-more-front _ _ _))
+
+returns : tie.Need-returns Inv-loop μ-loop
+unfolding tankIn
+returns c =
+    let a = c .before .before .before .before .before in
+    let l = c .before .loop in
+    let e : l .i ≡ runsIn (a .args .t1) (a .args .t) = omega arith in
+    let s = c .before .before .before .before .start .ensures in
+    tank-eq _ (tankIn (a .args .t1) (a .args .t2) (a .args .table) (a .args .t)) refl refl refl refl
+    (l .inv .2 ∙ (λ j. laid (replicate 514 0) 0 (λ k. getD (a .args .t2) (s j + k) noRun .len) (e j)))
+    (l .inv .3 ∙ (λ j. laid (replicate 514 0) 0 (λ k. getD (a .args .t2) (s j + k) noRun .set) (e j)))
+    refl
+
+pub taken-spec : {M : Type 1} → statement M
+taken-spec =
+    tie.close
+    (tie.spec
+    Inv-loop
+    μ-loop
+    start-requires
+    mul-h
+    array-copy-out-h
+    loop-holds
+    add-r
+    mul-r
+    array-copy-out-r
+    mul-lens
+    array-write-lens
+    mul-sets
+    array-write-sets
+    add-i
+    loop-less
+    loop-again
+    returns)
