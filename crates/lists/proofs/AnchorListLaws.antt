@@ -16,7 +16,8 @@ use Rattle.lists.specs.declared.anchors.AnchorCursor.{AnchorCursor}
 use Rattle.lists.specs.declared.anchors.NextAnchor.{NextAnchor}
 use Rattle.lists.specs.declared.anchors.NextAnchor.the-variants.{NoMore, Found}
 use Rattle.tank.specs.State.{view}
-use Rattle.lists.specs.Lists.{listRefusal, unlessRefused, inFront, answered}
+use Rattle.runs.specs.Lists.{inFront}
+use Rattle.lists.specs.Lists.{listRefusal, unlessRefused, answered}
 use Rattle.lists.specs.Anchors.{anchors, anchorsNumber, noAnchor, rest, Stands, Steps}
 
 -- ---- a step, taken apart

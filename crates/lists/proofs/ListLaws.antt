@@ -14,7 +14,8 @@ use Rattle.styles.proofs.SameLaws.{same-pick}
 use Rattle.runs.specs.Runs.{total, setAt}
 use Rattle.runs.specs.Count.{CanTally}
 use Rattle.runs.specs.Scan.{CanLook}
-use Rattle.runs.specs.Lists.{clipped, numbers, listed, CanList}
+use Rattle.runs.specs.Positions.{numbers}
+use Rattle.runs.specs.Lists.{clipped, inFront, listed, CanList}
 use Rattle.runs.proofs.PositionLaws.{clipped-is, at-ext, at-none}
 use Rattle.tank.specs.declared.Tank.{Tank}
 use Rattle.lists.specs.declared.Listed.{Listed}
@@ -27,7 +28,6 @@ use Rattle.lists.specs.Lists.{
   rangeRefusal,
   listRefusal,
   unlessRefused,
-  inFront,
   answered,
   rangeNeeded,
   rangeNumber,

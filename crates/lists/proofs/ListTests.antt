@@ -6,7 +6,7 @@ use Rattle.styles.specs.declared.Mark.{Mark}
 use Rattle.styles.specs.declared.Value.the-variants.{Null}
 use Rattle.styles.specs.Marks.{insertMark, member, only, sameMarks}
 use Rattle.styles.specs.Order.{stands, numbers as order}
-use Rattle.runs.specs.Lists.{extended, stretchesAt, numbers}
+use Rattle.runs.specs.Positions.{extended, stretchesAt, numbers}
 use Rattle.lists.specs.declared.anchors.AnchorType.the-variants.{Start, End}
 use Rattle.tank.specs.Rules.{View, afterAnnotate}
 use Rattle.lists.specs.Lists.{rangeList, wholeList, rangeRefusal, rangeNeeded}

@@ -1,11 +1,11 @@
 -- Document 01, "Questions and lists": the stretches of a range and of the whole tank, from the positions.
 use Prim.Native.Nat.{ℕ, suc}
-use mathlib.Core.Bool.{Bool, cond}
-use mathlib.Core.List.{List, [], _++_}
+use mathlib.Core.Bool.{cond}
+use mathlib.Core.List.{List, []}
 use lib.Dec.{ltb, leb, eqb}
-use lib.ListN.{length, drop}
+use lib.ListN.{length}
 use Rattle.styles.specs.Marks.{sameMarks}
-use Rattle.runs.specs.Lists.{Stretch, stretchesAt, numbers}
+use Rattle.runs.specs.Positions.{Stretch, stretchesAt, numbers}
 use Rattle.lists.specs.declared.Listed.{Listed}
 use Rattle.tank.specs.Rules.{View}
 
@@ -33,10 +33,6 @@ listRefusal lower room needed = cond (eqb lower 0) (cond (ltb room needed) 11 0)
 -- what is handed over beside a number: the list, and nothing beside a refusal
 abbrev pub unlessRefused : {A : Type 0} → ℕ → List A → List A
 unlessRefused number xs = cond (eqb number 0) xs []
-
--- a lent list with xs at its front, the rest as it was
-abbrev pub inFront : {A : Type 0} → List A → List A → List A
-inFront xs out = xs ++ drop (length xs) out
 
 -- a number, and how many places of the buffer are filled beside it
 abbrev pub answered : {A : Type 0} → ℕ → List A → Listed

@@ -20,7 +20,8 @@ use Rattle.styles.proofs.SameLaws.{same-pick}
 use Rattle.styles.proofs.UnionLaws.{pick-none}
 use Rattle.runs.specs.Runs.{runs, total, setAt, sums}
 use Rattle.runs.specs.Gather.{gather}
-use Rattle.runs.specs.Scan.{anyAt, allAt, meets, topIn, shows, commonAt, CanLook}
+use Rattle.runs.specs.Positions.{anyAt, allAt}
+use Rattle.runs.specs.Scan.{meets, topIn, shows, commonAt, CanLook}
 use Rattle.runs.proofs.ScanLaws.{any-ext, all-ext, top-in-is, top-in-none, can-look as can-ask}
 use lib.Dec.{eqb}
 use Rattle.tank.specs.declared.Tank.{Tank}

@@ -11,7 +11,8 @@ use lib.Count.{ones}
 use lib.Dec.{eqb}
 use Rattle.runs.specs.Runs.{Run, total, setAt, Other, Canon}
 use Rattle.runs.specs.Count.{alikeIn}
-use Rattle.runs.specs.Lists.{Stretch, stretch, extended, stretchesAt, clipped, marksIn}
+use Rattle.runs.specs.Positions.{Stretch, stretch, extended, stretchesAt}
+use Rattle.runs.specs.Lists.{clipped, marksIn}
 use Rattle.runs.proofs.Laws.{at-in, at-last}
 
 stretch-eq : (a a′ b b′ c c′ : ℕ) (xs ys : List Stretch) → a ≡ a′ → b ≡ b′ → c ≡ c′ → xs ≡ ys → stretch a b c ∷ xs ≡ stretch a′ b′ c′ ∷ ys

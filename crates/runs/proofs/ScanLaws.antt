@@ -14,7 +14,8 @@ use borrow.Author.Tests.{lt-ltb, le-ltb, le-leb, lt-leb, eq-eqb, ne-eqb}
 use Rattle.styles.specs.Bits.{hasBit, TopIn}
 use Rattle.styles.proofs.MaskLaws.{top-set, one-top}
 use Rattle.runs.specs.Runs.{Run, runs, total, setAt, sums}
-use Rattle.runs.specs.Scan.{anyAt, allAt, stretchTo, meets, topIn, shows, walked, commonAt, CanLook}
+use Rattle.runs.specs.Positions.{anyAt, allAt, stretchTo}
+use Rattle.runs.specs.Scan.{meets, topIn, shows, walked, commonAt, CanLook}
 use Rattle.runs.proofs.Laws.{total-sums, found-set, at-past}
 
 -- ---- tests

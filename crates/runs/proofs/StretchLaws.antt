@@ -8,7 +8,8 @@ use lib.Dec.{eqb}
 use lib.ListN.{length}
 use borrow.Author.Tests.{eq-eqb, ne-eqb}
 use Rattle.runs.specs.Runs.{Run, total, setAt, Other, Canon}
-use Rattle.runs.specs.Count.{starts, stretches, alikeIn}
+use Rattle.runs.specs.Positions.{starts, stretches}
+use Rattle.runs.specs.Count.{alikeIn}
 use Rattle.runs.proofs.Laws.{at-in, at-last}
 
 -- ---- tests that agree count alike

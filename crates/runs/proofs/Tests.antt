@@ -11,9 +11,10 @@ use Rattle.runs.specs.declared.scan.Test.the-variants.{Meets, Misses, Hi
 use Rattle.runs.specs.Runs.{Run, run, runs, total, setAt, Other, Canon, pushRun, joinRun, clip, copyRuns, changing, adding, sums, Found, Spare, mapRuns, AllSets}
 use Rattle.runs.specs.Edits.{part, altered, deleted, inserted}
 use Rattle.runs.specs.Gather.{gather, Renumbered}
-use Rattle.runs.specs.Scan.{anyAt, allAt, stretchTo, meets, topIn, shows, passes, commonAt, walked}
-use Rattle.runs.specs.Count.{starts, stretches, alikeIn, tallyOf}
-use Rattle.runs.specs.Lists.{stretch, extended, stretchesAt, clipped, numbers, entry, inFront, listed, marksIn}
+use Rattle.runs.specs.Positions.{anyAt, allAt, stretchTo, starts, stretches, stretch, extended, stretchesAt, numbers}
+use Rattle.runs.specs.Scan.{meets, topIn, shows, passes, commonAt, walked}
+use Rattle.runs.specs.Count.{alikeIn, tallyOf}
+use Rattle.runs.specs.Lists.{clipped, entry, inFront, listed, marksIn}
 use Rattle.runs.specs.Expand.{expand}
 
 -- ten positions with no bit, then five with bit 1
@@ -221,5 +222,5 @@ entries : (entry 1 8 10 0 ≡ []) × (entry 0 8 10 0 ≡ 8 ∷ 10 ∷ 0 ∷ []) 
 unfolding entry
 entries = (refl, refl, refl)
 
-in-front : inFront (1 ∷ 2 ∷ []) (7 ∷ 8 ∷ 9 ∷ []) ≡ 1 ∷ 2 ∷ 9 ∷ []
+in-front : inFront {A = ℕ} (1 ∷ 2 ∷ []) (7 ∷ 8 ∷ 9 ∷ []) ≡ 1 ∷ 2 ∷ 9 ∷ []
 in-front = refl

@@ -1,22 +1,12 @@
--- How many runs: as a fact about positions, and told from a count and the set of the last run alone.
-use Prim.Native.Nat.{ℕ, zero, suc, _+_, _<_, _^_}
-use mathlib.Core.Bool.{Bool, cond}
+-- How many runs there are, told from a count and the set of the last run alone, and when positions of a run list are alike.
+use Prim.Native.Nat.{ℕ, suc, _<_, _^_}
+use mathlib.Core.Bool.{Bool}
 use mathlib.Core.List.{List, [], _∷_}
 use lib.Dec.{eqb}
 use lib.ListN.{length}
-use Rattle.runs.specs.Runs.{Run, runs, setAt}
+use Rattle.runs.specs.Runs.{Run, setAt}
 use Rattle.runs.specs.Scan.{CanLook}
 use Rattle.runs.specs.declared.count.Tally.{Tally}
-
--- 1 where a stretch starts, else 0: at position 0, and where a position differs from the one before; `alike p` says that p and p + 1 have one set
-unfoldable pub starts : (ℕ → Bool) → ℕ → ℕ
-starts alike zero = 1
-starts alike (suc p) = cond (alike p) 0 1
-
--- how many of the first n positions start a stretch
-unfoldable pub stretches : (ℕ → Bool) → ℕ → ℕ
-stretches alike zero = 0
-stretches alike (suc n) = stretches alike n + starts alike n
 
 -- the positions p and p + 1 have one set
 abbrev pub alikeIn : List Run → ℕ → Bool

@@ -11,7 +11,8 @@ use Rattle.styles.specs.Marks.{Sorted}
 use Rattle.styles.specs.Bits.{pick}
 use Rattle.styles.proofs.SameLaws.{same-pick}
 use Rattle.runs.specs.Runs.{Run, total, setAt, Canon}
-use Rattle.runs.specs.Count.{stretches, alikeIn}
+use Rattle.runs.specs.Positions.{stretches}
+use Rattle.runs.specs.Count.{alikeIn}
 use Rattle.runs.specs.Gather.{gather}
 use Rattle.runs.proofs.Laws.{at-past}
 use Rattle.runs.proofs.GatherLaws.{set-within}

@@ -17,7 +17,8 @@ use Rattle.styles.specs.Bits.{pick, withBit}
 use Rattle.styles.proofs.StyleLaws.{absent-pick}
 use Rattle.runs.specs.Runs.{runs, setAt}
 use Rattle.runs.specs.Gather.{gather}
-use Rattle.runs.specs.Scan.{stretchTo, meets, CanScan}
+use Rattle.runs.specs.Positions.{stretchTo}
+use Rattle.runs.specs.Scan.{meets, CanScan}
 use Rattle.runs.proofs.ScanLaws.{stretch-le, stretch-end, stretch-ext}
 use Rattle.tank.specs.declared.Tank.{Tank}
 use Rattle.tank.specs.declared.Removed.{Removed}

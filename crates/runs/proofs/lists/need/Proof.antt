@@ -8,7 +8,8 @@ use lib.Count.{ones}
 use lib.ListN.{length, getD, length-append}
 use Rattle.runs.specs.Runs.{runs, total}
 use Rattle.runs.specs.Count.{CanTally}
-use Rattle.runs.specs.Lists.{clipped, numbers, entry, listed}
+use Rattle.runs.specs.Positions.{numbers}
+use Rattle.runs.specs.Lists.{clipped, entry, listed}
 use Rattle.runs.proofs.Laws.{total-more, total-mono}
 use Rattle.runs.proofs.ListLaws.{listed-more, listed-most, entry-most}
 use Rattle.runs.proofs.lists.need.Statement.{statement}
