@@ -8,7 +8,7 @@ use super::answers::say;
 use lists::Listed;
 use lists::anchors::Anchor;
 use lists::anchors::AnchorCursor;
-use lists::anchors::AnchorType;
+use richtext::AnchorType;
 use lists::anchors::NextAnchor;
 use script::Call;
 use script::Op;

@@ -21,8 +21,8 @@ use Rattle.runs.proofs.Laws.{at-past, total-more, total-mono}
 use Rattle.runs.proofs.ScanLaws.{at-run}
 use Rattle.tank.specs.declared.Tank.{Tank}
 use Rattle.lists.specs.declared.anchors.Anchor.{Anchor}
-use Rattle.lists.specs.declared.anchors.AnchorType.{AnchorType}
-use Rattle.lists.specs.declared.anchors.AnchorType.the-variants.{Start, End}
+use Rattle.richtext.specs.declared.AnchorType.{AnchorType}
+use Rattle.richtext.specs.declared.AnchorType.the-variants.{Start, End}
 use Rattle.tank.specs.Rules.{View}
 use Rattle.tank.specs.State.{runsOf, tableOf, view, Laid}
 use Rattle.tank.proofs.Counted.{at-inside}

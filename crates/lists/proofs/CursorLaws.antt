@@ -21,8 +21,8 @@ use Rattle.runs.proofs.Laws.{at-last, at-past}
 use Rattle.tank.specs.declared.Tank.{Tank}
 use Rattle.lists.specs.declared.anchors.Anchor.{Anchor}
 use Rattle.lists.specs.declared.anchors.AnchorCursor.{AnchorCursor}
-use Rattle.lists.specs.declared.anchors.AnchorType.{AnchorType}
-use Rattle.lists.specs.declared.anchors.AnchorType.the-variants.{Start, End}
+use Rattle.richtext.specs.declared.AnchorType.{AnchorType}
+use Rattle.richtext.specs.declared.AnchorType.the-variants.{Start, End}
 use Rattle.lists.specs.declared.anchors.NextAnchor.the-variants.{NoMore, Found}
 use Rattle.tank.specs.Rules.{freshLength}
 use Rattle.tank.specs.State.{tableOf, view, Laid, Formed}

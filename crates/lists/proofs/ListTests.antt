@@ -7,7 +7,7 @@ use Rattle.styles.specs.declared.Value.the-variants.{Null}
 use Rattle.styles.specs.Marks.{insertMark, member, only, sameMarks}
 use Rattle.styles.specs.Order.{stands, numbers as order}
 use Rattle.runs.specs.Positions.{extended, stretchesAt, numbers}
-use Rattle.lists.specs.declared.anchors.AnchorType.the-variants.{Start, End}
+use Rattle.richtext.specs.declared.AnchorType.the-variants.{Start, End}
 use Rattle.tank.specs.Rules.{View, afterAnnotate}
 use Rattle.lists.specs.Lists.{rangeList, wholeList, rangeRefusal, rangeNeeded}
 use Rattle.lists.specs.Anchors.{before, behind, anchorOf, anchorsOf, boundary, boundaries, anchors}

@@ -9,13 +9,8 @@ ghost use Rattle.lists.specs.Lists.{unlessRefused, answered};
 ghost use Rattle.runs.specs.Lists.{inFront};
 ghost use Rattle.tank.specs.State.{view, Sound};
 use super::Listed;
+use richtext::AnchorType;
 use tank::Tank;
-
-// Which side of a stretch an anchor stands at.
-pub enum AnchorType {
-    Start,
-    End,
-}
 
 // A position, the side, and the mark's identity.
 pub struct Anchor {
