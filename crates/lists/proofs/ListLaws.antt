@@ -13,7 +13,6 @@ use Rattle.styles.proofs.CountLaws.{pick-length, ones-none}
 use Rattle.styles.proofs.SameLaws.{same-pick}
 use Rattle.runs.specs.Runs.{total, setAt}
 use Rattle.runs.specs.Count.{CanTally}
-use Rattle.runs.specs.Scan.{CanLook}
 use Rattle.runs.specs.Positions.{numbers}
 use Rattle.runs.specs.Lists.{clipped, inFront, listed, CanList}
 use Rattle.runs.proofs.PositionLaws.{clipped-is, at-ext, at-none}
@@ -33,6 +32,7 @@ use Rattle.lists.specs.Lists.{
   rangeNumber,
 }
 use Rattle.tank.proofs.Counted.{at-inside}
+use Rattle.tank.proofs.Shape.{can-look}
 use Rattle.tank.proofs.Unique.{inside-table}
 
 -- ---- by position and by runs
@@ -56,26 +56,18 @@ module _ {t : Tank} (f : Laid t) where
   unfolding wholeList view
   whole-is = ap (numbers 1) (over-is 0 (t .length) (omega arith))
 
-  -- what looking at the runs asks
-  pub can-look : CanLook (t .lens) (t .sets) (t .runs)
-  can-look =
-      let a = f .lens-514 in
-      let b = f .sets-514 in
-      let m = f .most in
-      record { lens-n = omega arith; sets-n = omega arith; small = subst (λ n. n < 2 ^ 63) (f .sum) (f .small) }
-
   pub can-tally : CanTally (t .lens) (t .sets) (t .runs)
   can-tally =
       let m = f .most in
-      record { look = can-look; few = omega arith }
+      record { look = can-look f; few = omega arith }
 
   -- what writing the lists asks: room for what is needed
   pub can-range : (a b : ℕ) (out : List ℕ) → b ≤ t .length → length (rangeList a b (view t)) ≤ length out
       → CanList 0 a b (t .lens) (t .sets) (t .runs) out
-  can-range a b out h g = record { look = can-look; room = omega (arith, ap length (range-is a b h)) }
+  can-range a b out h g = record { look = can-look f; room = omega (arith, ap length (range-is a b h)) }
 
   pub can-whole : (out : List ℕ) → length (wholeList (view t)) ≤ length out → CanList 1 0 (t .length) (t .lens) (t .sets) (t .runs) out
-  can-whole out g = record { look = can-look; room = omega (arith, ap length whole-is) }
+  can-whole out g = record { look = can-look f; room = omega (arith, ap length whole-is) }
 
 -- ---- an untouched tank: one unmarked stretch over a range, and none in the whole list
 module _ {t : Tank} (f : Formed t) (untouched : t .touched ≡ false) where

@@ -21,7 +21,7 @@ use Rattle.styles.proofs.UnionLaws.{pick-none}
 use Rattle.runs.specs.Runs.{runs, total, setAt, sums}
 use Rattle.runs.specs.Gather.{gather}
 use Rattle.runs.specs.Positions.{anyAt, allAt}
-use Rattle.runs.specs.Scan.{meets, topIn, shows, commonAt, CanLook}
+use Rattle.runs.specs.Scan.{meets, topIn, shows, commonAt}
 use Rattle.runs.proofs.ScanLaws.{any-ext, all-ext, top-in-is, top-in-none, can-look as can-ask}
 use lib.Dec.{eqb}
 use Rattle.tank.specs.declared.Tank.{Tank}
@@ -34,7 +34,7 @@ use Rattle.tank.specs.State.{runsOf, tableOf, view, Formed}
 use Rattle.questions.specs.Questions.{toldOf, setOf, sharedOf, positionRefusal, insertRefusal, yesNoRefusal, yesNo, rangeContainsKey, rangeHasKeyValue, sameRefusal, agreeing, stylesOfRange}
 use Rattle.tank.proofs.Counted.{at-inside}
 use Rattle.tank.proofs.GrowLaws.{common-there, common-inherited}
-use Rattle.tank.proofs.Shape.{view-touched}
+use Rattle.tank.proofs.Shape.{can-look, view-touched}
 use Rattle.tank.proofs.Unique.{table-length, inside-table}
 
 -- ---- the highest bit of u below k, as a test of u and v
@@ -64,18 +64,8 @@ not-shared-is (suc n) e = λ i. record { number = suc n; agree = false; styles =
 
 module _ {t : Tank} (f : Formed t) where
   -- ---- what the runs are asked
-  pub can-look : CanLook (t .lens) (t .sets) (t .runs)
-  can-look =
-      let l = f .laid in
-      let a = l .lens-514 in
-      let b = l .sets-514 in
-      let c = l .most in
-      let d = l .sum in
-      let g = l .small in
-      record { lens-n = omega arith; sets-n = omega arith; small = omega arith }
-
   pub looks : ((t .runs ≤ length (t .lens)) × (t .runs ≤ length (t .sets))) × (sums (t .lens) (t .runs) < 2 ^ 63)
-  looks = can-ask can-look
+  looks = can-ask (can-look (f .laid))
 
   -- a set at a position is one over the table
   pub set-inside : (p : ℕ) → setAt (runsOf t) p < 2 ^ t .marks

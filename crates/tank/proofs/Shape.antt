@@ -12,6 +12,7 @@ use Rattle.styles.specs.declared.Mark.{Mark}
 use Rattle.runs.specs.Runs.{Run, runs, total, setAt, Canon, Spare}
 use Rattle.runs.specs.Edits.{CanEdit}
 use Rattle.runs.specs.Gather.{gather}
+use Rattle.runs.specs.Scan.{CanLook}
 use Rattle.runs.proofs.Laws.{at-in, at-last, length-runs}
 use Rattle.tank.specs.declared.Tank.{Tank}
 use Rattle.tank.specs.Rules.{View}
@@ -41,6 +42,14 @@ gather-small n (r ∷ rs) c h =
     (gather-small n rs (c .2) (λ p k. rw (at-in r rs p k) at (h p (omega arith))))
 
 module _ {t : Tank} (f : Laid t) where
+  -- what a look at the tank's runs asks
+  pub can-look : CanLook (t .lens) (t .sets) (t .runs)
+  can-look =
+      let a = f .lens-514 in
+      let b = f .sets-514 in
+      let m = f .most in
+      record { lens-n = omega arith; sets-n = omega arith; small = subst (λ (n : ℕ). n < 2 ^ 63) (f .sum) (f .small) }
+
   -- what an edit asks of the tank's runs
   pub can-edit : t .runs ≤ 512 → (out : List Run) (olens osets : List ℕ) → length olens ≡ 514 → length osets ≡ 514
       → length out ≤ length (runsOf t) + 2 → total out < 2 ^ 63 → CanEdit out olens osets (t .lens) (t .sets) (t .runs) (t .length)

@@ -88,8 +88,8 @@ pub fn trim(t: Tank) -> Tank
         return t;
     }
     runs::sets::squeeze_sets(&mut sets, m, carried);
-    let kept = styles::table::keep_marks(table, marks, carried);
-    let next = kept.table;
+    let kept = styles::table::styles_of(table, marks, carried);
+    let next = kept.marks;
     Tank {
         touched: true,
         length: t.length,
