@@ -1,16 +1,10 @@
--- How many runs there are, told from a count and the set of the last run alone, and when positions of a run list are alike.
+-- How many runs there are, told from a count and the set of the last run alone.
 use Prim.Native.Nat.{ℕ, suc, _<_, _^_}
-use mathlib.Core.Bool.{Bool}
 use mathlib.Core.List.{List, [], _∷_}
-use lib.Dec.{eqb}
 use lib.ListN.{length}
-use Rattle.runs.specs.Runs.{Run, setAt}
+use Rattle.runs.specs.Runs.{Run}
 use Rattle.runs.specs.Scan.{CanLook}
 use Rattle.runs.specs.declared.count.Tally.{Tally}
-
--- the positions p and p + 1 have one set
-abbrev pub alikeIn : List Run → ℕ → Bool
-alikeIn rs p = eqb (setAt rs p) (setAt rs (suc p))
 
 -- what is to be known of a list so that pushes onto it can be counted: how many runs it has, and the set of the last; 0 where there is none
 unfoldable pub tallyOf : List Run → Tally

@@ -5,11 +5,11 @@ use mathlib.Core.List.{List, [], _∷_, _++_}
 use lib.Count.{ones}
 use lib.Dec.{ltb, leb}
 use lib.ListN.{length, drop}
-use Rattle.runs.specs.Positions.{Stretch, stretch, numbers}
-use Rattle.runs.specs.Runs.{Run, runs, total, setAt}
+use Rattle.runs.specs.Positions.{Stretch, stretch, asNumbers}
+use Rattle.runs.specs.Runs.{Run, runs, total}
 use Rattle.runs.specs.Scan.{CanLook}
 
--- by runs, those that have a position in from .. to, clipped to it; the last first
+-- the runs that have a position in from .. to, clipped to it, as stretches; the last first
 unfoldable pub clipped : ℕ → ℕ → List Run → List Stretch
 unfolding total
 clipped from to [] = []
@@ -17,10 +17,6 @@ clipped from to (r ∷ rs) =
     cond (ltb (max from (total rs)) (min to (total rs + r .len)))
     (stretch (max from (total rs)) (min to (total rs + r .len)) (ones (r .set)) ∷ clipped from to rs)
     (clipped from to rs)
-
--- how many marks a position has
-abbrev pub marksIn : List Run → ℕ → ℕ
-marksIn rs p = ones (setAt rs p)
 
 -- the numbers of one run: none where nothing of it is asked, or where it has too few marks
 unfoldable pub entry : ℕ → ℕ → ℕ → ℕ → List ℕ
@@ -32,7 +28,7 @@ inFront xs out = xs ++ drop (length xs) out
 
 -- the list of the positions from .. to of the first n runs
 abbrev pub listed : ℕ → ℕ → ℕ → List ℕ → List ℕ → ℕ → List ℕ
-listed least from to lens sets n = numbers least (clipped from to (runs lens sets n))
+listed least from to lens sets n = asNumbers least (clipped from to (runs lens sets n))
 
 -- what writing it asks: room for all of it
 pub record CanList (least from to : ℕ) (lens sets : List ℕ) (n : ℕ) (out : List ℕ) : Type 0 where

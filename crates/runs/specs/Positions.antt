@@ -53,6 +53,6 @@ stretchesAt alike count from zero = []
 stretchesAt alike count from (suc p) = cond (leb from p) (extended (alike (p - 1)) p (count p) (stretchesAt alike count from p)) []
 
 -- three numbers to a stretch, the first stretch first; stretches with fewer marks than `least` are left out
-unfoldable pub numbers : ℕ → List Stretch → List ℕ
-numbers least [] = []
-numbers least (x ∷ xs) = numbers least xs ++ cond (leb least (x .marks)) (x .start ∷ x .end ∷ x .marks ∷ []) []
+unfoldable pub asNumbers : ℕ → List Stretch → List ℕ
+asNumbers least [] = []
+asNumbers least (x ∷ xs) = asNumbers least xs ++ cond (leb least (x .marks)) (x .start ∷ x .end ∷ x .marks ∷ []) []

@@ -1,5 +1,5 @@
 -- What a step makes is laid out as a tank should be: the arrays, the table, the bounds.
-use Prim.Native.Nat.{ℕ, zero, suc, _+_, _-_, _≤_, _<_, _^_}
+use Prim.Native.Nat.{ℕ, zero, suc, _+_, _≤_, _<_, _^_}
 use mathlib.Core.Path.{_≡_, refl, sym, ap, _∙_, subst}
 use mathlib.Core.Bool.{Bool, true, false}
 use mathlib.Core.List.{List, [], _∷_}
@@ -22,15 +22,15 @@ use Rattle.tank.specs.Steps.{Stepped}
 pub no-path : {A : Type 0} → true ≡ false → A
 no-path e = absurd (subst T e tt)
 
--- a new array is spare from its start
-zeros : (k i : ℕ) → getD {A = ℕ} (replicate k 0) i 0 ≡ 0
-zeros zero i = refl
-zeros (suc k) zero = refl
-zeros (suc k) (suc i) = zeros k i
+-- a new array holds one thing everywhere
+pub getD-same : {A : Type 0} (x : A) (k i : ℕ) → getD (replicate k x) i x ≡ x
+getD-same x zero i = refl
+getD-same x (suc k) zero = refl
+getD-same x (suc k) (suc i) = getD-same x k i
 
 pub all-spare : (k : ℕ) → Spare (replicate k 0) (replicate k 0) 0
 unfolding Spare
-all-spare k i h = (zeros k i, zeros k i)
+all-spare k i h = (getD-same 0 k i, getD-same 0 k i)
 
 -- where each position's set is small, all sets together are
 pub gather-small : (n : ℕ) (rs : List Run) → Canon rs → ((p : ℕ) → p < total rs → setAt rs p < 2 ^ n) → gather rs < 2 ^ n

@@ -16,7 +16,8 @@ use Rattle.styles.specs.declared.Styles.{Styles}
 use Rattle.styles.specs.Answers.{stylesOf}
 use Rattle.styles.specs.Marks.{blank}
 use Rattle.styles.specs.Bits.{keepBit, pick, squeeze}
-use Rattle.styles.proofs.CountLaws.{half-less, pick-length}
+use Rattle.styles.proofs.BitLaws.{half-less}
+use Rattle.styles.proofs.CountLaws.{pick-length}
 use Rattle.styles.proofs.SqueezeLaws.{pick-squeeze}
 use Rattle.styles.proofs.UnionLaws.{squeeze-all, squeeze-none}
 use Rattle.styles.proofs.WalkLaws.{sorted-pick, pick-length-le}
@@ -29,7 +30,7 @@ use Rattle.runs.proofs.RenumberLaws.{canon-squeeze, gather-squeeze, sets-within
 use Rattle.tank.specs.declared.Tank.{Tank}
 use Rattle.tank.specs.State.{runsOf, tableOf, view, Numbers, Laid}
 use Rattle.tank.specs.Steps.{Trimmed}
-use Rattle.tank.proofs.Shape.{no-path}
+use Rattle.tank.proofs.Shape.{no-path, getD-same}
 use Rattle.tank.proofs.Unique.{table-length, inside-table}
 use Rattle.tank.proofs.ViewLaws.{view-renumbered}
 
@@ -54,11 +55,6 @@ numbers-pick : (ms : List Mark) (s : ℕ) → Numbers ms → Numbers (pick ms s)
 unfolding Numbers pick
 numbers-pick [] s n = tt
 numbers-pick (m ∷ ms) s n = numbers-keep (s % 2) m (pick ms (s / 2)) ms n (numbers-pick ms (s / 2) (n .1))
-
-pub blank-behind : (k i : ℕ) → getD (replicate k blank) i blank ≡ blank
-blank-behind zero i = refl
-blank-behind (suc k) zero = refl
-blank-behind (suc k) (suc i) = blank-behind k i
 
 module _ {t : Tank} (f : Laid t) (e : t .touched ≡ true) where
   -- what is carried are marks of the table
@@ -111,7 +107,7 @@ module _ {t : Tank} (f : Laid t) (e : t .touched ≡ true) where
     blanks i h =
         let k : length (pick (tableOf t) carried) + (i - kept .count) ≡ i = omega (arith, count-is) in
         ap (λ ms. getD ms i blank) table-is ∙ ap (λ x. getD (pick (tableOf t) carried ++ replicate (64 - kept .count) blank) x blank) (sym k)
-        ∙ getD-append-add (pick (tableOf t) carried) (replicate (64 - kept .count) blank) (i - kept .count) blank ∙ blank-behind (64 - kept .count) (i - kept .count)
+        ∙ getD-append-add (pick (tableOf t) carried) (replicate (64 - kept .count) blank) (i - kept .count) blank ∙ getD-same blank (64 - kept .count) (i - kept .count)
 
     within : (p : ℕ) → bitAnd (setAt (runsOf t) p) carried ≡ setAt (runsOf t) p
     within p =
