@@ -1,16 +1,16 @@
 -- The anchors by position are those at the boundaries of runs, by bits.
 use Prim.Native.Nat.{ℕ, zero, suc, _+_, _-_, _*_, _/_, _%_, _≤_, _<_, _^_, min}
 use mathlib.Core.Path.{_≡_, refl, sym, ap, ap₂, _∙_, subst}
-use mathlib.Core.Bool.{Bool, true, false, cond, not}
-use mathlib.Core.List.{List, [], _∷_, _++_, append-assoc}
+use mathlib.Core.Bool.{cond, not}
+use mathlib.Core.List.{List, [], _∷_, _++_}
 use native.Mathlib.Omega.{arith}
 use native.Mathlib.Decide.{decLt}
 use native.Mathlib.Numerals.{add-one}
-use lib.Bits.{bitAnd, and-step, and-le-l, and-comm, and-self}
+use lib.Bits.{and-step, and-le-l, and-comm, and-self}
 use lib.ListN.{length, getD}
 use borrow.Author.Tests.{lt-ltb, le-ltb}
 use Rattle.styles.specs.declared.Mark.{Mark}
-use Rattle.styles.specs.Order.{stands, idOf}
+use Rattle.styles.specs.Order.{idOf}
 use Rattle.styles.specs.Marks.{Above, Sorted, member, only}
 use Rattle.styles.specs.Bits.{keepBit, pick}
 use Rattle.styles.proofs.OrderLaws.{less-flip, same-self}
@@ -21,8 +21,7 @@ use Rattle.runs.proofs.Laws.{at-past, total-more, total-mono}
 use Rattle.runs.proofs.ScanLaws.{at-run}
 use Rattle.tank.specs.declared.Tank.{Tank}
 use Rattle.lists.specs.declared.anchors.Anchor.{Anchor}
-use Rattle.lists.specs.declared.anchors.AnchorType.{AnchorType}
-use Rattle.lists.specs.declared.anchors.AnchorType.the-variants.{Start, End}
+use Rattle.richtext.specs.declared.AnchorType.the-variants.{Start, End}
 use Rattle.tank.specs.Rules.{View}
 use Rattle.tank.specs.State.{runsOf, tableOf, view, Laid}
 use Rattle.tank.proofs.Counted.{at-inside}

@@ -1,5 +1,5 @@
 -- A lent list of anchors: what the walk has stored after some turns, and what it answers.
-use Prim.Native.Nat.{ℕ, zero, suc, _+_, _-_, _≤_, _<_}
+use Prim.Native.Nat.{ℕ, zero, suc, _≤_, _<_}
 use mathlib.Core.Path.{_≡_, refl, sym, ap, _∙_, subst}
 use mathlib.Core.Bool.{Bool, true, false, cond}
 use mathlib.Core.List.{List, [], _∷_, _++_}
@@ -16,7 +16,8 @@ use Rattle.lists.specs.declared.anchors.AnchorCursor.{AnchorCursor}
 use Rattle.lists.specs.declared.anchors.NextAnchor.{NextAnchor}
 use Rattle.lists.specs.declared.anchors.NextAnchor.the-variants.{NoMore, Found}
 use Rattle.tank.specs.State.{view}
-use Rattle.lists.specs.Lists.{listRefusal, unlessRefused, inFront, answered}
+use Rattle.runs.specs.Lists.{inFront}
+use Rattle.lists.specs.Lists.{listRefusal, unlessRefused, answered}
 use Rattle.lists.specs.Anchors.{anchors, anchorsNumber, noAnchor, rest, Stands, Steps}
 
 -- ---- a step, taken apart

@@ -1,62 +1,30 @@
 -- A cursor runs through exactly the anchors: where it starts, how it goes to the next boundary, and what a step hands over.
-use Prim.Native.Nat.{ℕ, zero, suc, _+_, _-_, _*_, _/_, _%_, _≤_, _<_, _^_}
-use mathlib.Core.Path.{_≡_, refl, sym, ap, ap₂, _∙_, subst}
-use mathlib.Core.Bool.{Bool, true, false}
-use mathlib.Core.List.{List, [], _∷_, _++_, append-assoc}
+use Prim.Native.Nat.{ℕ, zero, suc, _+_, _-_, _*_, _/_, _≤_, _<_, _^_}
+use mathlib.Core.Path.{_≡_, refl, sym, ap, ap₂, _∙_}
+use mathlib.Core.List.{List, [], _∷_, _++_}
 use native.Mathlib.Omega.{arith}
 use native.Mathlib.Decide.{decLt}
-use native.Mathlib.Numerals.{add-one}
 use lib.Count.{ones, ones-step, trailingZeros}
 use lib.ListN.{length, getD, length-append}
 use lib.Pow.{pow-pos}
 use lib.Seq.{getD-take}
 use Rattle.styles.specs.declared.Mark.{Mark}
-use Rattle.styles.specs.Marks.{Sorted, blank}
+use Rattle.styles.specs.Marks.{blank}
 use Rattle.styles.specs.Bits.{pick, withoutBit}
-use Rattle.styles.proofs.CountLaws.{half-less, pick-length, pick-first, lowest-less, without-le}
+use Rattle.styles.proofs.BitLaws.{half-less}
+use Rattle.styles.proofs.CountLaws.{pick-length, pick-first, lowest-less, without-le}
 use Rattle.styles.proofs.UnionLaws.{pick-none}
-use Rattle.styles.proofs.WalkLaws.{sorted-pick}
-use Rattle.runs.specs.Runs.{run, runs, total, setAt}
-use Rattle.runs.proofs.Laws.{at-last, at-past}
+use Rattle.runs.specs.Runs.{runs, total}
 use Rattle.tank.specs.declared.Tank.{Tank}
 use Rattle.lists.specs.declared.anchors.Anchor.{Anchor}
 use Rattle.lists.specs.declared.anchors.AnchorCursor.{AnchorCursor}
-use Rattle.lists.specs.declared.anchors.AnchorType.{AnchorType}
-use Rattle.lists.specs.declared.anchors.AnchorType.the-variants.{Start, End}
+use Rattle.richtext.specs.declared.AnchorType.{AnchorType}
+use Rattle.richtext.specs.declared.AnchorType.the-variants.{Start, End}
 use Rattle.lists.specs.declared.anchors.NextAnchor.the-variants.{NoMore, Found}
-use Rattle.tank.specs.Rules.{freshLength}
-use Rattle.tank.specs.State.{tableOf, view, Laid, Formed}
-use Rattle.lists.specs.Anchors.{
-  lacking,
-  anchorOf,
-  anchorsOf,
-  boundaries,
-  anchors,
-  lackingBits,
-  leftAt,
-  laterThan,
-  rest,
-  Stands,
-  Steps,
-  Follows,
-  Settles,
-}
+use Rattle.tank.specs.State.{tableOf, view, Laid}
+use Rattle.lists.specs.Anchors.{anchorOf, anchorsOf, boundaries, anchors, lackingBits, leftAt, laterThan, rest, Stands, Steps, Follows, Settles}
 use Rattle.tank.proofs.Unique.{table-length}
-use Rattle.lists.proofs.AnchorLaws.{
-  pick-lacking,
-  between,
-  setBefore,
-  between-same,
-  boundary-is,
-  pass,
-  set-in,
-  run-some,
-  next-at,
-  run-fits,
-  to-next,
-  differs,
-  at-first,
-}
+use Rattle.lists.proofs.AnchorLaws.{set-in, run-some, next-at, run-fits, to-next, differs, at-first}
 
 -- a set of which bits are taken is still one of the table
 lack-in : (n s u : ℕ) → s < 2 ^ n → lackingBits s u < 2 ^ n
@@ -294,29 +262,3 @@ unfolding Steps
 one-end t c a d h g =
     let q : length (a ∷ rest t d) ≡ 0 = ap length (sym (h .0) ∙ g) in
     omega arith
-
--- ---- inside a group the anchors are in the order of identities
-pub sorted-lacking : (ms : List Mark) (s u : ℕ) → Sorted ms → Sorted (lacking (pick ms s) (pick ms u))
-sorted-lacking ms s u h = subst Sorted (pick-lacking ms s u h) (sorted-pick ms (lackingBits s u) h)
-
--- ---- an untouched tank has no anchor
-pub untouched-anchors : {t : Tank} → Formed t → t .touched ≡ false → anchors (view t) ≡ []
-unfolding anchors boundaries setAt total view
-untouched-anchors {t} f u =
-    let e : suc (t .length) ≡ suc (t .length) + 0 = omega arith in
-    ap (λ n. boundaries 0 n (view t)) e
-    ∙ pass 0 (suc (t .length)) 0 (view t)
-    (λ q a b.
-    boundary-is (f .laid) q
-    ∙ rw (f .fresh u) (ap₂ (between (tableOf t) q) (none q) (plain q) ∙ between-same (tableOf t) q 0))
-  where
-    plain : (p : ℕ) → setAt (run freshLength 0 ∷ []) p ≡ 0
-    plain p =
-        elim (decLt p freshLength) [
-          | yes h ↦ at-last (run freshLength 0) [] p (omega arith) (omega arith)
-          | no h ↦ at-past (run freshLength 0 ∷ []) p (omega arith)
-        ]
-
-    none : (p : ℕ) → setBefore (run freshLength 0 ∷ []) p ≡ 0
-    none zero = refl
-    none (suc p) = plain p

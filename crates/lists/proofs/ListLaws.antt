@@ -1,38 +1,25 @@
 -- The stretch lists by position are those of the runs, and what each way out of a list's call hands back.
-use Prim.Native.Nat.{ℕ, zero, suc, _+_, _-_, _≤_, _<_, _^_, min, max}
-use mathlib.Core.Path.{_≡_, refl, sym, ap, _∙_, subst}
-use mathlib.Core.Bool.{Bool, true, false}
-use mathlib.Core.List.{List, [], _∷_, _++_}
+use Prim.Native.Nat.{ℕ, zero, suc, _≤_, _<_}
+use mathlib.Core.Path.{_≡_, refl, sym, ap, _∙_}
+use mathlib.Core.List.{List, [], _∷_}
 use native.Mathlib.Omega.{arith}
 use native.Mathlib.Decide.{decLe}
 use lib.ListN.{length, drop, take}
 use lib.Seq.{take-at}
 use borrow.Author.Tests.{lt-ltb, le-ltb, le-leb, lt-leb, ne-eqb}
-use Rattle.styles.specs.Bits.{pick}
-use Rattle.styles.proofs.CountLaws.{pick-length, ones-none}
+use Rattle.styles.proofs.CountLaws.{pick-length}
 use Rattle.styles.proofs.SameLaws.{same-pick}
-use Rattle.runs.specs.Runs.{total, setAt}
-use Rattle.runs.specs.Count.{CanTally}
-use Rattle.runs.specs.Scan.{CanLook}
-use Rattle.runs.specs.Lists.{clipped, numbers, listed, CanList}
+use Rattle.runs.specs.Runs.{setAt}
+use Rattle.runs.specs.Positions.{asNumbers}
+use Rattle.runs.specs.Lists.{clipped, inFront, listed, CanList}
 use Rattle.runs.proofs.PositionLaws.{clipped-is, at-ext, at-none}
 use Rattle.tank.specs.declared.Tank.{Tank}
 use Rattle.lists.specs.declared.Listed.{Listed}
-use Rattle.tank.specs.Rules.{View, freshLength}
-use Rattle.tank.specs.State.{runsOf, tableOf, view, Laid, Formed}
-use Rattle.lists.specs.Lists.{
-  stretchesOver,
-  rangeList,
-  wholeList,
-  rangeRefusal,
-  listRefusal,
-  unlessRefused,
-  inFront,
-  answered,
-  rangeNeeded,
-  rangeNumber,
-}
+use Rattle.tank.specs.Rules.{View}
+use Rattle.tank.specs.State.{runsOf, tableOf, view, Laid}
+use Rattle.lists.specs.Lists.{stretchesOver, rangeList, wholeList, rangeRefusal, listRefusal, unlessRefused, answered, rangeNeeded}
 use Rattle.tank.proofs.Counted.{at-inside}
+use Rattle.tank.proofs.Shape.{can-look}
 use Rattle.tank.proofs.Unique.{inside-table}
 
 -- ---- by position and by runs
@@ -50,57 +37,25 @@ module _ {t : Tank} (f : Laid t) where
 
   pub range-is : (a b : ℕ) → b ≤ t .length → listed 0 a b (t .lens) (t .sets) (t .runs) ≡ rangeList a b (view t)
   unfolding rangeList
-  range-is a b h = ap (numbers 0) (over-is a b h)
+  range-is a b h = ap (asNumbers 0) (over-is a b h)
 
   pub whole-is : listed 1 0 (t .length) (t .lens) (t .sets) (t .runs) ≡ wholeList (view t)
   unfolding wholeList view
-  whole-is = ap (numbers 1) (over-is 0 (t .length) (omega arith))
-
-  -- what looking at the runs asks
-  pub can-look : CanLook (t .lens) (t .sets) (t .runs)
-  can-look =
-      let a = f .lens-514 in
-      let b = f .sets-514 in
-      let m = f .most in
-      record { lens-n = omega arith; sets-n = omega arith; small = subst (λ n. n < 2 ^ 63) (f .sum) (f .small) }
-
-  pub can-tally : CanTally (t .lens) (t .sets) (t .runs)
-  can-tally =
-      let m = f .most in
-      record { look = can-look; few = omega arith }
+  whole-is = ap (asNumbers 1) (over-is 0 (t .length) (omega arith))
 
   -- what writing the lists asks: room for what is needed
   pub can-range : (a b : ℕ) (out : List ℕ) → b ≤ t .length → length (rangeList a b (view t)) ≤ length out
       → CanList 0 a b (t .lens) (t .sets) (t .runs) out
-  can-range a b out h g = record { look = can-look; room = omega (arith, ap length (range-is a b h)) }
+  can-range a b out h g = record { look = can-look f; room = omega (arith, ap length (range-is a b h)) }
 
   pub can-whole : (out : List ℕ) → length (wholeList (view t)) ≤ length out → CanList 1 0 (t .length) (t .lens) (t .sets) (t .runs) out
-  can-whole out g = record { look = can-look; room = omega (arith, ap length whole-is) }
-
--- ---- an untouched tank: one unmarked stretch over a range, and none in the whole list
-module _ {t : Tank} (f : Formed t) (untouched : t .touched ≡ false) where
-  length-is : t .length ≡ freshLength
-  unfolding total
-  length-is = f .laid .sum ∙ ap total (f .fresh untouched)
-
-  pub untouched-range : (a b : ℕ) → a < b → b ≤ t .length → rangeList a b (view t) ≡ a ∷ b ∷ 0 ∷ []
-  unfolding clipped numbers total
-  untouched-range a b h g =
-      let x : max a 0 ≡ a = omega arith in
-      let y : min b (0 + freshLength) ≡ b = omega (arith, length-is) in
-      sym (range-is (f .laid) a b g) ∙ ap (λ rs. numbers 0 (clipped a b rs)) (f .fresh untouched) ∙ rw (x, y, lt-ltb a b h, ones-none)
-
-  pub untouched-whole : wholeList (view t) ≡ []
-  unfolding clipped numbers total
-  untouched-whole =
-      let e = length-is in
-      sym (whole-is (f .laid)) ∙ ap (λ rs. numbers 1 (clipped 0 (t .length) rs)) (f .fresh untouched) ∙ rw (e, ones-none)
+  can-whole out g = record { look = can-look f; room = omega (arith, ap length whole-is) }
 
 -- ---- the refusals of a range
 module _ (a b : ℕ) (v : View) where
   pub empty-list : b ≤ a → rangeList a b v ≡ []
-  unfolding rangeList numbers
-  empty-list h = ap (numbers 0) (at-none _ _ a b h)
+  unfolding rangeList asNumbers
+  empty-list h = ap (asNumbers 0) (at-none _ _ a b h)
 
   refusal-empty : b ≤ a → rangeRefusal a b v ≡ 0
   unfolding rangeRefusal

@@ -5,9 +5,9 @@ use mathlib.Core.List.{[], _∷_}
 use Rattle.styles.specs.declared.Mark.{Mark}
 use Rattle.styles.specs.declared.Value.the-variants.{Null}
 use Rattle.styles.specs.Marks.{insertMark, member, only, sameMarks}
-use Rattle.styles.specs.Order.{stands, numbers as order}
-use Rattle.runs.specs.Lists.{extended, stretchesAt, numbers}
-use Rattle.lists.specs.declared.anchors.AnchorType.the-variants.{Start, End}
+use Rattle.styles.specs.Order.{stands, numbers}
+use Rattle.runs.specs.Positions.{extended, stretchesAt, asNumbers}
+use Rattle.richtext.specs.declared.AnchorType.the-variants.{Start, End}
 use Rattle.tank.specs.Rules.{View, afterAnnotate}
 use Rattle.lists.specs.Lists.{rangeList, wholeList, rangeRefusal, rangeNeeded}
 use Rattle.lists.specs.Anchors.{before, behind, anchorOf, anchorsOf, boundary, boundaries, anchors}
@@ -29,25 +29,25 @@ case-5 = afterAnnotate 4 7 C case-2
 
 -- ---- stretches
 whole-5 : wholeList case-5 ≡ 2 ∷ 4 ∷ 1 ∷ 4 ∷ 5 ∷ 2 ∷ 5 ∷ 7 ∷ 1 ∷ []
-unfolding wholeList numbers stretchesAt extended afterAnnotate sameMarks insertMark stands order
+unfolding wholeList asNumbers stretchesAt extended afterAnnotate sameMarks insertMark stands numbers
 whole-5 = refl
 
 -- clipped, unmarked ones included
 range-5 : rangeList 1 5 case-5 ≡ 1 ∷ 2 ∷ 0 ∷ 2 ∷ 4 ∷ 1 ∷ 4 ∷ 5 ∷ 2 ∷ []
-unfolding rangeList numbers stretchesAt extended afterAnnotate sameMarks insertMark stands order
+unfolding rangeList asNumbers stretchesAt extended afterAnnotate sameMarks insertMark stands numbers
 range-5 = refl
 
 inside-5 : rangeList 3 4 case-5 ≡ 3 ∷ 4 ∷ 1 ∷ []
-unfolding rangeList numbers stretchesAt extended afterAnnotate sameMarks insertMark stands order
+unfolding rangeList asNumbers stretchesAt extended afterAnnotate sameMarks insertMark stands numbers
 inside-5 = refl
 
 untouched : rangeList 3 9 bare ≡ 3 ∷ 9 ∷ 0 ∷ []
-unfolding rangeList numbers stretchesAt extended sameMarks
+unfolding rangeList asNumbers stretchesAt extended sameMarks
 untouched = refl
 
 -- an empty range past the length lists nothing and is not refused; one that is not empty gives 4
 empty : rangeNeeded 50 40 case-5 ≡ record { number = 0; count = 0 }
-unfolding rangeRefusal rangeList numbers stretchesAt
+unfolding rangeRefusal rangeList asNumbers stretchesAt
 empty = refl
 
 over : rangeNeeded 5 11 case-5 ≡ record { number = 4; count = 0 }
@@ -55,19 +55,19 @@ unfolding rangeRefusal afterAnnotate
 over = refl
 
 needed : rangeNeeded 1 5 case-5 ≡ record { number = 0; count = 9 }
-unfolding rangeRefusal rangeList numbers stretchesAt extended afterAnnotate sameMarks insertMark stands order
+unfolding rangeRefusal rangeList asNumbers stretchesAt extended afterAnnotate sameMarks insertMark stands numbers
 needed = refl
 
 -- ---- anchors
 anchors-2 : anchors case-2 ≡ anchorOf 2 Start A ∷ anchorOf 4 End A ∷ []
-unfolding anchors boundaries boundary before behind anchorsOf afterAnnotate insertMark member only stands order
+unfolding anchors boundaries boundary before behind anchorsOf afterAnnotate insertMark member only stands numbers
 anchors-2 = refl
 
 anchors-5 : anchors case-5 ≡ anchorOf 2 Start A ∷ anchorOf 4 Start C ∷ anchorOf 4 End A ∷ anchorOf 6 End C ∷ []
-unfolding anchors boundaries boundary before behind anchorsOf afterAnnotate insertMark member only stands order
+unfolding anchors boundaries boundary before behind anchorsOf afterAnnotate insertMark member only stands numbers
 anchors-5 = refl
 
 -- one boundary: the end of A before the start of C; a mark on the last position ends there
 anchors-edge : anchors (afterAnnotate 5 10 C case-2) ≡ anchorOf 2 Start A ∷ anchorOf 4 End A ∷ anchorOf 5 Start C ∷ anchorOf 9 End C ∷ []
-unfolding anchors boundaries boundary before behind anchorsOf afterAnnotate insertMark member only stands order
+unfolding anchors boundaries boundary before behind anchorsOf afterAnnotate insertMark member only stands numbers
 anchors-edge = refl

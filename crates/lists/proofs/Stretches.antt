@@ -10,7 +10,7 @@ use lib.ListN.{length}
 use Rattle.styles.specs.declared.Mark.{Mark}
 use Rattle.styles.specs.Order.{idOf, sameId}
 use Rattle.styles.specs.Marks.{sameMarks}
-use Rattle.runs.specs.Lists.{Stretch, stretch, extended, stretchesAt}
+use Rattle.runs.specs.Positions.{Stretch, stretch, extended, stretchesAt}
 use Rattle.tank.specs.Rules.{View}
 use Rattle.lists.specs.Lists.{stretchesOver}
 

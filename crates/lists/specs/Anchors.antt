@@ -1,7 +1,7 @@
 -- Document 01, "Questions and lists": a whole tank's anchors from the positions, and a cursor that runs through them.
 use Prim.Native.Nat.{ℕ, zero, suc, _+_, _-_, _≤_, _<_, _^_}
 use mathlib.Core.Path.{_≡_}
-use mathlib.Core.Bool.{Bool, cond, not}
+use mathlib.Core.Bool.{cond, not}
 use mathlib.Core.List.{List, [], _∷_, _++_}
 use lib.Bits.{bitAnd}
 use lib.Dec.{ltb}
@@ -14,8 +14,8 @@ use Rattle.runs.specs.Runs.{runs, total}
 use Rattle.tank.specs.declared.Tank.{Tank}
 use Rattle.lists.specs.declared.anchors.Anchor.{Anchor}
 use Rattle.lists.specs.declared.anchors.AnchorCursor.{AnchorCursor}
-use Rattle.lists.specs.declared.anchors.AnchorType.{AnchorType}
-use Rattle.lists.specs.declared.anchors.AnchorType.the-variants.{Start, End}
+use Rattle.richtext.specs.declared.AnchorType.{AnchorType}
+use Rattle.richtext.specs.declared.AnchorType.the-variants.{Start, End}
 use Rattle.lists.specs.declared.anchors.NextAnchor.{NextAnchor}
 use Rattle.lists.specs.declared.anchors.NextAnchor.the-variants.{NoMore, Found}
 use Rattle.tank.specs.Rules.{View}

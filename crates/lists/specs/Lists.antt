@@ -1,26 +1,25 @@
 -- Document 01, "Questions and lists": the stretches of a range and of the whole tank, from the positions.
-use Prim.Native.Nat.{ℕ, suc}
-use mathlib.Core.Bool.{Bool, cond}
-use mathlib.Core.List.{List, [], _++_}
+use Prim.Native.Nat.{ℕ}
+use mathlib.Core.Bool.{cond}
+use mathlib.Core.List.{List, []}
 use lib.Dec.{ltb, leb, eqb}
-use lib.ListN.{length, drop}
-use Rattle.styles.specs.Marks.{sameMarks}
-use Rattle.runs.specs.Lists.{Stretch, stretchesAt, numbers}
+use lib.ListN.{length}
+use Rattle.runs.specs.Positions.{Stretch, stretchesAt, asNumbers}
 use Rattle.lists.specs.declared.Listed.{Listed}
-use Rattle.tank.specs.Rules.{View}
+use Rattle.tank.specs.Rules.{View, alike}
 
 -- the maximal stretches of neighbouring positions of a .. b with equal sets, clipped to it, each with its count of marks: a position more
 -- lengthens the last stretch where its marks are those of the position before it, and begins one otherwise
 abbrev pub stretchesOver : ℕ → ℕ → View → List Stretch
-stretchesOver a b v = stretchesAt (λ p. sameMarks (v .at p) (v .at (suc p))) (λ p. length (v .at p)) a b
+stretchesOver a b v = stretchesAt (alike (v .at)) (λ p. length (v .at p)) a b
 
 -- the stretches over a .. b, unmarked ones included: start, end, count of marks of each in order
 unfoldable pub rangeList : ℕ → ℕ → View → List ℕ
-rangeList a b v = numbers 0 (stretchesOver a b v)
+rangeList a b v = asNumbers 0 (stretchesOver a b v)
 
 -- the whole tank's stretches, in the same shape, unmarked ones left out
 unfoldable pub wholeList : View → List ℕ
-wholeList v = numbers 1 (stretchesOver 0 (v .length) v)
+wholeList v = asNumbers 1 (stretchesOver 0 (v .length) v)
 
 -- 4: range end over the length; an empty range is not asked
 unfoldable pub rangeRefusal : ℕ → ℕ → View → ℕ
@@ -34,10 +33,6 @@ listRefusal lower room needed = cond (eqb lower 0) (cond (ltb room needed) 11 0)
 abbrev pub unlessRefused : {A : Type 0} → ℕ → List A → List A
 unlessRefused number xs = cond (eqb number 0) xs []
 
--- a lent list with xs at its front, the rest as it was
-abbrev pub inFront : {A : Type 0} → List A → List A → List A
-inFront xs out = xs ++ drop (length xs) out
-
 -- a number, and how many places of the buffer are filled beside it
 abbrev pub answered : {A : Type 0} → ℕ → List A → Listed
 answered number xs = record { number = number; count = length (unlessRefused number xs) }
@@ -50,6 +45,6 @@ rangeNeeded a b v = answered (rangeRefusal a b v) (rangeList a b v)
 abbrev pub rangeNumber : ℕ → ℕ → ℕ → View → ℕ
 rangeNumber a b room v = listRefusal (rangeRefusal a b v) room (length (rangeList a b v))
 
--- and for the whole tank
+-- the number that the whole tank's list gives
 abbrev pub wholeNumber : ℕ → View → ℕ
 wholeNumber room v = listRefusal 0 room (length (wholeList v))

@@ -1,20 +1,15 @@
 // A whole tank's anchors: a cursor by value that runs through them, their count, and the list that fills what a caller lends.
 ghost use mathlib.Core.Path.{_≡_};
-ghost use lib.Count.{ones};
 ghost use lib.ListN.{drop, getD, length};
 ghost use Prim.Native.Nat.{_+_, _<_, _≤_};
 ghost use Rattle.styles.specs.Marks.{blank};
 ghost use Rattle.lists.specs.Anchors.{lackingBits, anchorOf, anchors, anchorsNumber, noAnchor, leftAt, rest, Stands, Steps, Follows, Settles};
-ghost use Rattle.lists.specs.Lists.{unlessRefused, inFront, answered};
+ghost use Rattle.lists.specs.Lists.{unlessRefused, answered};
+ghost use Rattle.runs.specs.Lists.{inFront};
 ghost use Rattle.tank.specs.State.{view, Sound};
 use super::Listed;
+use richtext::AnchorType;
 use tank::Tank;
-
-// Which side of a stretch an anchor stands at.
-pub enum AnchorType {
-    Start,
-    End,
-}
 
 // A position, the side, and the mark's identity.
 pub struct Anchor {

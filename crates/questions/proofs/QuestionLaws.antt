@@ -1,27 +1,28 @@
 -- The questions by their cases: each test by its number, and masks over the table in place of tests of marks.
-use Prim.Native.Nat.{ℕ, zero, suc, _-_, _≤_, _<_, _^_}
+use Prim.Native.Nat.{ℕ, zero, suc, _≤_, _<_, _^_}
 use mathlib.Core.Path.{_≡_, refl, sym, ap, _∙_}
 use mathlib.Core.Bool.{Bool, true, false}
 use mathlib.Core.List.{List, []}
 use native.Mathlib.Omega.{arith}
 use lib.Bits.{bitAnd, and-le-r}
 use lib.ListN.{length}
-use lib.Pow.{pow-mono, pow-pos}
+use lib.Pow.{pow-mono}
 use borrow.Author.Tests.{lt-ltb, le-ltb, le-leb, lt-leb}
 use Rattle.styles.specs.declared.Mark.{Mark}
 use Rattle.styles.specs.declared.Styles.{Styles}
 use Rattle.styles.specs.declared.Value.{Value}
 use Rattle.styles.specs.Answers.{stylesOf}
-use Rattle.styles.specs.Bits.{pick, hasBit, maskOf, TopIn}
+use Rattle.styles.specs.Bits.{pick, maskOf}
 use Rattle.styles.specs.Marks.{keyIs, valueIs, sameMarks, blank}
 use Rattle.styles.specs.Values.{valueNan}
-use Rattle.styles.proofs.MaskLaws.{has-key-bits, shows-bits, mask-less, one-top}
+use Rattle.styles.proofs.MaskLaws.{has-key-bits, shows-bits, mask-less}
 use Rattle.styles.proofs.SameLaws.{same-pick}
 use Rattle.styles.proofs.UnionLaws.{pick-none}
 use Rattle.runs.specs.Runs.{runs, total, setAt, sums}
 use Rattle.runs.specs.Gather.{gather}
-use Rattle.runs.specs.Scan.{anyAt, allAt, meets, topIn, shows, commonAt, CanLook}
-use Rattle.runs.proofs.ScanLaws.{any-ext, all-ext, top-in-is, top-in-none, can-look as can-ask}
+use Rattle.runs.specs.Positions.{anyAt, allAt}
+use Rattle.runs.specs.Scan.{meets, shows, commonAt}
+use Rattle.runs.proofs.ScanLaws.{any-ext, all-ext, top-in-holds, can-look as can-ask}
 use lib.Dec.{eqb}
 use Rattle.tank.specs.declared.Tank.{Tank}
 use Rattle.questions.specs.declared.SetAsked.{SetAsked}
@@ -33,23 +34,8 @@ use Rattle.tank.specs.State.{runsOf, tableOf, view, Formed}
 use Rattle.questions.specs.Questions.{toldOf, setOf, sharedOf, positionRefusal, insertRefusal, yesNoRefusal, yesNo, rangeContainsKey, rangeHasKeyValue, sameRefusal, agreeing, stylesOfRange}
 use Rattle.tank.proofs.Counted.{at-inside}
 use Rattle.tank.proofs.GrowLaws.{common-there, common-inherited}
-use Rattle.tank.proofs.Shape.{view-touched}
+use Rattle.tank.proofs.Shape.{can-look, view-touched}
 use Rattle.tank.proofs.Unique.{table-length, inside-table}
-
--- ---- the highest bit of u below k, as a test of u and v
-top-is : (k u v : ℕ) → u < 2 ^ k → TopIn u v (topIn k u v)
-top-is k u v l =
-    record {
-      none = λ e. rw e (top-in-none k v);
-      top =
-          λ j g h.
-          sym
-          (top-in-is k u v (hasBit j v) l
-          (record {
-            none = λ e. absurd (omega (arith, pow-pos j));
-            top = λ i a b. ap (λ (x : ℕ). hasBit x v) (one-top j i u g h a b);
-          }));
-    }
 
 -- ---- no set beside a number
 pub no-set-is : (n : ℕ) {styles : Styles} → styles ≡ stylesOf [] → _≡_ {A = SetAsked} (record { number = n; styles = styles }) (setOf n [])
@@ -63,18 +49,8 @@ not-shared-is (suc n) e = λ i. record { number = suc n; agree = false; styles =
 
 module _ {t : Tank} (f : Formed t) where
   -- ---- what the runs are asked
-  pub can-look : CanLook (t .lens) (t .sets) (t .runs)
-  can-look =
-      let l = f .laid in
-      let a = l .lens-514 in
-      let b = l .sets-514 in
-      let c = l .most in
-      let d = l .sum in
-      let g = l .small in
-      record { lens-n = omega arith; sets-n = omega arith; small = omega arith }
-
   pub looks : ((t .runs ≤ length (t .lens)) × (t .runs ≤ length (t .sets))) × (sums (t .lens) (t .runs) < 2 ^ 63)
-  looks = can-ask can-look
+  looks = can-ask (can-look (f .laid))
 
   -- a set at a position is one over the table
   pub set-inside : (p : ℕ) → setAt (runsOf t) p < 2 ^ t .marks
@@ -187,7 +163,7 @@ module _ {t : Tank} (f : Formed t) where
         (λ p g h.
         let s = setAt (runsOf t) p in
         (λ i. shows (m i) (n i) s)
-        ∙ shows-bits (tableOf t) s key w blank _ (f .laid .sorted) (top-is 64 _ (maskOf (valueIs w) (tableOf t)) (first-small s))))
+        ∙ shows-bits (tableOf t) s key w blank _ (f .laid .sorted) (top-in-holds 64 _ (maskOf (valueIs w) (tableOf t)) (first-small s))))
         ∙ told-done a b (valueNan w) _ some fits number e
 
   -- ---- same marks throughout

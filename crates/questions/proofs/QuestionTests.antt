@@ -11,7 +11,7 @@ use Rattle.styles.specs.declared.Value.the-variants.{Null, Flag, Decimal}
 use Rattle.styles.specs.Answers.{stylesOf, rankOf}
 use Rattle.styles.specs.Marks.{winner, hasKey, member, common, sameMarks, insertMark}
 use Rattle.styles.specs.Order.{numbers, stands}
-use Rattle.runs.specs.Scan.{anyAt, allAt}
+use Rattle.runs.specs.Positions.{anyAt, allAt}
 use Rattle.questions.specs.declared.Asked.the-variants as asked
 use Rattle.questions.specs.declared.Shown.the-variants as shown
 use Rattle.questions.specs.declared.Told.the-variants as told

@@ -12,7 +12,7 @@ use Rattle.styles.specs.declared.Winner.the-variants as won
 use Rattle.styles.specs.Answers.{stylesOf, rankOf}
 use Rattle.styles.specs.Marks.{winner, hasKey, showsValue, sameMarks}
 use Rattle.styles.specs.Values.{valueNan}
-use Rattle.runs.specs.Scan.{anyAt, allAt}
+use Rattle.runs.specs.Positions.{anyAt, allAt}
 use Rattle.questions.specs.declared.Asked.{Asked}
 use Rattle.questions.specs.declared.Asked.the-variants as asked
 use Rattle.questions.specs.declared.SetAsked.{SetAsked}

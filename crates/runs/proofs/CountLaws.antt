@@ -1,17 +1,14 @@
 -- How many runs an edit leaves: an alteration at most two more, a deletion none more, an insertion at most two more, and one more where the
 -- new positions get what their neighbours have in common.
-use Prim.Native.Nat.{ℕ, zero, suc, _+_, _-_, _≤_, _<_, min, max}
-use mathlib.Core.Path.{_≡_, refl, sym, ap, ap₂, _∙_}
+use Prim.Native.Nat.{ℕ, _+_, _-_, _≤_, _<_, min, max}
+use mathlib.Core.Path.{_≡_, refl, sym, ap, _∙_}
 use mathlib.Core.List.{List, [], _∷_}
 use native.Mathlib.Omega.{arith}
-use native.Mathlib.Decide.{decLt, decLe, ℕ-discrete}
-use lib.Bits.{bitAnd, and-self}
+use native.Mathlib.Decide.{decLe, ℕ-discrete}
 use lib.ListN.{length}
 use Rattle.runs.specs.Runs.{Run, run, total, pushRun, clip, copyRuns, adding}
 use Rattle.runs.specs.Edits.{part, altered, deleted, inserted}
-use Rattle.runs.specs.Scan.{commonAt}
-use Rattle.runs.proofs.Laws.{push-none, push-join, push-new, push-by, at-in, at-last, length-push, length-copy}
-use Rattle.runs.proofs.EditLaws.{add-none}
+use Rattle.runs.proofs.Laws.{push-none, push-join, push-new, push-by, length-push, length-copy}
 
 -- 1 where there is one at least, else 0
 ind : ℕ → ℕ
@@ -191,70 +188,4 @@ deleted-runs (r ∷ rs) a b up fits =
           ap (λ (x : List Run). pushRun x len s) e ∙ push-push (part [] 0 a rs) (clip 0 a (total rs) (r .len)) len s
           in
           omega (arith, ap length g, length-push (part [] 0 a rs) (clip 0 a (total rs) (r .len) + len) s, part-short a rs)
-    ]
-
--- ---- an insertion of what its neighbours have in common leaves one run more at most
--- with one run more behind the place, the others as before
-insert-later : (pos l s : ℕ) (r : Run) (rs : List Run) → pos ≤ total rs
-    → inserted (r ∷ rs) pos l s ≡ pushRun (inserted rs pos l s) (clip pos (total rs + r .len) (total rs) (r .len)) (adding 0 (r .set))
-unfolding inserted copyRuns total
-insert-later pos l s r rs h =
-    let k = clip pos (total rs + r .len) (total rs) (r .len) in
-    let grown : List Run → List Run = λ x. pushRun x l s in
-    ap (λ (x : List Run). pushRun x k (adding 0 (r .set)))
-    (ap (λ (x : List Run). part (grown x) pos (total rs + r .len) rs) (copy-short (adding 0) 0 pos r rs h)
-    ∙ copy-to-end (adding 0) (grown (part [] 0 pos rs)) pos (total rs + r .len) (total rs) rs (omega arith) (omega arith))
-
--- at the end or past it, a push
-insert-last : (rs : List Run) (pos l s : ℕ) → total rs ≤ pos → length (inserted rs pos l s) ≤ length rs + 1
-unfolding inserted
-insert-last rs pos l s h =
-    let grown = pushRun (part [] 0 pos rs) l s in
-    omega (arith, ap length (copy-none (adding 0) grown pos (total rs) rs h), length-push (part [] 0 pos rs) l s, part-short pos rs)
-
--- inside the last run, with its set: the three pushes are one
-insert-inside : (r : Run) (rs : List Run) (pos l s : ℕ) → total rs ≤ pos → s ≡ r .set → length (inserted (r ∷ rs) pos l s) ≤ length rs + 1
-unfolding inserted copyRuns total
-insert-inside r rs pos l s h e =
-    let k = clip pos (total rs + r .len) (total rs) (r .len) in
-    let d = clip 0 pos (total rs) (r .len) in
-    let u = adding 0 (r .set) in
-    let base = part [] 0 pos rs in
-    let grown = pushRun (pushRun base d u) l s in
-    let i : s ≡ u = e ∙ sym (add-none (r .set)) in
-    let g : pushRun (part grown pos (total rs + r .len) rs) k u ≡ pushRun base (d + l + k) u =
-    ap (λ (x : List Run). pushRun x k u) (copy-none (adding 0) grown pos (total rs + r .len) rs h ∙ ap (pushRun (pushRun base d u) l) i ∙ push-push base d l u)
-    ∙ push-push base (d + l) k u
-    in
-    omega (arith, ap length g, length-push base (d + l + k) u, part-short pos rs)
-
-common-in : (r : Run) (rs : List Run) (pos : ℕ) → pos < total rs → commonAt (r ∷ rs) pos ≡ commonAt rs pos
-unfolding commonAt
-common-in r rs zero h = refl
-common-in r rs (suc p) h = ap₂ bitAnd (at-in r rs p (omega arith)) (at-in r rs (suc p) h)
-
-common-last : (r : Run) (rs : List Run) (pos : ℕ) → total rs < pos → pos < total rs + r .len → commonAt (r ∷ rs) pos ≡ r .set
-unfolding commonAt
-common-last r rs zero h g = absurd (omega arith)
-common-last r rs (suc p) h g = ap₂ bitAnd (at-last r rs p (omega arith) (omega arith)) (at-last r rs (suc p) (omega arith) g) ∙ and-self (r .set)
-
-pub inserted-common : (rs : List Run) (pos l : ℕ) → pos ≤ total rs → length (inserted rs pos l (commonAt rs pos)) ≤ length rs + 1
-unfolding total
-inserted-common [] pos l h = insert-last [] pos l (commonAt [] pos) (omega arith)
-inserted-common (r ∷ rs) pos l h =
-    let s = commonAt (r ∷ rs) pos in
-    let later : pos ≤ total rs → length (inserted (r ∷ rs) pos l s) ≤ length (inserted rs pos l s) + 1 =
-    λ k. omega (arith, ap length (insert-later pos l s r rs k), length-push (inserted rs pos l s) (clip pos (total rs + r .len) (total rs) (r .len)) (adding 0 (r .set)))
-    in
-    elim (decLt pos (total rs)) [
-      | yes k ↦ omega (arith, later (omega arith), ap (λ (x : ℕ). length (inserted rs pos l x)) (common-in r rs pos k), inserted-common rs pos l (omega arith))
-      | no k ↦
-          elim (decLe pos (total rs)) [
-            | yes g ↦ omega (arith, later g, insert-last rs pos l s (omega arith))
-            | no g ↦
-                elim (decLt pos (total rs + r .len)) [
-                  | yes i ↦ omega (arith, insert-inside r rs pos l s (omega arith) (common-last r rs pos (omega arith) i))
-                  | no i ↦ insert-last (r ∷ rs) pos l s (omega arith)
-                ]
-          ]
     ]

@@ -1,22 +1,18 @@
 -- The union of all sets: it has the bits that some position's set has and no others; and what the edits make of it.
 use Prim.Native.Nat.{ℕ, _+_, _-_, _≤_, _<_, max}
-use mathlib.Core.Path.{_≡_, refl, sym, ap, _∙_}
-use mathlib.Core.Bool.{true}
-use mathlib.Core.List.{List, [], _∷_, map}
+use mathlib.Core.Path.{_≡_, sym, ap, _∙_}
+use mathlib.Core.List.{List, [], _∷_}
 use native.Mathlib.Omega.{arith}
 use native.Mathlib.Numerals.{add-one}
 use native.Mathlib.Decide.{decLt, ℕ-discrete}
-use borrow.Author.Tests.{eq-eqb, eqb-true}
 use lib.Bits.{bitAnd, bitOr}
 use lib.ListN.{getD}
-use Rattle.styles.specs.Bits.{hasBit}
-use Rattle.styles.proofs.StyleLaws.{allOf}
-use Rattle.runs.specs.Runs.{Run, runs, total, setAt, Canon, pushRun, copyRuns, mapRuns, adding}
+use Rattle.runs.specs.Runs.{Run, runs, total, setAt, Canon, mapRuns, adding}
 use Rattle.runs.specs.Edits.{altered, deleted, inserted}
 use Rattle.runs.specs.Gather.{gather}
 use Rattle.runs.proofs.Digits.{digit, or-digit, digit-none, digits-ext, within-digit, digit-within}
-use Rattle.runs.proofs.Laws.{push-by, at-in, at-last, total-copy, copy-before, canon-copy}
-use Rattle.runs.proofs.EditLaws.{add-is, copy-to, total-altered, altered-in, altered-out, canon-altered, total-deleted, deleted-before, deleted-after, canon-deleted, total-inserted, inserted-before, inserted-in, inserted-after, canon-inserted}
+use Rattle.runs.proofs.Laws.{at-in, at-last}
+use Rattle.runs.proofs.EditLaws.{add-is, total-altered, altered-in, altered-out, canon-altered, total-deleted, deleted-before, deleted-after, canon-deleted, total-inserted, inserted-before, inserted-in, inserted-after, canon-inserted}
 
 -- ---- by its bits
 pub gather-more : (lens sets : List ℕ) (k : ℕ) → gather (runs lens sets (k + 1)) ≡ bitOr (getD sets k 0) (gather (runs lens sets k))
@@ -59,95 +55,13 @@ gather-least rs i d c h =
 pub set-within : (rs : List Run) (p : ℕ) → p < total rs → bitAnd (setAt rs p) (gather rs) ≡ setAt rs p
 set-within rs p h = digit-within (setAt rs p) (gather rs) (λ i. gather-digit rs p i h)
 
-pub gather-has : (rs : List Run) (p i : ℕ) → p < total rs → hasBit i (setAt rs p) ≡ true → hasBit i (gather rs) ≡ true
-gather-has rs p i h e = eq-eqb (digit (gather rs) i) 1 (omega (arith, gather-digit rs p i h, eqb-true (digit (setAt rs p) i) 1 e))
-
-pub gather-some : (rs : List Run) (i : ℕ) → Canon rs → hasBit i (gather rs) ≡ true → (p : ℕ) × (p < total rs) × (hasBit i (setAt rs p) ≡ true)
-gather-some rs i c e =
-    let q = gather-from rs i c (eqb-true (digit (gather rs) i) 1 e) in
-    (q .0, q .1, eq-eqb (digit (setAt rs (q .0)) i) 1 (q .2))
-
--- the least set that has every position's
-pub gather-within : (rs : List Run) (u : ℕ) → Canon rs → ((p : ℕ) → p < total rs → bitAnd (setAt rs p) u ≡ setAt rs p) → bitAnd (gather rs) u ≡ gather rs
-gather-within rs u c h =
-    digit-within (gather rs) u (λ i. gather-least rs i (digit u i) c (λ p k. within-digit (setAt rs p) u (h p k) i))
-
--- as the union of the plain list of sets
-pub gather-all : (rs : List Run) → gather rs ≡ allOf (map (λ r. r .set) rs)
-unfolding gather allOf
-gather-all [] = refl
-gather-all (r ∷ rs) = ap (bitOr (r .set)) (gather-all rs)
-
--- ---- a push, a renumbering
-pub gather-push : (rs : List Run) (l s : ℕ) → 0 < l → gather (pushRun rs l s) ≡ bitOr s (gather rs)
-unfolding gather
-gather-push rs l s h =
-    push-by (λ a b. gather b ≡ bitOr s (gather a)) l s (λ a z. absurd (omega arith))
-    (λ r a nz e.
-    digits-ext (bitOr s (gather a)) (bitOr s (bitOr (r .set) (gather a)))
-    (λ i. omega (arith, or-digit s (gather a) i, or-digit s (bitOr (r .set) (gather a)) i, or-digit (r .set) (gather a) i, ap (λ (x : ℕ). digit x i) e)))
-    (λ a nz o. refl)
-    rs
-
+-- ---- a renumbering
 pub gather-map : (f : ℕ → ℕ) → f 0 ≡ 0 → ((s u : ℕ) → f (bitOr s u) ≡ bitOr (f s) (f u)) → (rs : List Run) → gather (mapRuns f rs) ≡ f (gather rs)
 unfolding gather mapRuns
 gather-map f none split [] = sym none
 gather-map f none split (r ∷ rs) = ap (bitOr (f (r .set))) (gather-map f none split rs) ∙ sym (split (r .set) (gather rs))
 
--- ---- a copy, the edits
--- what has the sets of the base and what f makes of those that are copied has all sets of a copy
-pub gather-copy : (f : ℕ → ℕ) (base : List Run) (from to : ℕ) (rs : List Run) (u : ℕ) → Canon base → bitAnd (gather base) u ≡ gather base
-    → ((p : ℕ) → from ≤ p → p < to → p < total rs → bitAnd (f (setAt rs p)) u ≡ f (setAt rs p))
-    → bitAnd (gather (copyRuns f base from to rs)) u ≡ gather (copyRuns f base from to rs)
-gather-copy f base from to rs u c e h =
-    digit-within (gather (copyRuns f base from to rs)) u
-    (λ i.
-    gather-least (copyRuns f base from to rs) i (digit u i) (canon-copy f base from to rs c)
-    (λ p k.
-    let t = total-copy f base from to rs in
-    elim (decLt p (total base)) [
-      | yes g ↦
-          omega (
-            arith,
-            gather-digit base p i g,
-            within-digit (gather base) u e i,
-            ap (λ (x : ℕ). digit x i) (copy-before f base from to rs p g),
-          )
-      | no g ↦
-          let q = from + (p - total base) in
-          omega (
-            arith,
-            within-digit (f (setAt rs q)) u (h q (omega arith) (omega arith) (omega arith)) i,
-            ap (λ (x : ℕ). digit x i) (copy-to f base from to rs p q (omega arith) (omega arith) (omega arith) (omega arith)),
-          )
-    ]))
-
--- what has all sets and what f makes of those in a .. b has all sets of an alteration
-pub gather-change : (rs : List Run) (a b : ℕ) (f : ℕ → ℕ) (u : ℕ) → a ≤ b → b ≤ total rs → bitAnd (gather rs) u ≡ gather rs
-    → ((p : ℕ) → a ≤ p → p < b → bitAnd (f (setAt rs p)) u ≡ f (setAt rs p))
-    → bitAnd (gather (altered rs a b f)) u ≡ gather (altered rs a b f)
-gather-change rs a b f u up fits e h =
-    digit-within (gather (altered rs a b f)) u
-    (λ i.
-    gather-least (altered rs a b f) i (digit u i) (canon-altered rs a b f)
-    (λ p k.
-    let t = total-altered rs a b f up fits in
-    let w = gather-digit rs p i (omega arith) in
-    let v = within-digit (gather rs) u e i in
-    elim (decLt p a) [
-      | yes g ↦ omega (arith, ap (λ (x : ℕ). digit x i) (altered-out rs a b f up fits p (λ x y. omega arith) (omega arith)))
-      | no g ↦
-          elim (decLt p b) [
-            | yes l ↦
-                omega (
-                  arith,
-                  within-digit (f (setAt rs p)) u (h p (omega arith) l) i,
-                  ap (λ (x : ℕ). digit x i) (altered-in rs a b f up fits p (omega arith) l),
-                )
-            | no l ↦ omega (arith, ap (λ (x : ℕ). digit x i) (altered-out rs a b f up fits p (λ x y. omega arith) (omega arith)))
-          ]
-    ]))
-
+-- ---- the edits
 -- a deletion leaves no bit that was not there
 pub gather-deleted : (rs : List Run) (a b : ℕ) → a ≤ b → b ≤ total rs → bitAnd (gather (deleted rs a b)) (gather rs) ≡ gather (deleted rs a b)
 gather-deleted rs a b up fits =

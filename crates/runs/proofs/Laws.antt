@@ -1,14 +1,12 @@
 -- The laws of `specs/Runs.antt`.
 use Prim.Native.Nat.{ℕ, zero, suc, _+_, _-_, _≤_, _<_, min}
 use mathlib.Core.Path.{_≡_, refl, sym, ap, _∙_, subst}
-use mathlib.Core.Bool.{cond}
 use mathlib.Core.List.{List, [], _∷_}
 use native.Mathlib.Omega.{arith}
 use native.Mathlib.Decide.{decLt, decLe, ℕ-discrete}
 use native.Mathlib.Numerals.{add-one, sub-one}
 use lib.ListN.{length, getD, set}
 use lib.Seq.{getD-set-same, getD-set-other}
-use lib.Dec.{ltb}
 use borrow.Author.Tests.{lt-ltb, le-ltb, eq-eqb, ne-eqb}
 use Rattle.runs.specs.Runs.{Run, run, runs, total, setAt, Other, Canon, joinRun, pushRun, clip, copyRuns, sums, Found, Spare}
 
@@ -101,21 +99,6 @@ length-push rs l s =
 pub push-longer : (rs : List Run) (l s : ℕ) → length rs ≤ length (pushRun rs l s)
 push-longer rs l s =
     push-by (λ a b. length a ≤ length b) l s (λ a z. omega arith) (λ r a nz e. omega arith) (λ a nz o. omega arith) rs
-
--- the set at each position after a push, in one equation
-pub at-push : (rs : List Run) (l s p : ℕ)
-    → setAt (pushRun rs l s) p ≡ cond (ltb p (total rs)) (setAt rs p) (cond (ltb p (total rs + l)) s 0)
-at-push rs l s p =
-    elim (decLt p (total rs)) [
-      | yes h ↦ simp (lt-ltb p (total rs) h) (push-before rs l s p h)
-      | no h ↦
-          elim (decLt p (total rs + l)) [
-            | yes k ↦ simp (le-ltb p (total rs) (omega arith), lt-ltb p (total rs + l) k) (push-at rs l s p (omega arith) k)
-            | no k ↦
-                simp (le-ltb p (total rs) (omega arith), le-ltb p (total rs + l) (omega arith))
-                (at-past (pushRun rs l s) p (omega (arith, total-push rs l s)))
-          ]
-    ]
 
 -- ---- the runs of two parallel lists
 pub length-runs : (lens sets : List ℕ) (n : ℕ) → length (runs lens sets n) ≡ n
@@ -293,10 +276,6 @@ module _ (lens sets : List ℕ) where
     unfolding runs copyRuns
     copy-more = rw add-one
 
-    pub copy-count : (olens osets : List ℕ) (at : ℕ) → runs olens osets at ≡ copyRuns f base from to (runs lens sets k)
-        → at ≡ length (copyRuns f base from to (runs lens sets k))
-    copy-count olens osets at e = sym (length-runs olens osets at) ∙ ap length e
-
   -- the copy of more runs is as long at least, and holds as many positions at least
   pub copy-grows : (f : ℕ → ℕ) (base : List Run) (from to k m : ℕ) → k ≤ m
       → length (copyRuns f base from to (runs lens sets k)) ≤ length (copyRuns f base from to (runs lens sets m))
@@ -355,32 +334,8 @@ found-set lens sets (suc n) pos i start f h =
           ∙ ap (λ (x : ℕ). getD sets x 0) (sym e)
     ]
 
--- so is its number of runs
-pub unique-count : (lens sets lens′ sets′ : List ℕ) (n m : ℕ) → Canon (runs lens sets n) → Canon (runs lens′ sets′ m)
-    → total (runs lens sets n) ≡ total (runs lens′ sets′ m) → ((p : ℕ) → setAt (runs lens sets n) p ≡ setAt (runs lens′ sets′ m) p) → n ≡ m
-unique-count lens sets lens′ sets′ n m c d t h =
-    sym (length-runs lens sets n) ∙ ap length (unique (runs lens sets n) (runs lens′ sets′ m) c d t h) ∙ length-runs lens′ sets′ m
-
 -- past the end there is no set
 pub found-none : (lens sets : List ℕ) (n pos i start : ℕ) → Found lens n pos i start → n ≤ i → setAt (runs lens sets n) pos ≡ 0
 found-none lens sets n pos i start f h =
     let e : i ≡ n = omega arith in
     at-past (runs lens sets n) pos (omega (arith, total-sums lens sets n, ap (sums lens) e))
-
--- a position below the end is in a run; from the end on the answer is the number of runs, and their sum
-pub found-inside : (lens : List ℕ) (n pos i start : ℕ) → Found lens n pos i start → pos < sums lens n → i < n
-found-inside lens n pos i start f h =
-    elim (decLt i n) [
-      | yes k ↦ k
-      | no k ↦ let e : i ≡ n = omega arith in absurd (omega (arith, ap (sums lens) e))
-    ]
-
-pub found-past : (lens : List ℕ) (n pos i start : ℕ) → Found lens n pos i start → sums lens n ≤ pos → (i ≡ n) × (start ≡ sums lens n)
-found-past lens n pos i start f h =
-    let e : i ≡ n =
-    elim (decLt i n) [
-      | yes k ↦ let below = f .inside k in absurd (omega (arith, sums-more lens i, sums-mono lens (i + 1) n (omega arith)))
-      | no k ↦ omega arith
-    ]
-    in
-    (e, f .starts ∙ ap (sums lens) e)

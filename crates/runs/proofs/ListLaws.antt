@@ -1,5 +1,5 @@
 -- The stretches of a range as numbers: what one run more adds.
-use Prim.Native.Nat.{ℕ, zero, suc, _+_, _-_, _*_, _≤_, _<_, min, max}
+use Prim.Native.Nat.{ℕ, zero, suc, _+_, _*_, _≤_, _<_, min, max}
 use mathlib.Core.Path.{_≡_, refl, sym, ap, _∙_}
 use mathlib.Core.Bool.{Bool, true, false, cond, _&&_}
 use mathlib.Core.List.{List, [], _∷_, _++_, append-assoc, append-nil}
@@ -12,7 +12,8 @@ use lib.Dec.{ltb, leb}
 use lib.ListN.{length, getD, set, take, drop, length-append, length-drop}
 use lib.Seq.{sets-eq, take-at, drop-append-add, drop-drop}
 use Rattle.runs.specs.Runs.{Run, run, runs, total}
-use Rattle.runs.specs.Lists.{stretch, clipped, numbers, entry, inFront, listed}
+use Rattle.runs.specs.Positions.{stretch, asNumbers}
+use Rattle.runs.specs.Lists.{clipped, entry, inFront, listed}
 
 -- ---- the numbers of one run
 pub entry-past : (least a b c : ℕ) → b ≤ a → entry least a b c ≡ []
@@ -47,16 +48,16 @@ entry-some least a b c = entry-by (λ l. (length l ≡ 0 → ⊥) → l ≡ a �
 
 -- ---- one run more
 pub numbers-more : (least from to : ℕ) (r : Run) (rs : List Run)
-    → numbers least (clipped from to (r ∷ rs))
-    ≡ numbers least (clipped from to rs) ++ entry least (max from (total rs)) (min to (total rs + r .len)) (ones (r .set))
-unfolding clipped numbers entry
+    → asNumbers least (clipped from to (r ∷ rs))
+    ≡ asNumbers least (clipped from to rs) ++ entry least (max from (total rs)) (min to (total rs + r .len)) (ones (r .set))
+unfolding clipped asNumbers entry
 numbers-more least from to r rs = go (ltb (max from (total rs)) (min to (total rs + r .len))) refl
   where
     go : (t : Bool) → ltb (max from (total rs)) (min to (total rs + r .len)) ≡ t
-        → numbers least (cond t (stretch (max from (total rs)) (min to (total rs + r .len)) (ones (r .set)) ∷ clipped from to rs) (clipped from to rs))
-        ≡ numbers least (clipped from to rs) ++ cond (t && leb least (ones (r .set))) (max from (total rs) ∷ min to (total rs + r .len) ∷ ones (r .set) ∷ []) []
+        → asNumbers least (cond t (stretch (max from (total rs)) (min to (total rs + r .len)) (ones (r .set)) ∷ clipped from to rs) (clipped from to rs))
+        ≡ asNumbers least (clipped from to rs) ++ cond (t && leb least (ones (r .set))) (max from (total rs) ∷ min to (total rs + r .len) ∷ ones (r .set) ∷ []) []
     go true e = refl
-    go false e = sym (append-nil (numbers least (clipped from to rs)))
+    go false e = sym (append-nil (asNumbers least (clipped from to rs)))
 
 module _ (least from to : ℕ) (lens sets : List ℕ) where
   pub listed-more : (k : ℕ) → listed least from to lens sets (k + 1)
@@ -76,7 +77,7 @@ module _ (least from to : ℕ) (lens sets : List ℕ) where
       ]
 
   pub listed-most : (n : ℕ) → length (listed least from to lens sets n) ≤ 3 * n
-  unfolding runs clipped numbers
+  unfolding runs clipped asNumbers
   listed-most zero = omega arith
   listed-most (suc n) =
       omega (

@@ -1,26 +1,26 @@
 -- A renumbering of sets in place: the runs stay as they are, and every position's set is changed.
 use Prim.Native.Nat.{ℕ, zero, suc, _+_, _<_}
 use mathlib.Core.Path.{_≡_, refl, sym, ap, _∙_}
-use mathlib.Core.List.{List, [], _∷_, map}
+use mathlib.Core.List.{List, [], _∷_}
 use native.Mathlib.Omega.{arith}
 use native.Mathlib.Decide.{decLt}
 use native.Mathlib.Numerals.{add-one}
 use lib.ListN.{length, getD, set, length-set}
 use lib.Seq.{getD-set-same, getD-set-other}
-use Rattle.runs.specs.Runs.{Run, run, runs, total, setAt, Other, Canon, mapRuns, AllSets, Spare}
+use Rattle.runs.specs.Runs.{Run, run, runs, total, setAt, Other, Canon, mapRuns, Spare}
 use Rattle.runs.specs.Gather.{Renumbered}
 use Rattle.runs.proofs.Laws.{at-in, at-last, at-past, runs-set-set}
+
+-- each set is one of which P holds
+unfoldable pub AllSets : (ℕ → Type 0) → List Run → Type 0
+AllSets P [] = Unit {0}
+AllSets P (r ∷ rs) = P (r .set) × AllSets P rs
 
 module _ (f : ℕ → ℕ) where
   pub total-map : (rs : List Run) → total (mapRuns f rs) ≡ total rs
   unfolding total mapRuns
   total-map [] = refl
   total-map (r ∷ rs) = omega (arith, total-map rs)
-
-  pub length-map : (rs : List Run) → length (mapRuns f rs) ≡ length rs
-  unfolding mapRuns
-  length-map [] = refl
-  length-map (r ∷ rs) = ap suc (length-map rs)
 
   pub at-map-in : (rs : List Run) (p : ℕ) → p < total rs → setAt (mapRuns f rs) p ≡ f (setAt rs p)
   unfolding mapRuns total
@@ -40,16 +40,6 @@ module _ (f : ℕ → ℕ) where
           | yes h ↦ at-map-in rs p h
           | no h ↦ at-past (mapRuns f rs) p (omega (arith, total-map rs)) ∙ sym none ∙ ap f (sym (at-past rs p (omega arith)))
         ]
-
-    getD-map : (sets : List ℕ) (i : ℕ) → getD (map f sets) i 0 ≡ f (getD sets i 0)
-    getD-map [] i = sym none
-    getD-map (s ∷ sets) zero = refl
-    getD-map (s ∷ sets) (suc i) = getD-map sets i
-
-    pub runs-map : (lens sets : List ℕ) (n : ℕ) → runs lens (map f sets) n ≡ mapRuns f (runs lens sets n)
-    unfolding runs mapRuns
-    runs-map lens sets zero = refl
-    runs-map lens sets (suc n) = λ i. run (getD lens n 0) (getD-map sets n i) ∷ runs-map lens sets n i
 
   -- different sets stay different
   module _ (P : ℕ → Type 0) (tells : (x y : ℕ) → P x → P y → f x ≡ f y → x ≡ y) where
@@ -97,8 +87,3 @@ all-sets-at P lens sets (suc n) a j h =
       | yes k ↦ all-sets-at P lens sets n (a .1) j k
       | no k ↦ let e : j ≡ n = omega arith in rw e (a .0)
     ]
-
-pub at-all-sets : (P : ℕ → Type 0) (lens sets : List ℕ) (n : ℕ) → ((j : ℕ) → j < n → P (getD sets j 0)) → AllSets P (runs lens sets n)
-unfolding AllSets runs
-at-all-sets P lens sets zero h = tt
-at-all-sets P lens sets (suc n) h = (h n (omega arith), at-all-sets P lens sets n (λ j k. h j (omega arith)))

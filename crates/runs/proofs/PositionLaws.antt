@@ -10,9 +10,14 @@ use borrow.Author.Tests.{lt-ltb, le-ltb, le-leb, lt-leb, eq-eqb, ne-eqb}
 use lib.Count.{ones}
 use lib.Dec.{eqb}
 use Rattle.runs.specs.Runs.{Run, total, setAt, Other, Canon}
-use Rattle.runs.specs.Count.{alikeIn}
-use Rattle.runs.specs.Lists.{Stretch, stretch, extended, stretchesAt, clipped, marksIn}
+use Rattle.runs.specs.Positions.{Stretch, stretch, extended, stretchesAt}
+use Rattle.runs.specs.Lists.{clipped}
 use Rattle.runs.proofs.Laws.{at-in, at-last}
+use Rattle.runs.proofs.StretchLaws.{alikeIn}
+
+-- how many marks a position has
+abbrev pub marksIn : List Run → ℕ → ℕ
+marksIn rs p = ones (setAt rs p)
 
 stretch-eq : (a a′ b b′ c c′ : ℕ) (xs ys : List Stretch) → a ≡ a′ → b ≡ b′ → c ≡ c′ → xs ≡ ys → stretch a b c ∷ xs ≡ stretch a′ b′ c′ ∷ ys
 stretch-eq a a′ b b′ c c′ xs ys e f g h = λ i. stretch (e i) (f i) (g i) ∷ h i

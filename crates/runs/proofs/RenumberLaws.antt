@@ -1,18 +1,17 @@
 -- The two renumberings, a bit opened and bits squeezed out: both keep different sets different, so a joined list stays joined, and both go
 -- through the union of all sets.
-use Prim.Native.Nat.{ℕ, zero, suc, _-_, _/_, _%_, _^_, _≤_, _<_, min}
+use Prim.Native.Nat.{ℕ, zero, suc, _/_, _%_, _^_, _≤_, _<_, min}
 use mathlib.Core.Path.{_≡_}
 use mathlib.Core.List.{List, [], _∷_}
 use native.Mathlib.Omega.{arith}
 use native.Mathlib.Nat.{pow-suc, min-le-left}
-use lib.Bits.{bitAnd, bitOr, and-step, or-lt, and-le-r}
-use lib.Pow.{pow-pos}
+use lib.Bits.{bitAnd, bitOr, and-step, and-le-r}
 use Rattle.styles.specs.Bits.{openBit, squeeze, squeezeStep}
 use Rattle.styles.proofs.UnionLaws.{open-or, squeeze-or, open-none, squeeze-none}
-use Rattle.runs.specs.Runs.{Run, Canon, mapRuns, AllSets}
+use Rattle.runs.specs.Runs.{Run, Canon, mapRuns}
 use Rattle.runs.specs.Gather.{gather}
 use Rattle.runs.proofs.Digits.{or-digit, digit-within, within-digit}
-use Rattle.runs.proofs.MapLaws.{canon-map}
+use Rattle.runs.proofs.MapLaws.{AllSets, canon-map}
 use Rattle.runs.proofs.GatherLaws.{gather-map}
 
 -- ---- the sets of a list and their union
@@ -31,12 +30,6 @@ sets-within (r ∷ rs) = (
       (λ s e. digit-within s (bitOr (r .set) (gather rs)) (λ i. omega (arith, or-digit (r .set) (gather rs) i, within-digit s (gather rs) e i)))
       rs (sets-within rs),
 )
-
--- all sets are within n bits just where the union is
-pub gather-less : (n : ℕ) (rs : List Run) → AllSets (λ s. s < 2 ^ n) rs → gather rs < 2 ^ n
-unfolding AllSets gather
-gather-less n [] a = pow-pos n
-gather-less n (r ∷ rs) a = or-lt n (r .set) (gather rs) (a .0) (gather-less n rs (a .1))
 
 pub sets-less : (n : ℕ) (rs : List Run) → gather rs < 2 ^ n → AllSets (λ s. s < 2 ^ n) rs
 sets-less n rs h = all-sets-map _ _ (λ s e. omega (arith, and-le-r s (gather rs), e)) rs (sets-within rs)

@@ -1,37 +1,35 @@
 -- The questions over a range: what `anyAt`, `allAt`, `stretchTo` and `topIn` say, and a turn of each loop over the runs.
 use Prim.Native.Nat.{ℕ, zero, suc, _+_, _-_, _/_, _%_, _^_, _≤_, _<_, min}
 use mathlib.Core.Path.{_≡_, refl, sym, ap, ap₂, _∙_}
-use mathlib.Core.Bool.{Bool, true, false, cond, not, _&&_, _||_}
+use mathlib.Core.Bool.{Bool, true, false, cond, not, _&&_, _||_, true≢false}
 use mathlib.Core.List.{List}
 use native.Mathlib.Omega.{arith}
 use native.Mathlib.Decide.{decLt, decLe}
 use native.Mathlib.Numerals.{sub-one}
 use lib.Dec.{ltb, leb, eqb}
-use lib.Bits.{bitAnd, and-zero-r, and-le-l}
+use lib.Bits.{bitAnd, and-zero-r}
 use lib.ListN.{length, getD}
 use lib.Pow.{shr-lt, pow-pos}
-use borrow.Author.Tests.{lt-ltb, le-ltb, le-leb, lt-leb, eq-eqb, ne-eqb}
+use borrow.Author.Tests.{lt-ltb, le-ltb, le-leb, lt-leb, eq-eqb, ne-eqb, not-false}
 use Rattle.styles.specs.Bits.{hasBit, TopIn}
 use Rattle.styles.proofs.MaskLaws.{top-set, one-top}
 use Rattle.runs.specs.Runs.{Run, runs, total, setAt, sums}
-use Rattle.runs.specs.Scan.{anyAt, allAt, stretchTo, meets, topIn, shows, walked, commonAt, CanLook}
+use Rattle.runs.specs.Positions.{anyAt, allAt, stretchTo}
+use Rattle.runs.specs.Scan.{meets, topIn, walked, commonAt, CanLook}
 use Rattle.runs.proofs.Laws.{total-sums, found-set, at-past}
 
 -- ---- tests
-never : true ≡ false → ⊥
-never e = let z : _≡_ {A = ℕ} 0 1 = cc in omega arith
-
 or-second : (a b : Bool) → b ≡ true → (a || b) ≡ true
 or-second true b e = refl
 or-second false b e = e
 
 pub and-true : (a b : Bool) → (a && b) ≡ true → (a ≡ true) × (b ≡ true)
 and-true true b e = (refl, e)
-and-true false b e = absurd (never (sym e))
+and-true false b e = absurd (true≢false (sym e))
 
 pub and-false : (a b : Bool) → a ≡ true → (a && b) ≡ false → b ≡ false
 and-false true b h e = e
-and-false false b h e = absurd (never (sym h))
+and-false false b h e = absurd (true≢false (sym h))
 
 -- a set that meets a mask, and one that does not, as the code asks it
 pub some-bit : (s : ℕ) → not (eqb s 0) ≡ ltb 0 s
@@ -65,19 +63,19 @@ module _ (test : ℕ → Bool) (from : ℕ) where
   any-none to e p g h = go (test p) refl
     where
       go : (b : Bool) → test p ≡ b → test p ≡ false
-      go true t = absurd (never (sym (any-yes to p g h t) ∙ e))
+      go true t = absurd (true≢false (sym (any-yes to p g h t) ∙ e))
       go false t = t
 
   pub any-some : (to : ℕ) → anyAt test from to ≡ true → (p : ℕ) × (from ≤ p) × (p < to) × (test p ≡ true)
   unfolding anyAt
-  any-some zero e = absurd (never (sym e))
+  any-some zero e = absurd (true≢false (sym e))
   any-some (suc q) e = go (anyAt test from q) (leb from q) (any-some q) refl e
     where
       go : (a b : Bool) → (a ≡ true → (p : ℕ) × (from ≤ p) × (p < q) × (test p ≡ true)) → leb from q ≡ b → (a || (b && test q)) ≡ true
           → (p : ℕ) × (from ≤ p) × (p < suc q) × (test p ≡ true)
       go true b x y z = let r = x refl in (r .0, r .1, omega (arith, r .2), r .3)
-      go false true x y z = (q, elim (decLe from q) [ yes k ↦ k | no k ↦ absurd (never (sym y ∙ lt-leb from q (omega arith))) ], omega arith, z)
-      go false false x y z = absurd (never (sym z))
+      go false true x y z = (q, elim (decLe from q) [ yes k ↦ k | no k ↦ absurd (true≢false (sym y ∙ lt-leb from q (omega arith))) ], omega arith, z)
+      go false false x y z = absurd (true≢false (sym z))
 
 -- tests that agree over the range give one answer
 pub any-ext : (test test′ : ℕ → Bool) (from to : ℕ) → ((p : ℕ) → from ≤ p → p < to → test p ≡ test′ p) → anyAt test from to ≡ anyAt test′ from to
@@ -107,10 +105,6 @@ all-is test from (suc q) =
     ap₂ (λ (x y : Bool). x && (y || test q)) (all-is test from q) (before-not from q)
     ∙ not-or (anyAt (λ p. not (test p)) from q) (leb from q) (test q)
 
-not-back : (b : Bool) → not b ≡ false → b ≡ true
-not-back true e = refl
-not-back false e = absurd (never e)
-
 not-flip : (b c : Bool) → not b ≡ c → b ≡ not c
 not-flip true c e = ap not e
 not-flip false c e = ap not e
@@ -120,10 +114,7 @@ module _ (test : ℕ → Bool) (from : ℕ) where
   all-yes to h = all-is test from to ∙ ap not (any-no (λ p. not (test p)) from to (λ p a b. ap not (h p a b)))
 
   pub all-every : (to : ℕ) → allAt test from to ≡ true → (p : ℕ) → from ≤ p → p < to → test p ≡ true
-  all-every to e p g h = not-back (test p) (any-none (λ p. not (test p)) from to (not-flip _ _ (sym (all-is test from to) ∙ e)) p g h)
-
-  pub all-no : (to p : ℕ) → from ≤ p → p < to → test p ≡ false → allAt test from to ≡ false
-  all-no to p g h e = all-is test from to ∙ ap not (any-yes (λ p. not (test p)) from to p g h (ap not e))
+  all-every to e p g h = not-false (test p) (any-none (λ p. not (test p)) from to (not-flip _ _ (sym (all-is test from to) ∙ e)) p g h)
 
 pub all-ext : (test test′ : ℕ → Bool) (from to : ℕ) → ((p : ℕ) → from ≤ p → p < to → test p ≡ test′ p) → allAt test from to ≡ allAt test′ from to
 all-ext test test′ from to h =
@@ -159,9 +150,6 @@ top-in-top (suc k) j u v h a b =
 -- so it is the answer that `TopIn` speaks of
 pub top-in-holds : (k u v : ℕ) → u < 2 ^ k → TopIn u v (topIn k u v)
 top-in-holds k u v h = record { none = λ e. rw e (top-in-none k v); top = λ j a b. top-in-top k j u v h a b }
-
-pub shows-top : (first second s : ℕ) → s < 2 ^ 64 → TopIn (bitAnd s first) second (shows first second s)
-shows-top first second s h = top-in-holds 64 (bitAnd s first) second (omega (arith, and-le-l s first))
 
 -- ---- a stretch that ends just before a position
 module _ (test : ℕ → Bool) where

@@ -1,5 +1,5 @@
 -- The number of runs of a joined list is a fact about its positions: how many of them start a stretch.
-use Prim.Native.Nat.{ℕ, zero, suc, _+_, _-_, _≤_, _<_}
+use Prim.Native.Nat.{ℕ, zero, suc, _+_, _≤_, _<_}
 use mathlib.Core.Path.{_≡_, refl, sym, _∙_}
 use mathlib.Core.Bool.{Bool, true}
 use mathlib.Core.List.{List, [], _∷_}
@@ -8,8 +8,12 @@ use lib.Dec.{eqb}
 use lib.ListN.{length}
 use borrow.Author.Tests.{eq-eqb, ne-eqb}
 use Rattle.runs.specs.Runs.{Run, total, setAt, Other, Canon}
-use Rattle.runs.specs.Count.{starts, stretches, alikeIn}
+use Rattle.runs.specs.Positions.{starts, stretches}
 use Rattle.runs.proofs.Laws.{at-in, at-last}
+
+-- the positions p and p + 1 have one set
+abbrev pub alikeIn : List Run → ℕ → Bool
+alikeIn rs p = eqb (setAt rs p) (setAt rs (suc p))
 
 -- ---- tests that agree count alike
 starts-ext : (f g : ℕ → Bool) (n : ℕ) → ((p : ℕ) → suc p ≤ n → f p ≡ g p) → starts f n ≡ starts g n

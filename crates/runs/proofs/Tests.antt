@@ -8,13 +8,16 @@ use lib.Count.{ones, onesIn}
 use lib.ListN.{getD}
 use Rattle.styles.specs.Bits.{openBit}
 use Rattle.runs.specs.declared.scan.Test.the-variants.{Meets, Misses, Hides, Differs}
-use Rattle.runs.specs.Runs.{Run, run, runs, total, setAt, Other, Canon, pushRun, joinRun, clip, copyRuns, changing, adding, sums, Found, Spare, mapRuns, AllSets}
+use Rattle.runs.specs.Runs.{Run, run, runs, total, setAt, Other, Canon, pushRun, joinRun, clip, copyRuns, changing, adding, sums, Found, Spare, mapRuns}
 use Rattle.runs.specs.Edits.{part, altered, deleted, inserted}
 use Rattle.runs.specs.Gather.{gather, Renumbered}
-use Rattle.runs.specs.Scan.{anyAt, allAt, stretchTo, meets, topIn, shows, passes, commonAt, walked}
-use Rattle.runs.specs.Count.{starts, stretches, alikeIn, tallyOf}
-use Rattle.runs.specs.Lists.{stretch, extended, stretchesAt, clipped, numbers, entry, inFront, listed, marksIn}
-use Rattle.runs.specs.Expand.{expand}
+use Rattle.runs.specs.Positions.{anyAt, allAt, stretchTo, starts, stretches, stretch, extended, stretchesAt, asNumbers}
+use Rattle.runs.specs.Scan.{meets, topIn, shows, passes, commonAt, walked}
+use Rattle.runs.specs.Count.{tallyOf}
+use Rattle.runs.specs.Lists.{clipped, entry, inFront, listed}
+use Rattle.runs.proofs.MapLaws.{AllSets}
+use Rattle.runs.proofs.StretchLaws.{alikeIn}
+use Rattle.runs.proofs.PositionLaws.{marksIn}
 
 -- ten positions with no bit, then five with bit 1
 t : List Run
@@ -119,10 +122,6 @@ grown : inserted t 10 4 0 ≡ run 5 2 ∷ run 14 0 ∷ []
 unfolding inserted t changing copyRuns
 grown = refl
 
-expanded : expand (run 2 5 ∷ run 3 0 ∷ []) ≡ 0 ∷ 0 ∷ 0 ∷ 5 ∷ 5 ∷ []
-unfolding expand
-expanded = refl
-
 -- ---- all sets together
 gathered : gather (run 1 4 ∷ run 5 2 ∷ run 10 0 ∷ []) ≡ 6
 unfolding gather
@@ -209,17 +208,17 @@ by-position : stretchesAt (alikeIn t) (marksIn t) 8 12 ≡ stretch 10 12 1 ∷ s
 unfolding stretchesAt extended setAt t ones onesIn
 by-position = refl
 
-as-numbers : numbers 0 (stretch 10 12 1 ∷ stretch 8 10 0 ∷ []) ≡ 8 ∷ 10 ∷ 0 ∷ 10 ∷ 12 ∷ 1 ∷ []
-unfolding numbers
+as-numbers : asNumbers 0 (stretch 10 12 1 ∷ stretch 8 10 0 ∷ []) ≡ 8 ∷ 10 ∷ 0 ∷ 10 ∷ 12 ∷ 1 ∷ []
+unfolding asNumbers
 as-numbers = refl
 
 marked : listed 1 8 12 (10 ∷ 5 ∷ []) (0 ∷ 2 ∷ []) 2 ≡ 10 ∷ 12 ∷ 1 ∷ []
-unfolding numbers clipped runs ones onesIn
+unfolding asNumbers clipped runs ones onesIn
 marked = refl
 
 entries : (entry 1 8 10 0 ≡ []) × (entry 0 8 10 0 ≡ 8 ∷ 10 ∷ 0 ∷ []) × (entry 0 8 8 3 ≡ [])
 unfolding entry
 entries = (refl, refl, refl)
 
-in-front : inFront (1 ∷ 2 ∷ []) (7 ∷ 8 ∷ 9 ∷ []) ≡ 1 ∷ 2 ∷ 9 ∷ []
+in-front : inFront {A = ℕ} (1 ∷ 2 ∷ []) (7 ∷ 8 ∷ 9 ∷ []) ≡ 1 ∷ 2 ∷ 9 ∷ []
 in-front = refl

@@ -1,4 +1,4 @@
--- The edits of a tank, each as copies of parts of it.
+-- The edits of a run list, each as copies of parts of it.
 use Prim.Native.Nat.{ℕ, _≤_, _<_, _^_}
 use mathlib.Core.Path.{_≡_}
 use mathlib.Core.List.{List, []}
@@ -13,9 +13,11 @@ part base from to rs = copyRuns (adding 0) base from to rs
 unfoldable pub altered : List Run → ℕ → ℕ → (ℕ → ℕ) → List Run
 altered rs a b f = part (copyRuns f (part [] 0 a rs) a b rs) b (total rs) rs
 
+-- the positions a .. b taken away
 unfoldable pub deleted : List Run → ℕ → ℕ → List Run
 deleted rs a b = part (part [] 0 a rs) b (total rs) rs
 
+-- l positions with the set s put in before position pos
 unfoldable pub inserted : List Run → ℕ → ℕ → ℕ → List Run
 inserted rs pos l s = part (pushRun (part [] 0 pos rs) l s) pos (total rs) rs
 

@@ -1,4 +1,4 @@
--- All sets of a tank together, and sets that are renumbered where they stand.
+-- All sets of a run list together, and sets that are renumbered where they stand.
 use Prim.Native.Nat.{ℕ, _≤_, _<_, _^_}
 use mathlib.Core.Path.{_≡_}
 use mathlib.Core.List.{List, [], _∷_}

@@ -13,6 +13,7 @@ pub record Run : Type 0 where
   pub len : ℕ
   pub set : ℕ
 
+-- a run by its length and its set
 abbrev pub run : ℕ → ℕ → Run
 run l s = record { len = l; set = s }
 
@@ -43,6 +44,7 @@ unfolding Other
 Canon [] = Unit {0}
 Canon (r ∷ rs) = (0 < r .len) × Other (r .set) rs × Canon rs
 
+-- ---- A push, a copy, a change of sets
 -- `l` positions more, of which there is one at least
 unfoldable pub joinRun : List Run → ℕ → ℕ → List Run
 joinRun [] l s = run l s ∷ []
@@ -63,6 +65,11 @@ unfolding total pushRun
 copyRuns f base from to [] = base
 copyRuns f base from to (r ∷ rs) = pushRun (copyRuns f base from to rs) (clip from to (total rs) (r .len)) (f (r .set))
 
+-- the runs with each set changed by f, where f keeps different sets different: nothing is joined
+unfoldable pub mapRuns : (ℕ → ℕ) → List Run → List Run
+mapRuns f [] = []
+mapRuns f (r ∷ rs) = run (r .len) (f (r .set)) ∷ mapRuns f rs
+
 -- a set with the bits of `bits` in it, and without those of `drop`
 unfoldable pub changing : ℕ → ℕ → ℕ → ℕ
 changing bits drop s = bitOr s bits - bitAnd (bitOr s bits) drop
@@ -71,6 +78,20 @@ changing bits drop s = bitOr s bits - bitAnd (bitOr s bits) drop
 abbrev pub adding : ℕ → ℕ → ℕ
 adding bits = changing bits 0
 
+-- ---- Where a position is found
+-- the sum of the first k lengths: where run k starts
+unfoldable pub sums : List ℕ → ℕ → ℕ
+sums lens zero = 0
+sums lens (suc k) = sums lens k + getD lens k 0
+
+-- run i of n starts at `start` and holds `pos`; past the end i is n
+pub record Found (lens : List ℕ) (n pos i start : ℕ) : Type 0 where
+  pub within : i ≤ n
+  pub starts : start ≡ sums lens i
+  pub reached : start ≤ pos
+  pub inside : i < n → pos < start + getD lens i 0
+
+-- ---- Two parallel lists: what is behind the runs, and what calls ask
 -- the places from n on hold nothing but zeros
 unfoldable pub Spare : List ℕ → List ℕ → ℕ → Type 0
 Spare lens sets n = (i : ℕ) → n ≤ i → (getD lens i 0 ≡ 0) × (getD sets i 0 ≡ 0)
@@ -90,25 +111,3 @@ pub record CanCopy (f : ℕ → ℕ) (olens osets : List ℕ) (n : ℕ) (lens se
   pub source : total (runs lens sets m) < 2 ^ 63
   pub room : length (copyRuns f (runs olens osets n) from to (runs lens sets m)) ≤ length olens
   pub sum : total (copyRuns f (runs olens osets n) from to (runs lens sets m)) < 2 ^ 63
-
--- the sum of the first k lengths: where run k starts
-unfoldable pub sums : List ℕ → ℕ → ℕ
-sums lens zero = 0
-sums lens (suc k) = sums lens k + getD lens k 0
-
--- run i of n starts at `start` and holds `pos`; past the end i is n
-pub record Found (lens : List ℕ) (n pos i start : ℕ) : Type 0 where
-  pub within : i ≤ n
-  pub starts : start ≡ sums lens i
-  pub reached : start ≤ pos
-  pub inside : i < n → pos < start + getD lens i 0
-
--- the runs with each set changed by f, where f keeps different sets different: nothing is joined
-unfoldable pub mapRuns : (ℕ → ℕ) → List Run → List Run
-mapRuns f [] = []
-mapRuns f (r ∷ rs) = run (r .len) (f (r .set)) ∷ mapRuns f rs
-
--- each set is one of which P holds
-unfoldable pub AllSets : (ℕ → Type 0) → List Run → Type 0
-AllSets P [] = Unit {0}
-AllSets P (r ∷ rs) = P (r .set) × AllSets P rs

@@ -1,6 +1,6 @@
--- Questions over a range of positions, each by position, and the tests of a set that they ask.
+-- Looks at the runs: the tests of a set that questions ask, and what neighbours have in common.
 use Prim.Native.Nat.{ℕ, zero, suc, _≤_, _<_, _^_}
-use mathlib.Core.Bool.{Bool, true, false, cond, not, _&&_, _||_}
+use mathlib.Core.Bool.{Bool, false, cond, not}
 use mathlib.Core.List.{List}
 use lib.Dec.{ltb, leb, eqb}
 use lib.Bits.{bitAnd}
@@ -9,21 +9,6 @@ use Rattle.styles.specs.Bits.{hasBit}
 use Rattle.runs.specs.Runs.{Run, runs, total, setAt}
 use Rattle.runs.specs.declared.scan.Test.{Test}
 use Rattle.runs.specs.declared.scan.Test.the-variants.{Meets, Misses, Hides, Differs}
-
--- some position of from .. to passes the test
-unfoldable pub anyAt : (ℕ → Bool) → ℕ → ℕ → Bool
-anyAt test from zero = false
-anyAt test from (suc p) = anyAt test from p || (leb from p && test p)
-
--- every position of from .. to passes the test
-unfoldable pub allAt : (ℕ → Bool) → ℕ → ℕ → Bool
-allAt test from zero = true
-allAt test from (suc p) = allAt test from p && (ltb p from || test p)
-
--- the first position of the longest stretch of positions that ends just before `end` and passes the test; `end` where there is none
-unfoldable pub stretchTo : (ℕ → Bool) → ℕ → ℕ
-stretchTo test zero = zero
-stretchTo test (suc p) = cond (test p) (stretchTo test p) (suc p)
 
 -- the set has a bit of the mask
 abbrev pub meets : ℕ → ℕ → Bool

@@ -2,17 +2,15 @@
 use mathlib.Core.Path.{_≡_, refl, sym, ap, ap₂, _∙_}
 use mathlib.Core.Bool.{Bool, true, false, cond}
 use mathlib.Core.List.{List, [], _∷_, _++_, append-assoc}
-use Prim.Native.Nat.{ℕ, zero, suc, _-_, _≤_}
+use Prim.Native.Nat.{ℕ}
 use native.Mathlib.Decide.{decLt, ℕ-discrete}
 use native.Mathlib.Omega.{arith}
 use lib.ListN.{length, take, length-take}
 use lib.Seq.{take-all, take-append-le, take-take}
-use Rattle.script.specs.declared.Call.{Call}
 use Rattle.script.specs.declared.Event.{Event}
-use Rattle.script.specs.declared.Read.{Read}
 use Rattle.script.specs.Reading.{lineOf}
 use Rattle.script.specs.Lines.{before, hasEnd, State, grownOf, turnedOf, eventOf, afterOf, bringsOf}
-use Rattle.script.proofs.CutLaws.{before-newline, before-other, before-none, end-newline, end-other}
+use Rattle.script.proofs.CutLaws.{before-other, before-none, end-newline, end-other}
 
 no-end-cons : (c : ℕ) (cs : List ℕ) → hasEnd (c ∷ cs) ≡ false → (c ≡ 10 → ⊥) × (hasEnd cs ≡ false)
 no-end-cons c cs e =

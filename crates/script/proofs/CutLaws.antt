@@ -1,18 +1,17 @@
 -- Lines out of bytes: the newline is searched, and what stands in front of it is kept, up to 65 bytes.
-use mathlib.Core.Path.{_≡_, refl, sym, ap, ap₂, _∙_, subst}
-use mathlib.Core.Bool.{Bool, true, false, cond}
+use mathlib.Core.Path.{_≡_, refl, sym, ap, ap₂, _∙_}
+use mathlib.Core.Bool.{true, false}
 use mathlib.Core.List.{List, [], _∷_, _++_}
-use Prim.Native.Nat.{ℕ, zero, suc, _+_, _-_, _≤_, _<_, min, zero-le}
+use Prim.Native.Nat.{ℕ, suc, _+_, _-_, _≤_, _<_, min}
 use native.Mathlib.Decide.{decLt, ℕ-discrete}
 use native.Mathlib.Numerals.{add-one}
 use native.Mathlib.Omega.{arith}
-use lib.Dec.{eqb, ltb}
-use lib.ListN.{length, getD, take, drop, length-take, length-drop, length-append}
+use lib.Dec.{ltb}
+use lib.ListN.{length, getD, take, drop, length-take, length-drop}
 use lib.Seq.{drop-cons, take-all, take-take, take-append-add, length-take-le}
 use borrow.Author.Tests.{eq-eqb, ne-eqb, lt-ltb, le-ltb}
 use Rattle.text.specs.Number.{put}
 use Rattle.text.proofs.Putting.{take-put}
-use Rattle.script.specs.declared.Cut.{Cut}
 use Rattle.script.specs.declared.Line.{Line}
 use Rattle.script.specs.Lines.{before, hasEnd, heldOf, Keeps, Cuts}
 

@@ -1,28 +1,25 @@
 -- The readers are exact: what is accepted is what is printed of its answer, and what is printed is accepted.
-use mathlib.Core.Path.{_≡_, refl, sym, ap, _∙_}
+use mathlib.Core.Path.{_≡_, refl, ap, _∙_}
 use mathlib.Core.Bool.{Bool, true, false, cond}
 use mathlib.Core.List.{List, [], _∷_, _++_}
 use Prim.Native.Nat.{ℕ, _^_, _≤_, _<_}
 use native.Mathlib.Omega.{arith}
 use lib.Dec.{T, leb}
-use lib.Ieee.{Float, binary64, toBits, ofBits, fits}
+use lib.Ieee.{Float, binary64, toBits, fits}
 use lib.Ieee.Bits.{toBits-lt, ofBits-toBits}
-use lib.IntN.{ℤ}
 use lib.ListN.{length, drop}
 use lib.Seq.{drop-append-seam}
 use borrow.Author.Tests.{le-leb, leb-true}
 use mir.Syntax.{w64}
 use mir.Val.{SFits}
 use Rattle.text.specs.declared.Parsed.{Parsed}
-use Rattle.text.specs.Number.{decimalOf, decimalText, hexText}
-use Rattle.text.specs.Signed.{signedText}
+use Rattle.text.specs.Number.{decimalOf, decimalText}
 use Rattle.text.specs.Starts.{startsOf, sameOf}
-use Rattle.text.proofs.Laws.{decimal-back, decimal-only, decimal-reads, hex-back}
+use Rattle.text.proofs.Laws.{decimal-back, decimal-only, hex-back}
 use Rattle.text.proofs.Integers.{integer-back}
 use Rattle.text.proofs.Prefix.{starts-split, split-starts, same-is}
 use Rattle.styles.specs.declared.Value.{Value}
 use Rattle.script.specs.declared.Field.{Field}
-use Rattle.script.specs.declared.Kind.{Kind}
 use Rattle.script.specs.declared.Op.{Op}
 use Rattle.script.specs.declared.ReadOp.{ReadOp}
 use Rattle.script.specs.declared.ReadValue.{ReadValue}

@@ -11,8 +11,8 @@ use Rattle.text.proofs.Prefix.{starts-length}
 use Rattle.script.specs.declared.Field.{Field}
 use Rattle.script.specs.declared.Name.{Name}
 use Rattle.script.specs.declared.Start.{Start}
-use Rattle.script.specs.Grammar.{Spells, spelledOf, nameOf}
-use Rattle.script.specs.Reading.{startOf, under}
+use Rattle.script.specs.Grammar.{Spells, nameOf}
+use Rattle.script.specs.Reading.{startOf, afterName}
 
 -- the end of a slice from a place on is what is left of it
 pub rest-part : (k : ℕ) (l : List ℕ) → take (length l - k) (drop k l) ≡ drop k l
@@ -38,11 +38,11 @@ module _ (f : Field) (line : List ℕ) where
   pub start-fits : (k : ℕ) → startOf f line ≡ Start.At k → k ≤ length line
   start-fits k e = let s = start-here k e in omega (arith, s .1, starts-length line (nameOf f) (s .0))
 
-  pub under-here : {A : Type 0} (bad : A) (way : List ℕ → A) (k : ℕ) → startOf f line ≡ Start.At k → way (take (length line - k) (drop k line)) ≡ under f bad way line
-  under-here bad way k e =
+  pub name-here : {A : Type 0} (bad : A) (way : List ℕ → A) (k : ℕ) → startOf f line ≡ Start.At k → way (take (length line - k) (drop k line)) ≡ afterName f bad way line
+  name-here bad way k e =
       let s = start-here k e in
       ap way (rest-part k line ∙ ap (λ (j : ℕ). drop j line) (sym (s .1))) ∙ ap (λ (b : Bool). cond b (way (drop (length (nameOf f)) line)) bad) (sym (s .0))
 
-  pub under-none : {A : Type 0} (bad : A) (way : List ℕ → A) → startOf f line ≡ Start.Nowhere → bad ≡ under f bad way line
+  pub name-none : {A : Type 0} (bad : A) (way : List ℕ → A) → startOf f line ≡ Start.Nowhere → bad ≡ afterName f bad way line
   unfolding startOf
-  under-none bad way e = ap (λ (b : Bool). cond b (way (drop (length (nameOf f)) line)) bad) (sym (not-started (startsOf line (nameOf f)) (length (nameOf f)) e))
+  name-none bad way e = ap (λ (b : Bool). cond b (way (drop (length (nameOf f)) line)) bad) (sym (not-started (startsOf line (nameOf f)) (length (nameOf f)) e))

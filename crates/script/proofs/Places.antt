@@ -1,16 +1,15 @@
 -- Places of an op's fields: sixteen are enough for every op.
-use mathlib.Core.Path.{_≡_, refl, sym, ap, _∙_}
-use mathlib.Core.Bool.{Bool, true, false}
+use mathlib.Core.Path.{_≡_, refl}
+use mathlib.Core.Bool.{true}
 use mathlib.Core.List.{List, [], _∷_, _++_}
-use Prim.Native.Nat.{ℕ, zero, suc, _+_, _-_, _≤_, _<_}
+use Prim.Native.Nat.{ℕ, zero, suc, _≤_}
 use native.Mathlib.Omega.{arith}
-use native.Mathlib.Decide.{decLt}
 use lib.Dec.{leb}
 use borrow.Author.Tests.{leb-true}
 use lib.ListN.{length, getD, replicate, List·getD-eq-default}
 use Rattle.script.specs.declared.Op.{Op}
 use Rattle.script.specs.declared.Field.{Field}
-use Rattle.script.specs.Grammar.{fieldsOf, fieldAt, padded}
+use Rattle.script.specs.Grammar.{fieldsOf, fieldAt}
 
 -- Done in the places behind a list changes no answer
 padding : (n i : ℕ) → getD (replicate n Field.Done) i Field.Done ≡ Field.Done

@@ -1,14 +1,11 @@
 -- Closed examples: what the definitions say of a few lines.
 use mathlib.Core.Path.{_≡_, refl}
-use mathlib.Core.Bool.{Bool, true, false}
-use mathlib.Core.List.{List, [], _∷_, _++_}
-use lib.IntN.{ℤ, pos, negsuc}
+use mathlib.Core.List.{[]}
 use Rattle.text.specs.declared.Parsed.{Parsed}
 use Rattle.text.specs.Number.{decimalOf, numberFrom}
-use Rattle.text.specs.Signed.{signedOf, minusOf, plusOf}
+use Rattle.text.specs.Signed.{signedOf, minusOf}
 use Rattle.text.specs.Starts.{startsOf, sameOf}
 use Rattle.styles.specs.declared.Value.{Value}
-use Rattle.script.specs.declared.Event.{Event}
 use Rattle.script.specs.declared.Field.{Field}
 use Rattle.script.specs.declared.Kind.{Kind}
 use Rattle.script.specs.declared.Op.{Op}
@@ -17,8 +14,8 @@ use Rattle.script.specs.declared.ReadOp.{ReadOp}
 use Rattle.script.specs.declared.ReadValue.{ReadValue}
 use Rattle.script.specs.Bytes.{bytes}
 use Rattle.script.specs.Grammar.{opName}
-use Rattle.script.specs.Reading.{numberOf, opNamed, kindNamed, valueOf, freshOf, movedOf, heldLine, lineOf}
-use Rattle.script.specs.Lines.{before, hasEnd, State, afterOf, bringsOf}
+use Rattle.script.specs.Reading.{numberOf, opNamed, valueOf, freshOf, movedOf, heldLine, lineOf}
+use Rattle.script.specs.Lines.{before, hasEnd, State, afterOf}
 
 -- every op is known by its name
 op-open : opNamed (opName Op.Open) ≡ ReadOp.Op Op.Open

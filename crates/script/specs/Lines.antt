@@ -50,6 +50,7 @@ pub record State : Type 0 where
   pub call : Call
   pub newlines : ℕ
 
+-- a reader's state
 abbrev pub stateOf : Reader → State
 stateOf r = record { held = heldOf (r .line); call = r .call; newlines = r .newlines }
 
@@ -77,7 +78,7 @@ grownOf s rest = take 65 (s .held ++ before rest)
 abbrev pub readOf : State → List ℕ → Read
 readOf s rest = lineOf (s .call) (grownOf s rest)
 
--- the state after the bytes up to the first newline, or all of them, and what they bring
+-- the state after the bytes up to the first newline, or all of them
 unfoldable pub afterOf : State → List ℕ → State
 unfolding before hasEnd lineOf
 afterOf s rest =
@@ -85,6 +86,7 @@ afterOf s rest =
     (turnedOf (s .newlines) (readOf s rest .progress) (readOf s rest .call))
     (record { held = grownOf s rest; call = s .call; newlines = s .newlines })
 
+-- what they bring: nothing before a newline, else what the line makes of the call
 unfoldable pub bringsOf : State → List ℕ → Event
 unfolding before hasEnd lineOf
 bringsOf s rest = cond (hasEnd rest) (eventOf (readOf s rest .progress)) Event.Nothing
@@ -104,5 +106,6 @@ endingBy (Holds.Number most) = Ending.Cut
 endingBy Holds.Kind = Ending.Cut
 endingBy Holds.Value = Ending.Cut
 
+-- whether the input may end here: between two calls, with no line begun
 unfoldable pub endingOf : State → Ending
 endingOf s = cond (eqb (length (s .held)) 0) (endingBy (holdsOf (fieldAt (s .call .op) (s .call .place)))) Ending.Cut

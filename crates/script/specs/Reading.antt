@@ -1,5 +1,4 @@
 -- What a line gives to a call.
-use mathlib.Core.Path.{_≡_}
 use mathlib.Core.Bool.{Bool, true, false, cond}
 use mathlib.Core.List.{List, [], _∷_}
 use Prim.Native.Nat.{ℕ, _+_}
@@ -31,8 +30,8 @@ unfoldable pub startOf : Field → List ℕ → Start
 startOf f line = cond (startsOf line (nameOf f)) (Start.At (length (nameOf f))) Start.Nowhere
 
 -- what follows a field's name in its line, read in a way
-abbrev pub under : {A : Type 0} → Field → A → (List ℕ → A) → List ℕ → A
-under f bad way line = cond (startsOf line (nameOf f)) (way (drop (length (nameOf f)) line)) bad
+abbrev pub afterName : {A : Type 0} → Field → A → (List ℕ → A) → List ℕ → A
+afterName f bad way line = cond (startsOf line (nameOf f)) (way (drop (length (nameOf f)) line)) bad
 
 -- a number that is at most so much
 abbrev pub withinOf : ℕ → Parsed → Parsed
@@ -41,7 +40,7 @@ withinOf most (Parsed.Number n) = cond (leb n most) (Parsed.Number n) Parsed.Bad
 
 -- the number of a field's line
 unfoldable pub numberOf : Field → ℕ → List ℕ → Parsed
-numberOf f most line = under f Parsed.Bad (λ t. withinOf most (decimalOf t)) line
+numberOf f most line = afterName f Parsed.Bad (λ t. withinOf most (decimalOf t)) line
 
 -- the ops that a script can name
 abbrev pub ops : List Op
@@ -65,15 +64,17 @@ kindAmong (k ∷ ks) t other = cond (sameOf t (kindName k)) (ReadKind.Kind k) (k
 unfoldable pub kindNamed : List ℕ → ReadKind
 kindNamed t = kindAmong (Kind.Null ∷ Kind.Bool ∷ Kind.Whole ∷ Kind.Decimal ∷ []) t ReadKind.Bad
 
--- a value of a kind: nothing, 0 or 1, a signed number, the sixteen hexadecimal digits of its bits
+-- a whole number as a value
 abbrev pub wholeOf : Signed → ReadValue
 wholeOf Signed.Bad = ReadValue.Bad
 wholeOf (Signed.Number z) = ReadValue.Value (Value.Whole z)
 
+-- a decimal as a value, from its bits
 abbrev pub decimalOfBits : Parsed → ReadValue
 decimalOfBits Parsed.Bad = ReadValue.Bad
 decimalOfBits (Parsed.Number n) = ReadValue.Value (Value.Decimal (ofBits binary64 n))
 
+-- a value of a kind: nothing, 0 or 1, a signed number, the sixteen hexadecimal digits of its bits
 unfoldable pub valueOf : Kind → List ℕ → ReadValue
 valueOf Kind.Null t = cond (eqb (length t) 0) (ReadValue.Value Value.Null) ReadValue.Bad
 valueOf Kind.Bool t = cond (sameOf t (bytes "0")) (ReadValue.Value (Value.Flag false)) (cond (sameOf t (bytes "1")) (ReadValue.Value (Value.Flag true)) ReadValue.Bad)
@@ -96,19 +97,22 @@ movedOf op place numbers kind value =
 abbrev pub badOf : Call → Read
 badOf c = record { call = c; progress = Progress.Bad }
 
--- what is read goes into the call
+-- what is read goes into the call: an op begins it anew
 abbrev pub withOp : Call → ReadOp → Read
 withOp c ReadOp.Bad = badOf c
 withOp c (ReadOp.Op op) = record { call = freshOf op; progress = Progress.More }
 
+-- a number goes to its field's place
 abbrev pub withNumber : Call → Parsed → Read
 withNumber c Parsed.Bad = badOf c
 withNumber c (Parsed.Number n) = movedOf (c .op) (c .place) (set (c .numbers) (c .place) n) (c .kind) (c .value)
 
+-- a kind says how the value's line is read
 abbrev pub withKind : Call → ReadKind → Read
 withKind c ReadKind.Bad = badOf c
 withKind c (ReadKind.Kind k) = movedOf (c .op) (c .place) (c .numbers) k (c .value)
 
+-- a value is the call's value
 abbrev pub withValue : Call → ReadValue → Read
 withValue c ReadValue.Bad = badOf c
 withValue c (ReadValue.Value v) = movedOf (c .op) (c .place) (c .numbers) (c .kind) v
@@ -116,10 +120,10 @@ withValue c (ReadValue.Value v) = movedOf (c .op) (c .place) (c .numbers) (c .ki
 -- a line that gives what the field holds
 unfoldable pub heldLine : Call → Field → Holds → List ℕ → Read
 heldLine c f Holds.Nothing line = badOf c
-heldLine c f Holds.Op line = withOp c (under f ReadOp.Bad opNamed line)
+heldLine c f Holds.Op line = withOp c (afterName f ReadOp.Bad opNamed line)
 heldLine c f (Holds.Number most) line = withNumber c (numberOf f most line)
-heldLine c f Holds.Kind line = withKind c (under f ReadKind.Bad kindNamed line)
-heldLine c f Holds.Value line = withValue c (under f ReadValue.Bad (valueOf (c .kind)) line)
+heldLine c f Holds.Kind line = withKind c (afterName f ReadKind.Bad kindNamed line)
+heldLine c f Holds.Value line = withValue c (afterName f ReadValue.Bad (valueOf (c .kind)) line)
 
 -- a line of at most 64 bytes gives the field that comes next
 unfoldable pub lineOf : Call → List ℕ → Read

@@ -1,11 +1,7 @@
 ghost use mathlib.Core.Path.{_≡_};
-ghost use mathlib.Core.List.{List, [], _∷_};
-ghost use mathlib.Core.Bool.{cond};
-ghost use Prim.Native.Nat.{_+_, _≤_, _<_};
-ghost use lib.ListN.{length, set};
-ghost use Rattle.text.specs.Starts.{sameOf};
-ghost use Rattle.script.specs.Grammar.{opName, kindName, holdsOf};
-ghost use Rattle.script.specs.Reading.{startOf, under, withinOf, numberOf, opAmong, opNamed, kindAmong, kindNamed, wholeOf, decimalOfBits, valueOf, freshOf, movedOf, badOf, withOp, withNumber, withKind, withValue, heldLine, lineOf};
+ghost use mathlib.Core.List.{[], _∷_};
+ghost use Prim.Native.Nat.{_+_, _<_};
+ghost use Rattle.script.specs.Reading.{startOf, afterName, withinOf, numberOf, opAmong, opNamed, kindAmong, kindNamed, wholeOf, decimalOfBits, valueOf, freshOf, movedOf, badOf, withOp, withNumber, withKind, withValue, heldLine, lineOf};
 use super::Call;
 use super::Field;
 use super::Holds;
@@ -118,7 +114,7 @@ fn op_named(t: &[u8]) -> ReadOp
 }
 
 fn op_line(f: Field, line: &[u8]) -> ReadOp
-    ensures { λ r. ⌜ r ≡ under f ReadOp.Bad opNamed (now (line .entry)) ⌝ }
+    ensures { λ r. ⌜ r ≡ afterName f ReadOp.Bad opNamed (now (line .entry)) ⌝ }
 {
     let Start::At(k) = value_start(f, line) else {
         return ReadOp::Bad;
@@ -148,7 +144,7 @@ fn kind_named(t: &[u8]) -> ReadKind
 }
 
 fn kind_line(f: Field, line: &[u8]) -> ReadKind
-    ensures { λ r. ⌜ r ≡ under f ReadKind.Bad kindNamed (now (line .entry)) ⌝ }
+    ensures { λ r. ⌜ r ≡ afterName f ReadKind.Bad kindNamed (now (line .entry)) ⌝ }
 {
     let Start::At(k) = value_start(f, line) else {
         return ReadKind::Bad;
@@ -208,7 +204,7 @@ fn value_of(kind: Kind, t: &[u8]) -> ReadValue
 }
 
 fn value_line(f: Field, kind: Kind, line: &[u8]) -> ReadValue
-    ensures { λ r. ⌜ r ≡ under f ReadValue.Bad (valueOf kind) (now (line .entry)) ⌝ }
+    ensures { λ r. ⌜ r ≡ afterName f ReadValue.Bad (valueOf kind) (now (line .entry)) ⌝ }
 {
     let Start::At(k) = value_start(f, line) else {
         return ReadValue::Bad;

@@ -25,8 +25,7 @@ use Rattle.styles.specs.Marks.{Above, Sorted, member, only, keyIs, value
 use Rattle.styles.specs.Bits.{keepBit, pick, hasBit, bit, maskOf, TopIn}
 use Rattle.styles.proofs.OrderLaws.{less-flip, same-self}
 use Rattle.styles.proofs.PickLaws.{pick-cons, above-pick, above-at, not-member}
-use Rattle.styles.proofs.BitLaws.{half-shr}
-use Rattle.styles.proofs.CountLaws.{half-less}
+use Rattle.styles.proofs.BitLaws.{half-shr, half-less}
 use Rattle.styles.proofs.WalkLaws.{next-set, winner-last, sorted-pick}
 use Rattle.styles.proofs.UnionLaws.{pick-none}
 
@@ -99,15 +98,6 @@ mask-digit f (m ∷ ms) (suc i) d h =
     digit-next (maskOf f ms * 2 + bit (f m)) i ∙ (rw e (mask-digit f ms i d (omega arith)))
 
 -- ---- a key is there, and its winner, by the mask of the key
-pub has-key-only : (k : ℕ) (l : List Mark) → hasKey k l ≡ false → only (keyIs k) l ≡ []
-unfolding hasKey only
-has-key-only k [] h = refl
-has-key-only k (m ∷ ms) h = go (keyIs k m) h (has-key-only k ms)
-  where
-    go : (a : Bool) → cond a true (hasKey k ms) ≡ false → (hasKey k ms ≡ false → only (keyIs k) ms ≡ []) → cond a (m ∷ only (keyIs k) ms) (only (keyIs k) ms) ≡ []
-    go true e ih = absurd (let z : _≡_ {A = ℕ} 0 1 = cc in omega arith)
-    go false e ih = ih e
-
 winner-skip : (k : ℕ) (a : Bool) (m : Mark) (l : List Mark) (w : Winner) → keyIs k m ≡ a → winner k l ≡ w → cond a (better m w) w ≡ winner k (cond a (m ∷ l) l)
 unfolding winner
 winner-skip k true m l w e h = rw (e, h)
@@ -141,7 +131,7 @@ pick-top j t s d h k l = pick-short (suc j) t s k ∙ (rw (add-one j) at (next-s
 pow-back : (j n : ℕ) → 2 ^ j < 2 ^ n → j < n
 pow-back j n h = elim (decLt j n) [ yes l ↦ l | no l ↦ absurd (omega (arith, pow-mono {i = n} {j = j} (omega arith))) ]
 
-and-low : (a b : ℕ) → bitAnd a b % 2 ≡ min (a % 2) (b % 2)
+pub and-low : (a b : ℕ) → bitAnd a b % 2 ≡ min (a % 2) (b % 2)
 and-low a b = let h : min (a % 2) (b % 2) ≤ a % 2 = min-le-left (a % 2) (b % 2) in omega (arith, and-step a b)
 
 and-has : (s u j : ℕ) → hasBit j (bitAnd s u) ≡ true → hasBit j u ≡ true

@@ -1,7 +1,7 @@
 -- What an edit of a bit set does to the marks that it picks.
-use Prim.Native.Nat.{ℕ, zero, suc, _+_, _*_, _/_, _%_, _≤_, _<_, min}
+use Prim.Native.Nat.{ℕ, zero, suc, _+_, _*_, _/_, _%_, _<_, min}
 use mathlib.Core.Path.{_≡_, refl, sym, ap, _∙_}
-use mathlib.Core.Bool.{true, false, cond, false≢true}
+use mathlib.Core.Bool.{false, cond}
 use mathlib.Core.List.{List, [], _∷_}
 use native.Mathlib.Omega.{arith}
 use native.Mathlib.Nat.{zero-min, min-zero, suc-min-suc}
@@ -9,10 +9,9 @@ use lib.Bits.{bitAnd, and-step}
 use lib.ListN.{length, getD}
 use Rattle.styles.specs.declared.Identity.{Identity}
 use Rattle.styles.specs.declared.Mark.{Mark}
-use Rattle.styles.specs.declared.Stand.{Stand}
-use Rattle.styles.specs.declared.Stand.the-variants.{Before, Same, After}
-use Rattle.styles.specs.Order.{stands, idOf, isSame}
-use Rattle.styles.specs.Marks.{Above, Sorted, member, insertStep, insertMark, removeMark, common, insertAt}
+use Rattle.styles.specs.declared.Stand.the-variants.{Before}
+use Rattle.styles.specs.Order.{stands, idOf}
+use Rattle.styles.specs.Marks.{Above, Sorted, member, insertMark, removeMark, common, insertAt}
 use Rattle.styles.specs.Bits.{keepBit, pick, openBit, withBit, withoutBit}
 use Rattle.styles.proofs.OrderLaws.{less-trans, less-flip, same-self}
 
@@ -66,28 +65,6 @@ insert-past m x xs h = rw (less-flip (idOf x) (idOf m) h)
 insert-keep : (b : ℕ) (m x : Mark) (xs : List Mark) → stands (idOf x) (idOf m) ≡ Before → keepBit b x (insertMark m xs) ≡ insertMark m (keepBit b x xs)
 insert-keep zero m x xs h = refl
 insert-keep (suc b) m x xs h = sym (insert-past m x xs h)
-
-pub above-put : (j : Identity) (i : ℕ) (m : Mark) (t : List Mark) → i ≤ length t → Above j (insertAt i m t) → stands j (idOf m) ≡ Before
-unfolding Above insertAt
-above-put j zero m t h k = k .0
-above-put j (suc i) m [] h k = absurd (omega arith)
-above-put j (suc i) m (x ∷ xs) h k = above-put j i m xs (omega arith) (k .1)
-
--- the new mark's bit, set
-pub pick-open-with : (i : ℕ) (m : Mark) (t : List Mark) (s : ℕ) → i ≤ length t → Sorted (insertAt i m t)
-    → pick (insertAt i m t) (withBit i (openBit i s)) ≡ insertMark m (pick t s)
-unfolding insertAt openBit withBit pick Sorted
-pick-open-with zero m t s h k =
-    let e : s * 2 / 2 ≡ s = omega arith in
-    rw e (pick-cons m t s 1 (omega arith) ∙ sym (insert-first m (pick t s) (above-pick (idOf m) t s (k .0))))
-pick-open-with (suc i) m [] s h k = absurd (omega arith)
-pick-open-with (suc i) m (x ∷ xs) s h k =
-    let e : (openBit i (s / 2) * 2 + s % 2) / 2 ≡ openBit i (s / 2) = omega arith in
-    let f : (openBit i (s / 2) * 2 + s % 2) % 2 ≡ s % 2 = omega arith in
-    rw (e, f)
-    (pick-cons x (insertAt i m xs) (withBit i (openBit i (s / 2))) (s % 2) (low s)
-    ∙ ap (keepBit (s % 2) x) (pick-open-with i m xs (s / 2) (omega arith) (k .1))
-    ∙ insert-keep (s % 2) m x (pick xs (s / 2)) (above-put (idOf x) i m xs (omega arith) (k .0)))
 
 -- ---- a mark of the table
 pub above-at : (j : Identity) (t : List Mark) (i : ℕ) (d : Mark) → i < length t → Above j t → stands j (idOf (getD t i d)) ≡ Before
@@ -174,16 +151,3 @@ pub above-trans : (i j : Identity) (ms : List Mark) → stands i j ≡ Before �
 unfolding Above
 above-trans i j [] h k = tt
 above-trans i j (m ∷ ms) h k = (less-trans i j (idOf m) h (k .0), above-trans i j ms h (k .1))
-
--- a mark whose identity is there changes nothing: a repeated insertion keeps the first
-kept-step : (s : Stand) (m x : Mark) (xs rest : List Mark) → stands (idOf m) (idOf x) ≡ s → Above (idOf x) xs → cond (isSame s) true (member (idOf m) xs) ≡ true
-    → (member (idOf m) xs ≡ true → rest ≡ xs) → insertStep s m x xs rest ≡ x ∷ xs
-kept-step Before m x xs rest b h e ih = absurd (false≢true (sym (not-member (idOf m) xs (above-trans (idOf m) (idOf x) xs b h)) ∙ e))
-kept-step Same m x xs rest b h e ih = refl
-kept-step After m x xs rest b h e ih = ap (_∷_ x) (ih e)
-
-pub insert-kept : (m : Mark) (l : List Mark) → Sorted l → member (idOf m) l ≡ true → insertMark m l ≡ l
-unfolding Sorted insertMark member
-insert-kept m [] h e = absurd (false≢true e)
-insert-kept m (x ∷ xs) h e =
-    kept-step (stands (idOf m) (idOf x)) m x xs (insertMark m xs) refl (h .0) e (insert-kept m xs (h .1))

@@ -13,7 +13,7 @@ use Rattle.styles.specs.Marks.{Above, Sorted, sameMarks}
 use Rattle.styles.specs.Bits.{keepBit, pick}
 use Rattle.styles.proofs.OrderLaws.{less-flip, same-self}
 use Rattle.styles.proofs.PickLaws.{above-pick}
-use Rattle.styles.proofs.CountLaws.{half-less}
+use Rattle.styles.proofs.BitLaws.{half-less}
 use Rattle.styles.proofs.ValueLaws.{bool-of}
 
 -- a set is the same as itself

@@ -1,7 +1,7 @@
 -- The sorted table: where an identity stands, and a mark put in at its place.
 use Prim.Native.Nat.{ℕ, zero, suc, _+_, _-_, _≤_, _<_}
 use mathlib.Core.Path.{_≡_, refl, sym, ap, _∙_, subst}
-use mathlib.Core.Bool.{true, false, cond, false≢true, true≢false}
+use mathlib.Core.Bool.{true, false, cond, true≢false}
 use mathlib.Core.List.{List, [], _∷_, _++_}
 use native.Mathlib.Omega.{arith}
 use native.Mathlib.Numerals.{add-one}
@@ -14,9 +14,9 @@ use Rattle.styles.specs.declared.Mark.{Mark}
 use Rattle.styles.specs.declared.Stand.{Stand}
 use Rattle.styles.specs.declared.Stand.the-variants.{Before, Same, After}
 use Rattle.styles.specs.Order.{stands, idOf, isBefore, less, sameId}
-use Rattle.styles.specs.Marks.{Above, Sorted, member, insertMark, removeMark, insertAt, removeAt, placeOf, blank}
+use Rattle.styles.specs.Marks.{Above, Sorted, member, insertAt, removeAt, placeOf, blank}
 use Rattle.styles.proofs.OrderLaws.{less-flip, more-flip, same-eq, same-self}
-use Rattle.styles.proofs.PickLaws.{not-member, insert-past, remove-above, above-trans}
+use Rattle.styles.proofs.PickLaws.{not-member, above-trans}
 
 -- ---- where an identity stands
 pub place-step : (j : Identity) (l : List Mark) (i : ℕ) (d : Mark) → i < length l
@@ -99,16 +99,6 @@ sorted-put m (x ∷ xs) h e =
     (λ b. absurd (true≢false (rw (same-flip (idOf x) (idOf m) b) at e)))
     (λ b. let k = more-flip (idOf x) (idOf m) b in ((k, above-trans (idOf m) (idOf x) xs k (h .0)), h))
 
--- there it is the set with one mark more
-pub put-is : (m : Mark) (t : List Mark) → Sorted t → member (idOf m) t ≡ false → insertAt (placeOf (idOf m) t) m t ≡ insertMark m t
-unfolding Sorted insertAt insertMark placeOf member
-put-is m [] h e = refl
-put-is m (x ∷ xs) h e =
-    place-cases (stands (idOf x) (idOf m)) (placeOf (idOf m) xs) (λ k. insertAt k m (x ∷ xs) ≡ insertMark m (x ∷ xs))
-    (λ b. ap (_∷_ x) (put-is m xs (h .1) (rw (less-flip (idOf x) (idOf m) b) at e)) ∙ sym (insert-past m x xs b))
-    (λ b. absurd (true≢false (rw (same-flip (idOf x) (idOf m) b) at e)))
-    (λ b. rw (more-flip (idOf x) (idOf m) b))
-
 -- a turn of the loop: the mark at hand goes in at k, and the one that stood there is at hand
 put-on : (t : List Mark) (k : ℕ) (m d : Mark) → k < length t → insertAt (suc k) (getD t k d) (set t k m) ≡ insertAt k m t
 unfolding insertAt
@@ -150,18 +140,6 @@ module _ (table t : List Mark) (n i : ℕ) (m carried : Mark) (low : i ≤ n) (r
       drop-set-lt (n + 1) t n carried (omega arith) ∙ sym (drop-drop 1 n t) ∙ ap (drop 1) e ∙ drop-drop 1 n table
 
 -- ---- a mark taken out
--- at the place of an identity that the table has: the set without it
-pub out-is : (i : Identity) (t : List Mark) → Sorted t → member i t ≡ true → removeAt (placeOf i t) t ≡ removeMark i t
-unfolding Sorted removeAt removeMark placeOf member
-out-is i [] h e = refl
-out-is i (x ∷ xs) h e =
-    place-cases (stands (idOf x) i) (placeOf i xs) (λ k. removeAt k (x ∷ xs) ≡ removeMark i (x ∷ xs))
-    (λ b. rw (less-flip (idOf x) i b) (ap (_∷_ x) (out-is i xs (h .1) (rw (less-flip (idOf x) i b) at e))))
-    (λ b. rw (same-flip (idOf x) i b) (sym (remove-above i xs (subst (λ (j : Identity). Above j xs) (same-eq (idOf x) i b) (h .0)))))
-    (λ b.
-    let k = more-flip (idOf x) i b in
-    absurd (false≢true (sym (not-member i xs (above-trans i (idOf x) xs k (h .0))) ∙ (rw k at e))))
-
 -- a turn of the loop: the mark after place k moves down, and its own place is now the one to take out
 out-turn : (t : List Mark) (k : ℕ) (d : Mark) → suc k < length t → removeAt (suc k) (set t k (getD t (suc k) d)) ≡ removeAt k t
 unfolding removeAt

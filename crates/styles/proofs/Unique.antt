@@ -1,17 +1,15 @@
 -- Each function of this crate has one answer: any two results that meet its statement are equal.
 -- Where the statement is an equation `r ≡ ..` that is `one-answer`; the functions that say it otherwise follow it.
-use Prim.Native.Nat.{ℕ, _+_, _-_, _^_, _≤_, _<_}
-use mathlib.Core.Path.{_≡_, sym, ap, ap₂, _∙_}
+use Prim.Native.Nat.{ℕ, _+_, _^_, _≤_, _<_}
+use mathlib.Core.Path.{_≡_, sym, ap₂, _∙_}
 use mathlib.Core.Bool.{Bool}
 use mathlib.Core.List.{List, _++_}
 use native.Mathlib.Omega.{arith}
 use native.Mathlib.Decide.{ℕ-discrete}
 use native.Mathlib.Numerals.{add-one}
 use lib.Count.{leading-top}
-use lib.ListN.{length, take, drop, replicate, take-append-drop}
-use Rattle.styles.specs.declared.Kept.{Kept}
+use lib.ListN.{take, drop, take-append-drop}
 use Rattle.styles.specs.declared.Mark.{Mark}
-use Rattle.styles.specs.Marks.{blank}
 use Rattle.styles.specs.Bits.{TopIn}
 use Rattle.styles.proofs.MaskLaws.{one-top}
 
@@ -34,11 +32,3 @@ one-top-in u v r s h k l =
 pub one-insert : {r s front rest : List Mark} (n : ℕ) → take n r ≡ front → drop n r ≡ rest → take n s ≡ front → drop n s ≡ rest → r ≡ s
 one-insert {r} {s} n e f g h =
     sym (take-append-drop n r) ∙ ap₂ _++_ (one-answer e g) (one-answer f h) ∙ take-append-drop n s
-
--- `keep_marks`: a count, and the table by it
-pub one-keep : (r s : Kept) (l : List Mark) → (r .table ≡ l ++ replicate (64 - r .count) blank) × (r .count ≡ length l)
-    → (s .table ≡ l ++ replicate (64 - s .count) blank) × (s .count ≡ length l) → r ≡ s
-one-keep r s l h k =
-    let e : r .count ≡ s .count = one-answer (h .1) (k .1) in
-    let f : r .table ≡ s .table = h .0 ∙ ap (λ (n : ℕ). l ++ replicate (64 - n) blank) e ∙ sym (k .0) in
-    λ i. record { table = f i; count = e i }

@@ -1,4 +1,4 @@
--- A set of marks is a list of them, sorted by identity.
+-- A set of marks is a list of them, sorted by identity: what it carries, what edits make of it, and the winner for a key.
 use Prim.Native.Nat.{ℕ, zero, suc}
 use mathlib.Core.Path.{_≡_}
 use mathlib.Core.Bool.{Bool, true, false, cond}
@@ -15,10 +15,11 @@ use lib.Dec.{eqb}
 use Rattle.styles.specs.Values.{sameValue, shown}
 use Rattle.styles.specs.Order.{stands, then, numbers, isBefore, idOf, less, sameId}
 
--- one content: the flag byte and the very same value
+-- the same content: the flag byte and the very same value
 unfoldable pub sameContent : Mark → Mark → Bool
 sameContent a b = cond (eqb (a .flags) (b .flags)) (sameValue (a .value) (b .value)) false
 
+-- ---- Sets, and what they carry
 -- each mark of the list comes after the identity
 unfoldable pub Above : Identity → List Mark → Type 0
 Above i [] = Unit {0}
@@ -35,6 +36,14 @@ unfoldable pub member : Identity → List Mark → Bool
 member i [] = false
 member i (m ∷ ms) = cond (sameId i (idOf m)) true (member i ms)
 
+-- two sets are the same, by identity: as many marks, and the same identities in order
+unfoldable pub sameMarks : List Mark → List Mark → Bool
+sameMarks [] [] = true
+sameMarks [] (y ∷ ys) = false
+sameMarks (x ∷ xs) [] = false
+sameMarks (x ∷ xs) (y ∷ ys) = cond (sameId (idOf x) (idOf y)) (sameMarks xs ys) false
+
+-- ---- What edits make of sets
 -- a mark against the first of a set: before it, the same identity, or among the rest
 abbrev pub insertStep : Stand → Mark → Mark → List Mark → List Mark → List Mark
 insertStep Before m x xs rest = m ∷ x ∷ xs
@@ -63,18 +72,12 @@ unfolding member
 common [] ys = []
 common (m ∷ ms) ys = cond (member (idOf m) ys) (m ∷ common ms ys) (common ms ys)
 
--- two sets are the same, by identity: as many marks, and the same identities in order
-unfoldable pub sameMarks : List Mark → List Mark → Bool
-sameMarks [] [] = true
-sameMarks [] (y ∷ ys) = false
-sameMarks (x ∷ xs) [] = false
-sameMarks (x ∷ xs) (y ∷ ys) = cond (sameId (idOf x) (idOf y)) (sameMarks xs ys) false
-
--- the marks for which a test holds
+-- of a set, the marks for which a test holds
 unfoldable pub only : (Mark → Bool) → List Mark → List Mark
 only f [] = []
 only f (m ∷ ms) = cond (f m) (m ∷ only f ms) (only f ms)
 
+-- ---- Keys, and the winner for a key
 -- the mark has the key
 abbrev pub keyIs : ℕ → Mark → Bool
 keyIs k m = eqb (m .key) k
@@ -83,23 +86,6 @@ keyIs k m = eqb (m .key) k
 unfoldable pub hasKey : ℕ → List Mark → Bool
 hasKey k [] = false
 hasKey k (m ∷ ms) = cond (keyIs k m) true (hasKey k ms)
-
--- a mark put in at a place of a list
-unfoldable pub insertAt : ℕ → Mark → List Mark → List Mark
-insertAt zero m ms = m ∷ ms
-insertAt (suc i) m [] = []
-insertAt (suc i) m (x ∷ xs) = x ∷ insertAt i m xs
-
--- the mark at a place of a list taken out
-unfoldable pub removeAt : ℕ → List Mark → List Mark
-removeAt i [] = []
-removeAt zero (m ∷ ms) = ms
-removeAt (suc i) (m ∷ ms) = m ∷ removeAt i ms
-
--- how many marks at the front come before an identity: where it stands in a sorted list, or would
-unfoldable pub placeOf : Identity → List Mark → ℕ
-placeOf i [] = 0
-placeOf i (m ∷ ms) = cond (less (idOf m) i) (suc (placeOf i ms)) 0
 
 -- of two marks with one key the second wins: the greater lamport, then the greater peer
 abbrev pub later : Mark → Mark → Bool
@@ -127,6 +113,24 @@ shownBy w (Shows m) = valueIs w m
 -- the value shown for a key shows as w
 abbrev pub showsValue : ℕ → Value → List Mark → Bool
 showsValue k w l = shownBy w (winner k l)
+
+-- ---- A table: marks at numbered places
+-- a mark put in at a place of a list
+unfoldable pub insertAt : ℕ → Mark → List Mark → List Mark
+insertAt zero m ms = m ∷ ms
+insertAt (suc i) m [] = []
+insertAt (suc i) m (x ∷ xs) = x ∷ insertAt i m xs
+
+-- the mark at a place of a list taken out
+unfoldable pub removeAt : ℕ → List Mark → List Mark
+removeAt i [] = []
+removeAt zero (m ∷ ms) = ms
+removeAt (suc i) (m ∷ ms) = m ∷ removeAt i ms
+
+-- how many marks at the front come before an identity: where it stands in a sorted list, or would
+unfoldable pub placeOf : Identity → List Mark → ℕ
+placeOf i [] = 0
+placeOf i (m ∷ ms) = cond (less (idOf m) i) (suc (placeOf i ms)) 0
 
 -- what stands in a place that no mark has
 abbrev pub blank : Mark

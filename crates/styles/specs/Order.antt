@@ -26,11 +26,13 @@ stands a b = then (numbers (a .key) (b .key)) (then (numbers (a .lamport) (b .la
 abbrev pub idOf : Mark → Identity
 idOf m = record { key = m .key; lamport = m .lamport; peer = m .peer }
 
+-- it stands before
 abbrev pub isBefore : Stand → Bool
 isBefore Before = true
 isBefore Same = false
 isBefore After = false
 
+-- it is the same
 abbrev pub isSame : Stand → Bool
 isSame Before = false
 isSame Same = true

@@ -1,5 +1,5 @@
 -- What a call hands back, for every edit at once: the number by its tests, the very same tank where it is refused, and one result.
-use Prim.Native.Nat.{ℕ, suc, _-_}
+use Prim.Native.Nat.{ℕ, suc}
 use mathlib.Core.Path.{_≡_, sym, _∙_}
 use mathlib.Core.Bool.{true, false}
 use native.Mathlib.Omega.{arith}

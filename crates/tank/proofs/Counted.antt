@@ -11,11 +11,11 @@ use Rattle.styles.specs.Marks.{Sorted}
 use Rattle.styles.specs.Bits.{pick}
 use Rattle.styles.proofs.SameLaws.{same-pick}
 use Rattle.runs.specs.Runs.{Run, total, setAt, Canon}
-use Rattle.runs.specs.Count.{stretches, alikeIn}
+use Rattle.runs.specs.Positions.{stretches}
 use Rattle.runs.specs.Gather.{gather}
 use Rattle.runs.proofs.Laws.{at-past}
 use Rattle.runs.proofs.GatherLaws.{set-within}
-use Rattle.runs.proofs.StretchLaws.{stretches-ext, count-stretches}
+use Rattle.runs.proofs.StretchLaws.{alikeIn, stretches-ext, count-stretches}
 use Rattle.tank.specs.Rules.{alike}
 
 -- a set at a position is no more than all sets together

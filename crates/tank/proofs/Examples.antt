@@ -17,7 +17,8 @@ use Rattle.styles.specs.Bits.{pick, withBit}
 use Rattle.runs.specs.Runs.{Run, run, total, setAt, Other, Canon, copyRuns, pushRun, joinRun, changing}
 use Rattle.runs.specs.Edits.{altered, deleted, inserted}
 use Rattle.runs.specs.Gather.{gather}
-use Rattle.runs.specs.Scan.{anyAt, allAt, stretchTo, commonAt}
+use Rattle.runs.specs.Positions.{anyAt, allAt, stretchTo}
+use Rattle.runs.specs.Scan.{commonAt}
 use Rattle.runs.proofs.ScanLaws.{and-true}
 use Rattle.tank.specs.Rules.{View, freshLength, freshView, Edit, annotating, inserting, deleting, removing, inherited, forInsert, backFrom, runsHeld, empty, over, long, notNumber, clash, clashes, full, refusal, afterCall, insertedSet, removedFirst}
 use Rattle.tank.specs.State.{viewOf}

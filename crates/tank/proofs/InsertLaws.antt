@@ -10,9 +10,9 @@ use borrow.Author.Tests.{lt-ltb, le-ltb, eq-eqb, ne-eqb}
 use Rattle.styles.specs.declared.Styles.{Styles}
 use Rattle.styles.specs.Answers.{stylesOf}
 use Rattle.styles.specs.Bits.{pick}
-use Rattle.runs.specs.Runs.{runs, total}
+use Rattle.runs.specs.Runs.{total}
 use Rattle.runs.specs.Gather.{gather}
-use Rattle.runs.specs.Scan.{commonAt, CanLook}
+use Rattle.runs.specs.Scan.{commonAt}
 use Rattle.tank.specs.declared.Tank.{Tank}
 use Rattle.tank.specs.declared.Inserted.{Inserted}
 use Rattle.tank.specs.Rules.{inserting, after, inherited, forInsert, afterInsert, empty, over, largest, long, notNumber, clashes, full, refusal, insertedSet}
@@ -91,16 +91,6 @@ module _ {t : Tank} (s : Sound t) (pos len : ℕ) where
           not-long : long (inserting pos len) (view t) ≡ false
           unfolding long view
           not-long = let q = le-ltb largest (t .length + len) small in simp (e, q)
-
-          pub can-look : CanLook (t .lens) (t .sets) (t .runs)
-          can-look =
-              let f = s .formed .laid in
-              let a = f .lens-514 in
-              let b = f .sets-514 in
-              let c = f .most in
-              let d = f .sum in
-              let g = f .small in
-              record { lens-n = omega arith; sets-n = omega arith; small = omega arith }
 
           module _ (set : ℕ) (q : set ≡ commonAt (runsOf t) pos) where
             reach : pos ≤ total (runsOf t)

@@ -17,7 +17,8 @@ use Rattle.styles.specs.Bits.{pick, withBit}
 use Rattle.styles.proofs.StyleLaws.{absent-pick}
 use Rattle.runs.specs.Runs.{runs, setAt}
 use Rattle.runs.specs.Gather.{gather}
-use Rattle.runs.specs.Scan.{stretchTo, meets, CanScan}
+use Rattle.runs.specs.Positions.{stretchTo}
+use Rattle.runs.specs.Scan.{meets, CanScan}
 use Rattle.runs.proofs.ScanLaws.{stretch-le, stretch-end, stretch-ext}
 use Rattle.tank.specs.declared.Tank.{Tank}
 use Rattle.tank.specs.declared.Removed.{Removed}
@@ -26,7 +27,7 @@ use Rattle.tank.specs.State.{runsOf, tableOf, view, Laid, Formed, Sound,
 use Rattle.tank.specs.Steps.{Trimmed, CanStrip}
 use Rattle.tank.proofs.Calls.{number-4, number-0, refused, made}
 use Rattle.tank.proofs.RoomLaws.{place-in, place-id}
-use Rattle.tank.proofs.Shape.{no-path}
+use Rattle.tank.proofs.Shape.{no-path, can-look}
 use Rattle.tank.proofs.StripLaws.{meets-mark}
 use Rattle.tank.proofs.Unique.{table-length}
 use Rattle.tank.proofs.ViewLaws.{view-ext, range-before, range-past}
@@ -105,13 +106,8 @@ module _ {t : Tank} (s : Sound t) (id : Identity) (last : ℕ) where
 
       pub can-scan : CanScan (t .lens) (t .sets) (t .runs) (last + 1)
       can-scan =
-          let f = s .formed .laid in
-          let a = f .lens-514 in
-          let b = f .sets-514 in
-          let c = f .most in
-          let d = f .sum in
-          let g = f .small in
-          record { look = record { lens-n = omega arith; sets-n = omega arith; small = omega arith }; reach = omega arith }
+          let d = s .formed .laid .sum in
+          record { look = can-look (s .formed .laid); reach = omega arith }
 
       module _ (first : ℕ) (q : first ≡ stretchTo (λ p. meets (withBit at 0) (setAt (runsOf t) p)) (last + 1)) where
         from-is : first ≡ backFrom id last (view t)

@@ -7,7 +7,7 @@ use native.Mathlib.Omega.{arith}
 use native.Mathlib.Decide.{decLt}
 use lib.Dec.{leb}
 use lib.ListN.{length, getD}
-use borrow.Author.Tests.{lt-ltb, le-ltb, le-leb, lt-leb}
+use borrow.Author.Tests.{lt-ltb, le-ltb, le-leb, lt-leb, not-false}
 use Rattle.styles.specs.declared.Identity.{Identity}
 use Rattle.styles.specs.declared.Mark.{Mark}
 use Rattle.styles.specs.declared.Stand.{Stand}
@@ -117,12 +117,8 @@ module _ (m : Mark) (ms : List Mark) where
 pub known-is : (m : Mark) (ms : List Mark) → Sorted ms → member (idOf m) ms ≡ true → clash m ms ≡ false → getD ms (placeOf (idOf m) ms) blank ≡ m
 known-is m ms sorted e c =
     let x = getD ms (placeOf (idOf m) ms) blank in
-    let k = content-eq m x (is-true (sameContent m x) (sym (clash-at m ms sorted e) ∙ c)) in
+    let k = content-eq m x (not-false (sameContent m x) (sym (clash-at m ms sorted e) ∙ c)) in
     sym (mark-eq m x (sym (place-id ms (idOf m) sorted e)) (k .0) (k .1))
-  where
-    is-true : (b : Bool) → not b ≡ false → b ≡ true
-    is-true true q = refl
-    is-true false q = no-path q
 
 -- ---- the answer in each case
 module _ (m : Mark) (ms : List Mark) (sorted : Sorted ms) (at : ℕ) (at-is : at ≡ placeOf (idOf m) ms) where

@@ -1,5 +1,5 @@
 -- What a step makes is laid out as a tank should be: the arrays, the table, the bounds.
-use Prim.Native.Nat.{ℕ, zero, suc, _+_, _-_, _≤_, _<_, _^_}
+use Prim.Native.Nat.{ℕ, zero, suc, _+_, _≤_, _<_, _^_}
 use mathlib.Core.Path.{_≡_, refl, sym, ap, _∙_, subst}
 use mathlib.Core.Bool.{Bool, true, false}
 use mathlib.Core.List.{List, [], _∷_}
@@ -12,6 +12,7 @@ use Rattle.styles.specs.declared.Mark.{Mark}
 use Rattle.runs.specs.Runs.{Run, runs, total, setAt, Canon, Spare}
 use Rattle.runs.specs.Edits.{CanEdit}
 use Rattle.runs.specs.Gather.{gather}
+use Rattle.runs.specs.Scan.{CanLook}
 use Rattle.runs.proofs.Laws.{at-in, at-last, length-runs}
 use Rattle.tank.specs.declared.Tank.{Tank}
 use Rattle.tank.specs.Rules.{View}
@@ -21,15 +22,15 @@ use Rattle.tank.specs.Steps.{Stepped}
 pub no-path : {A : Type 0} → true ≡ false → A
 no-path e = absurd (subst T e tt)
 
--- a new array is spare from its start
-zeros : (k i : ℕ) → getD {A = ℕ} (replicate k 0) i 0 ≡ 0
-zeros zero i = refl
-zeros (suc k) zero = refl
-zeros (suc k) (suc i) = zeros k i
+-- a new array holds one thing everywhere
+pub getD-same : {A : Type 0} (x : A) (k i : ℕ) → getD (replicate k x) i x ≡ x
+getD-same x zero i = refl
+getD-same x (suc k) zero = refl
+getD-same x (suc k) (suc i) = getD-same x k i
 
 pub all-spare : (k : ℕ) → Spare (replicate k 0) (replicate k 0) 0
 unfolding Spare
-all-spare k i h = (zeros k i, zeros k i)
+all-spare k i h = (getD-same 0 k i, getD-same 0 k i)
 
 -- where each position's set is small, all sets together are
 pub gather-small : (n : ℕ) (rs : List Run) → Canon rs → ((p : ℕ) → p < total rs → setAt rs p < 2 ^ n) → gather rs < 2 ^ n
@@ -41,6 +42,14 @@ gather-small n (r ∷ rs) c h =
     (gather-small n rs (c .2) (λ p k. rw (at-in r rs p k) at (h p (omega arith))))
 
 module _ {t : Tank} (f : Laid t) where
+  -- what a look at the tank's runs asks
+  pub can-look : CanLook (t .lens) (t .sets) (t .runs)
+  can-look =
+      let a = f .lens-514 in
+      let b = f .sets-514 in
+      let m = f .most in
+      record { lens-n = omega arith; sets-n = omega arith; small = subst (λ (n : ℕ). n < 2 ^ 63) (f .sum) (f .small) }
+
   -- what an edit asks of the tank's runs
   pub can-edit : t .runs ≤ 512 → (out : List Run) (olens osets : List ℕ) → length olens ≡ 514 → length osets ≡ 514
       → length out ≤ length (runsOf t) + 2 → total out < 2 ^ 63 → CanEdit out olens osets (t .lens) (t .sets) (t .runs) (t .length)

@@ -12,9 +12,12 @@ use lib.ListN.{length, getD, take, replicate, length-append, length-replicate}
 use lib.Pow.{pow-mono, pow-pos}
 use lib.Seq.{take-at, getD-append-add}
 use Rattle.styles.specs.declared.Mark.{Mark}
+use Rattle.styles.specs.declared.Styles.{Styles}
+use Rattle.styles.specs.Answers.{stylesOf}
 use Rattle.styles.specs.Marks.{blank}
 use Rattle.styles.specs.Bits.{keepBit, pick, squeeze}
-use Rattle.styles.proofs.CountLaws.{half-less, pick-length}
+use Rattle.styles.proofs.BitLaws.{half-less}
+use Rattle.styles.proofs.CountLaws.{pick-length}
 use Rattle.styles.proofs.SqueezeLaws.{pick-squeeze}
 use Rattle.styles.proofs.UnionLaws.{squeeze-all, squeeze-none}
 use Rattle.styles.proofs.WalkLaws.{sorted-pick, pick-length-le}
@@ -27,7 +30,7 @@ use Rattle.runs.proofs.RenumberLaws.{canon-squeeze, gather-squeeze, sets-within
 use Rattle.tank.specs.declared.Tank.{Tank}
 use Rattle.tank.specs.State.{runsOf, tableOf, view, Numbers, Laid}
 use Rattle.tank.specs.Steps.{Trimmed}
-use Rattle.tank.proofs.Shape.{no-path}
+use Rattle.tank.proofs.Shape.{no-path, getD-same}
 use Rattle.tank.proofs.Unique.{table-length, inside-table}
 use Rattle.tank.proofs.ViewLaws.{view-renumbered}
 
@@ -53,12 +56,11 @@ unfolding Numbers pick
 numbers-pick [] s n = tt
 numbers-pick (m ∷ ms) s n = numbers-keep (s % 2) m (pick ms (s / 2)) ms n (numbers-pick ms (s / 2) (n .1))
 
-pub blank-behind : (k i : ℕ) → getD (replicate k blank) i blank ≡ blank
-blank-behind zero i = refl
-blank-behind (suc k) zero = refl
-blank-behind (suc k) (suc i) = blank-behind k i
-
 module _ {t : Tank} (f : Laid t) (e : t .touched ≡ true) where
+  -- what is carried are marks of the table
+  pub carried-inside : (carried : ℕ) → carried ≡ gather (runsOf t) → (t .marks ≤ 64) × (carried < 2 ^ t .marks)
+  carried-inside carried g = (f .few, rw g (f .inside))
+
   -- all marks are carried: nothing leaves
   pub trim-none : (carried : ℕ) → carried ≡ gather (runsOf t) → ones carried ≡ t .marks → Trimmed t t
   trim-none carried g c =
@@ -76,31 +78,36 @@ module _ {t : Tank} (f : Laid t) (e : t .touched ≡ true) where
       }
 
   module _ (carried : ℕ) (g : carried ≡ gather (runsOf t)) (sets : List ℕ) (squeezed : Renumbered (squeeze 64 carried) (t .runs) (t .sets) sets)
-      (table : List Mark) (count : ℕ) (table-is : table ≡ pick (tableOf t) carried ++ replicate (64 - count) blank)
-      (count-is : count ≡ length (pick (tableOf t) carried)) where
+      (kept : Styles) (kept-is : kept ≡ stylesOf (pick (tableOf t) carried)) where
+    count-is : kept .count ≡ length (pick (tableOf t) carried)
+    count-is = ap (λ (k : Styles). k .count) kept-is
+
+    table-is : kept .marks ≡ pick (tableOf t) carried ++ replicate (64 - kept .count) blank
+    table-is = rw count-is (ap (λ (k : Styles). k .marks) kept-is)
+
     small : carried < 2 ^ 64
     small = let a = f .inside in let b = f .few in omega (arith, pow-mono {i = t .marks} {j = 64} (omega arith))
 
     runs-are : runs (t .lens) sets (t .runs) ≡ mapRuns (squeeze 64 carried) (runsOf t)
     runs-are = squeezed .front (t .lens)
 
-    few : count ≤ 64
-    few = let a = f .few in omega (arith, pick-length-le (tableOf t) carried, table-length f)
+    few : kept .count ≤ 64
+    few = let a = f .few in omega (arith, count-is, pick-length-le (tableOf t) carried, table-length f)
 
-    front : take count table ≡ pick (tableOf t) carried
-    front = ap (take count) table-is ∙ take-at (pick (tableOf t) carried) (replicate (64 - count) blank) count (sym count-is)
+    front : take (kept .count) (kept .marks) ≡ pick (tableOf t) carried
+    front = ap (take (kept .count)) table-is ∙ take-at (pick (tableOf t) carried) (replicate (64 - kept .count) blank) (kept .count) (sym count-is)
 
-    table-64 : length table ≡ 64
+    table-64 : length (kept .marks) ≡ 64
     table-64 =
         let a = few in
-        ap length table-is ∙ length-append (pick (tableOf t) carried) (replicate (64 - count) blank)
-        ∙ (omega (arith, length-replicate (64 - count) blank))
+        ap length table-is ∙ length-append (pick (tableOf t) carried) (replicate (64 - kept .count) blank)
+        ∙ (omega (arith, count-is, length-replicate (64 - kept .count) blank))
 
-    blanks : (i : ℕ) → count ≤ i → getD table i blank ≡ blank
+    blanks : (i : ℕ) → kept .count ≤ i → getD (kept .marks) i blank ≡ blank
     blanks i h =
-        let k : length (pick (tableOf t) carried) + (i - count) ≡ i = omega arith in
-        ap (λ ms. getD ms i blank) table-is ∙ ap (λ x. getD (pick (tableOf t) carried ++ replicate (64 - count) blank) x blank) (sym k)
-        ∙ getD-append-add (pick (tableOf t) carried) (replicate (64 - count) blank) (i - count) blank ∙ blank-behind (64 - count) (i - count)
+        let k : length (pick (tableOf t) carried) + (i - kept .count) ≡ i = omega (arith, count-is) in
+        ap (λ ms. getD ms i blank) table-is ∙ ap (λ x. getD (pick (tableOf t) carried ++ replicate (64 - kept .count) blank) x blank) (sym k)
+        ∙ getD-append-add (pick (tableOf t) carried) (replicate (64 - kept .count) blank) (i - kept .count) blank ∙ getD-same blank (64 - kept .count) (i - kept .count)
 
     within : (p : ℕ) → bitAnd (setAt (runsOf t) p) carried ≡ setAt (runsOf t) p
     within p =
@@ -109,15 +116,15 @@ module _ {t : Tank} (f : Laid t) (e : t .touched ≡ true) where
           | no h ↦ let z = at-past (runsOf t) p (omega arith) in rw z (and-zero-l carried)
         ]
 
-    ones-are : ones carried ≡ count
+    ones-are : ones carried ≡ kept .count
     ones-are = sym (pick-length (tableOf t) carried (rw g (inside-table f))) ∙ sym count-is
 
-    whole : gather (runs (t .lens) sets (t .runs)) ≡ 2 ^ count - 1
+    whole : gather (runs (t .lens) sets (t .runs)) ≡ 2 ^ kept .count - 1
     whole =
         ap gather runs-are ∙ gather-squeeze carried (runsOf t) ∙ ap (squeeze 64 carried) (sym g) ∙ squeeze-all 64 carried small
         ∙ ap (λ n. 2 ^ n - 1) ones-are
 
-    pub trim-done : Trimmed t (record { touched = true; length = t .length; runs = t .runs; marks = count; lens = t .lens; sets = sets; table = table })
+    pub trim-done : Trimmed t (record { touched = true; length = t .length; runs = t .runs; marks = kept .count; lens = t .lens; sets = sets; table = kept .marks })
     unfolding view
     trim-done =
         record {
@@ -137,14 +144,14 @@ module _ {t : Tank} (f : Laid t) (e : t .touched ≡ true) where
                       sorted = rw front (sorted-pick (tableOf t) carried (f .sorted));
                       numbers = rw front (numbers-pick (tableOf t) carried (f .numbers));
                       blanks = blanks;
-                      inside = omega (arith, whole, pow-pos count);
+                      inside = omega (arith, whole, pow-pos (kept .count));
                     };
                 whole = whole;
                 fresh = λ q. no-path q;
               };
           is =
-              ap (λ b. record { length = t .length; touched = b; at = λ p. pick (take count table) (setAt (runs (t .lens) sets (t .runs)) p) }) (sym e)
-              ∙ view-renumbered (t .touched) (t .length) (tableOf t) (take count table) (runsOf t) (runs (t .lens) sets (t .runs))
+              ap (λ b. record { length = t .length; touched = b; at = λ p. pick (take (kept .count) (kept .marks)) (setAt (runs (t .lens) sets (t .runs)) p) }) (sym e)
+              ∙ view-renumbered (t .touched) (t .length) (tableOf t) (take (kept .count) (kept .marks)) (runsOf t) (runs (t .lens) sets (t .runs))
               (λ p.
               ap (λ ms. pick ms (setAt (runs (t .lens) sets (t .runs)) p)) front
               ∙ ap (pick (pick (tableOf t) carried)) (ap (λ rs. setAt rs p) runs-are ∙ at-map (squeeze 64 carried) (squeeze-none 64 carried) (runsOf t) p)

@@ -15,7 +15,7 @@ use Rattle.runs.specs.Gather.{gather}
 use Rattle.runs.proofs.Laws.{unique, length-runs}
 use Rattle.tank.specs.declared.Tank.{Tank}
 use Rattle.tank.specs.Rules.{alike, carried, gathered, runsHeld, View}
-use Rattle.runs.specs.Count.{stretches}
+use Rattle.runs.specs.Positions.{stretches}
 use Rattle.tank.specs.State.{runsOf, tableOf, view, Laid, Formed}
 use Rattle.tank.proofs.Counted.{at-inside, counted}
 use Rattle.tank.proofs.Carried.{gathered-is}

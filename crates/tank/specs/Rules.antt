@@ -5,8 +5,7 @@ use mathlib.Core.Bool.{Bool, true, false, cond, _&&_, not}
 use mathlib.Core.List.{List, [], _∷_}
 use lib.Dec.{ltb, leb, eqb}
 use lib.ListN.{length}
-use Rattle.runs.specs.Count.{stretches}
-use Rattle.runs.specs.Scan.{stretchTo}
+use Rattle.runs.specs.Positions.{stretches, stretchTo}
 use Rattle.styles.specs.declared.Identity.{Identity}
 use Rattle.styles.specs.declared.Mark.{Mark}
 use Rattle.styles.specs.Order.{idOf, sameId}
@@ -23,10 +22,12 @@ pub record View : Type 0 where
 abbrev pub within : ℕ → ℕ → ℕ → Bool
 within a b p = leb a p && ltb p b
 
--- ---- A fresh tank has length T = 2^62 - 1, no marks, untouched
+-- ---- A fresh tank has length T, no marks, untouched
+-- T = 2^62 - 1
 abbrev pub freshLength : ℕ
 freshLength = 4611686018427387903
 
+-- the fresh tank
 unfoldable pub freshView : View
 freshView = record { length = freshLength; touched = false; at = λ p. [] }
 
@@ -90,20 +91,24 @@ abbrev pub runsHeld : View → ℕ
 runsHeld v = stretches (alike (v .at)) (v .length)
 
 -- ---- The marks that a tank carries: those of any position
+-- the marks of the first n positions together
 unfoldable pub gathered : (ℕ → List Mark) → ℕ → List Mark
 gathered at zero = []
 gathered at (suc n) = union (at n) (gathered at n)
 
+-- those of all positions below the length
 abbrev pub carried : View → List Mark
 carried v = gathered (v .at) (v .length)
 
--- ---- The edits as one type: what each leaves and what it answers
+-- ---- The edits as one type
+-- each with the arguments of its call
 pub data Edit : Type 0 where
   annotating : ℕ → ℕ → Mark → Edit
   inserting : ℕ → ℕ → Edit
   deleting : ℕ → ℕ → Edit
   removing : Identity → ℕ → Edit
 
+-- what an accepted edit leaves
 unfoldable pub after : Edit → View → View
 after (annotating a b m) v = afterAnnotate a b m v
 after (inserting pos len) v = afterInsert pos len v
@@ -176,9 +181,11 @@ refusal e v =
 abbrev pub afterCall : Edit → View → View
 afterCall e v = cond (eqb (refusal e v) 0) (after e v) v
 
--- what stands beside the number: an insertion's set, a removal's first position; refused: the empty set, 0
+-- ---- What stands beside the number
+-- an insertion's set; refused: the empty one
 abbrev pub insertedSet : ℕ → ℕ → View → List Mark
 insertedSet pos len v = cond (eqb (refusal (inserting pos len) v) 0) (forInsert pos v) []
 
+-- a removal's first position; refused: 0
 abbrev pub removedFirst : Identity → ℕ → View → ℕ
 removedFirst id last v = cond (eqb (refusal (removing id last) v) 0) (backFrom id last v) 0

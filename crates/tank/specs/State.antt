@@ -13,6 +13,7 @@ use Rattle.runs.specs.Gather.{gather}
 use Rattle.tank.specs.declared.Tank.{Tank}
 use Rattle.tank.specs.Rules.{View, freshLength, Edit, refusal, afterCall}
 
+-- the tank's runs
 abbrev pub runsOf : Tank → List Run
 runsOf t = runs (t .lens) (t .sets) (t .runs)
 
@@ -20,10 +21,11 @@ runsOf t = runs (t .lens) (t .sets) (t .runs)
 abbrev pub tableOf : Tank → List Mark
 tableOf t = take (t .marks) (t .table)
 
--- runs over a table, by position
+-- what runs over a table mean, by position
 abbrev pub viewOf : Bool → ℕ → List Mark → List Run → View
 viewOf b l ms rs = record { length = l; touched = b; at = λ p. pick ms (setAt rs p) }
 
+-- what the tank means
 unfoldable pub view : Tank → View
 view t = viewOf (t .touched) (t .length) (tableOf t) (runsOf t)
 
@@ -54,6 +56,7 @@ pub record Formed (t : Tank) : Type 0 where
   pub whole : gather (runsOf t) ≡ 2 ^ t .marks - 1
   pub fresh : t .touched ≡ false → runsOf t ≡ run freshLength 0 ∷ []
 
+-- what a caller holds: a tank in form, with runs that all tanks have room for
 pub record Sound (t : Tank) : Type 0 where
   pub formed : Formed t
   pub within : t .runs ≤ 512

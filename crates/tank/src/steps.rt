@@ -3,7 +3,7 @@ ghost use mathlib.Core.Path.{_≡_};
 ghost use mathlib.Core.Bool.{true};
 ghost use lib.Bits.{bitOr};
 ghost use lib.ListN.{getD};
-ghost use Prim.Native.Nat.{_+_, _<_, _≤_, _^_};
+ghost use Prim.Native.Nat.{_+_, _^_};
 ghost use Rattle.styles.specs.Order.{idOf};
 ghost use Rattle.styles.specs.Marks.{blank, insertAt};
 ghost use Rattle.styles.specs.Bits.{openBit};
@@ -88,8 +88,8 @@ pub fn trim(t: Tank) -> Tank
         return t;
     }
     runs::sets::squeeze_sets(&mut sets, m, carried);
-    let kept = styles::table::keep_marks(table, marks, carried);
-    let next = kept.table;
+    let kept = styles::table::styles_of(table, marks, carried);
+    let next = kept.marks;
     Tank {
         touched: true,
         length: t.length,

@@ -17,7 +17,7 @@ use Rattle.tanks.specs.declared.Head.{Head}
 use Rattle.tanks.specs.declared.Run as pool
 use Rattle.tanks.specs.declared.Table.{Table}
 use Rattle.tanks.specs.Settings.{accepted, fit, shares, claims}
-use Rattle.tanks.specs.House.{one, openNumber, opening}
+use Rattle.tanks.specs.House.{smallest, openNumber, opening}
 use Rattle.tanks.specs.Pool.{noHead, noRun, noTable, runsIn, laid, before, tankIn, tankOf, headOf, tableIn, meaning, Sound, freshly}
 use Rattle.tanks.specs.Contracts.{Opens}
 use Rattle.tanks.proofs.LaidLaws.{length-laid, laid-front, laid-out, blank-at}
@@ -102,14 +102,14 @@ module _ (st : List Setting) where
       sound = fresh-sound;
     }
 
-pub ones-ok : accepted (replicate 8 one) ≡ true
+pub ones-ok : accepted (replicate 8 smallest) ≡ true
 unfolding accepted fit shares
 ones-ok = refl
 
-pub opens-2 : (st : List Setting) → accepted st ≡ false → Opens st (record { number = 2; tanks = freshly (replicate 8 one) })
+pub opens-2 : (st : List Setting) → accepted st ≡ false → Opens st (record { number = 2; tanks = freshly (replicate 8 smallest) })
 unfolding openNumber opening meaning freshly
 opens-2 st off = record {
   number-is = rw off;
-  is = rw off (λ i. record { settings = replicate 8 one; tanks = means-fresh (replicate 8 one) i });
-  sound = fresh-sound (replicate 8 one) refl ones-ok;
+  is = rw off (λ i. record { settings = replicate 8 smallest; tanks = means-fresh (replicate 8 smallest) i });
+  sound = fresh-sound (replicate 8 smallest) refl ones-ok;
 }

@@ -9,7 +9,7 @@ use Rattle.tanks.specs.declared.Setting.{Setting}
 use Rattle.tanks.specs.declared.Count.{Count}
 use Rattle.tanks.specs.declared.YesNo.{YesNo}
 use Rattle.tanks.specs.Settings.{accepted, fit, shares, claims, judgement}
-use Rattle.tanks.specs.House.{freshHouse, one, openNumber, opening, askNumber, refusalAt}
+use Rattle.tanks.specs.House.{freshHouse, smallest, openNumber, opening, askNumber, refusalAt}
 use Rattle.tanks.specs.Contracts.{counts, says}
 
 abbrev pair : ℕ → ℕ → Setting
@@ -54,7 +54,7 @@ opens-2 : openNumber (replicate 8 (pair 65 512)) ≡ 2
 unfolding openNumber accepted fit shares
 opens-2 = refl
 
-beside-2 : opening (replicate 8 (pair 65 512)) ≡ freshHouse (replicate 8 one)
+beside-2 : opening (replicate 8 (pair 65 512)) ≡ freshHouse (replicate 8 smallest)
 unfolding opening accepted fit shares
 beside-2 = refl
 

@@ -14,7 +14,7 @@ use Rattle.tank.specs.Rules.{View, freshView, runsHeld, Edit, inserting, removi
 use Rattle.tanks.specs.declared.Setting.{Setting}
 use Rattle.tanks.specs.declared.Tanks.{Tanks}
 use Rattle.tanks.specs.Settings.{shareOf, limitOf, accepted, claims, heldAfter, judgement}
-use Rattle.tanks.specs.House.{House, tankAt, held, one, opening, refusalAt, withTank, afterAt, setInserted, firstRemoved, Call, afterAll}
+use Rattle.tanks.specs.House.{House, tankAt, held, smallest, opening, refusalAt, withTank, afterAt, setInserted, firstRemoved, Call, afterAll}
 use Rattle.tanks.specs.Pool.{runsIn, meaning, Sound, freshly}
 use Rattle.tanks.proofs.SettingLaws.{cond-le, accepted-at, claims-cong, judge-9, judge-10, judge-0, judge-within, judge-sum, first-zero, second-zero}
 use Rattle.tanks.proofs.MeaningLaws.{at-each, held-is, tanks-length}
@@ -104,7 +104,7 @@ kept-open st l = go (accepted st) refl
   where
     go : (b : Bool) → accepted st ≡ b → Kept (opening st)
     go true e = let s = opens st l e in subst Kept (s .is) (kept-sound (freshly st) (s .sound))
-    go false e = let s = opens-2 st e in subst Kept (s .is) (kept-sound (freshly (replicate 8 one)) (s .sound))
+    go false e = let s = opens-2 st e in subst Kept (s .is) (kept-sound (freshly (replicate 8 smallest)) (s .sound))
 
 -- ---- no call changes the settings
 pub settings-stay : (h : House) (t : ℕ) (e : Edit) → afterAt h t e .settings ≡ h .settings

@@ -39,9 +39,11 @@ pub record CalledAt (s : Tanks) (t : ℕ) (e : Edit) (number : ℕ) (next : Tank
 abbrev pub answered : {A R : Type 0} → (ℕ → R) → (A → R) → ℕ → A → R
 answered refused given number value = cond (eqb number 0) (given value) (refused number)
 
+-- a count, as an answer
 abbrev pub counts : ℕ → ℕ → Count
 counts = answered Count.Refused Count.Counts
 
+-- yes or no, as an answer
 abbrev pub says : ℕ → Bool → YesNo
 says = answered YesNo.Refused YesNo.Says
 

@@ -28,9 +28,9 @@ held h t = runsHeld (tankAt h t)
 abbrev pub freshHouse : List Setting → House
 freshHouse st = record { settings = st; tanks = replicate 8 freshView }
 
--- the pair (1, 1)
-abbrev pub one : Setting
-one = record { share = 1; limit = 1 }
+-- the pair (1, 1), the smallest that keeps the rule
+abbrev pub smallest : Setting
+smallest = record { share = 1; limit = 1 }
 
 -- 2: settings break the rule
 unfoldable pub openNumber : List Setting → ℕ
@@ -38,7 +38,7 @@ openNumber st = cond (accepted st) 0 2
 
 -- beside 2 stands the state of eight pairs (1, 1)
 unfoldable pub opening : List Setting → House
-opening st = freshHouse (cond (accepted st) st (replicate 8 one))
+opening st = freshHouse (cond (accepted st) st (replicate 8 smallest))
 
 -- ---- Refusals
 -- 1: tank is 8 or more
@@ -78,10 +78,12 @@ unfoldable pub firstRemoved : House → ℕ → Identity → ℕ → ℕ
 firstRemoved h t id last = cond (eqb (refusalAt h t (removing id last)) 0) (backFrom id last (tankAt h t)) 0
 
 -- ---- Calls one after another, refused ones among them
+-- an edit, and the tank that it is for
 pub record Call : Type 0 where
   pub tank : ℕ
   pub edit : Edit
 
+-- the house after all of them
 unfoldable pub afterAll : House → List Call → House
 afterAll h [] = h
 afterAll h (c ∷ cs) = afterAll (afterAt h (c .tank) (c .edit)) cs

@@ -18,10 +18,11 @@ use Rattle.tanks.specs.declared.Tanks.{Tanks}
 use Rattle.tanks.specs.Settings.{accepted, limitOf, claims}
 use Rattle.tanks.specs.House.{House}
 
--- blanks
+-- a blank place of the pool
 abbrev pub noRun : Run
 noRun = record { len = 0; set = 0 }
 
+-- what stands where there is no tank
 abbrev pub noHead : Head
 noHead = record { touched = false; length = 0; runs = 0; marks = 0 }
 
@@ -78,13 +79,15 @@ pub record Sound (s : Tanks) : Type 0 where
   pub spare : (k : ℕ) → before (s .heads) 8 ≤ k → getD (s .pool) k noRun ≡ noRun
 
 -- ---- A tank put back
--- a tank's head, its table, and its k-th run
+-- a tank's head
 abbrev pub headOf : Tank → Head
 headOf x = record { touched = x .touched; length = x .length; runs = x .runs; marks = x .marks }
 
+-- its table
 abbrev pub tableIn : Tank → Table
 tableIn x = record { marks = x .table }
 
+-- its k-th run
 abbrev pub runOf : List ℕ → List ℕ → ℕ → Run
 runOf lens sets k = record { len = getD lens k 0; set = getD sets k 0 }
 
@@ -115,7 +118,8 @@ puts s t x = record {
   pool = poolWith (s .pool) (spotsOf (s .heads) t (x .runs)) x;
 }
 
--- ---- Eight fresh tanks, packed
+-- ---- Opening
+-- eight fresh tanks, packed
 unfoldable pub freshly : List Setting → Tanks
 freshly st = record {
   settings = st;

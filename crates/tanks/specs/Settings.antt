@@ -10,10 +10,11 @@ use Rattle.tanks.specs.declared.Setting.{Setting}
 abbrev pub noSetting : Setting
 noSetting = record { share = 0; limit = 0 }
 
--- the share and the limit of tank t
+-- the share of tank t
 abbrev pub shareOf : List Setting → ℕ → ℕ
 shareOf st t = getD st t noSetting .share
 
+-- its limit
 abbrev pub limitOf : List Setting → ℕ → ℕ
 limitOf st t = getD st t noSetting .limit
 

@@ -1,25 +1,24 @@
 -- The parser of signed numbers is exact: what is accepted is the text of its answer, and the text of each number of 64 bits is accepted.
-use mathlib.Core.Path.{_≡_, refl, sym, ap, _∙_, subst}
+use mathlib.Core.Path.{_≡_, refl, sym, ap, _∙_}
 use mathlib.Core.Bool.{Bool, true, false, cond}
 use mathlib.Core.List.{List, [], _∷_, _++_}
-use Prim.Native.Nat.{ℕ, zero, suc, _+_, _-_, _^_, _≤_, _<_}
+use Prim.Native.Nat.{ℕ, suc, _+_, _-_, _^_, _≤_, _<_}
 use native.Mathlib.Numerals.{add-one}
 use native.Mathlib.Omega.{arith}
 use lib.Dec.{ltb, eqb}
 use lib.IntN.{ℤ, pos, negsuc}
-use lib.ListN.{length, getD, set, take, drop, length-drop}
+use lib.ListN.{length, set, take, drop, length-drop}
 use lib.Seq.{take-all, take-suc-set, drop-set-lt, append-snoc}
-use borrow.Author.Tests.{lt-ltb, le-ltb, eq-eqb, ne-eqb, ltb-true, ltb-false, eqb-true, eqb-false}
+use borrow.Author.Tests.{lt-ltb, le-ltb, ne-eqb, ltb-true, ltb-false, eqb-true}
 use mir.Syntax.{w64}
 use mir.Val.{SFits, toZ}
 use mir.Facts.{toZ-pos}
 use Rattle.text.specs.declared.Parsed.{Parsed}
 use Rattle.text.specs.declared.Signed.{Signed}
 use Rattle.text.specs.declared.Size.{Size}
-use Rattle.text.specs.Number.{digitOf, numberFrom, decimalOf, decimalText, put}
+use Rattle.text.specs.Number.{decimalOf, decimalText, put}
 use Rattle.text.specs.Signed.{plusOf, minusOf, signedOf, signedText, sizeOf}
-use Rattle.text.proofs.Steps.{glyph-low}
-use Rattle.text.proofs.Laws.{decimal-reads, decimal-back, decimal-only, first-glyph}
+use Rattle.text.proofs.Laws.{decimal-back, decimal-only, first-glyph}
 
 pub empty : (t : List ℕ) → length t < 1 → Signed.Bad ≡ signedOf t
 unfolding signedOf decimalOf plusOf

@@ -2,7 +2,7 @@
 use mathlib.Core.Path.{_≡_, refl, sym, ap, ap₂, _∙_}
 use mathlib.Core.Bool.{Bool, true, false, cond}
 use mathlib.Core.List.{List, [], _∷_, _++_}
-use Prim.Native.Nat.{ℕ, suc, _+_, _≤_, _<_}
+use Prim.Native.Nat.{ℕ, _+_, _≤_, _<_}
 use native.Mathlib.Numerals.{add-one}
 use native.Mathlib.Omega.{arith}
 use lib.Dec.{eqb}
@@ -76,7 +76,3 @@ same-is s t e =
     both : (a b : Bool) → cond a b false ≡ true → (a ≡ true) × (b ≡ true)
     both true b e = (refl, e)
     both false b e = let z : _≡_ {A = ℕ} 0 1 = cc in absurd (omega arith)
-
-pub same-self : (s : List ℕ) → sameOf s s ≡ true
-unfolding sameOf
-same-self s = rw (eq-eqb (length s) (length s) refl) (front-starts s s (take-all (length s) s (omega arith)))

@@ -1,18 +1,15 @@
 -- Texts put into a buffer one behind the other are one text put there.
-use mathlib.Core.Path.{_≡_, refl, sym, ap, ap₂, _∙_}
-use mathlib.Core.List.{List, [], _∷_, _++_, append-assoc}
+use mathlib.Core.Path.{_≡_, sym, ap, ap₂, _∙_}
+use mathlib.Core.List.{List, _++_, append-assoc}
 use Prim.Native.Nat.{ℕ, _+_, _≤_}
 use native.Mathlib.Omega.{arith}
-use lib.ListN.{length, take, drop, length-append, length-drop}
-use lib.Seq.{length-take-le, take-at, drop-at, drop-append-add, take-append-seam}
+use lib.ListN.{length, take, drop, length-append}
+use lib.Seq.{length-take-le, take-at, drop-append-add}
 use Rattle.text.specs.Number.{put}
 
 module _ (d : List ℕ) (at : ℕ) (s : List ℕ) (room : at + length s ≤ length d) where
   length-front : length (take at d ++ s) ≡ at + length s
   length-front = simp (length-append, length-take-le at d (omega arith))
-
-  pub length-put : length (put d at s) ≡ length d
-  length-put = simp (length-append, length-drop, length-take-le at d (omega arith)) (omega arith)
 
   pub take-put : take (at + length s) (put d at s) ≡ take at d ++ s
   take-put = take-at (take at d ++ s) (drop (at + length s) d) (at + length s) length-front

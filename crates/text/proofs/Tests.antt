@@ -1,11 +1,11 @@
 -- Closed examples: what the definitions say of a few texts.
 use mathlib.Core.Path.{_≡_, refl}
-use mathlib.Core.List.{List, [], _∷_}
-use lib.IntN.{ℤ, pos, negsuc}
+use mathlib.Core.List.{[], _∷_}
+use lib.IntN.{negsuc}
 use Rattle.text.specs.declared.Parsed.{Parsed}
 use Rattle.text.specs.declared.Signed.{Signed}
 use Rattle.text.specs.Number.{numberFrom, decimalOf, decimalText, placesFrom}
-use Rattle.text.specs.Signed.{plusOf, minusOf, signedOf}
+use Rattle.text.specs.Signed.{minusOf, signedOf}
 
 seven : decimalOf (55 ∷ []) ≡ Parsed.Number 7
 unfolding decimalOf numberFrom

@@ -1,8 +1,8 @@
 -- Numbers as text, in base b, over io's `digits`, `glyph` and `Fewest`: what the parsers answer, and what it is to be the text of a number.
-use mathlib.Core.Path.{_≡_, refl}
+use mathlib.Core.Path.{_≡_}
 use mathlib.Core.List.{List, [], _∷_, _++_}
-use mathlib.Core.Bool.{Bool, true, false, cond}
-use Prim.Native.Nat.{ℕ, zero, suc, _+_, _-_, _*_, _/_, _^_, _≤_, _<_}
+use mathlib.Core.Bool.{cond}
+use Prim.Native.Nat.{ℕ, zero, suc, _+_, _-_, _*_, _/_, _^_}
 use lib.Dec.{ltb, eqb}
 use lib.ListN.{length, getD, take, drop}
 use Rattle.io.specs.Digits.{glyph, digits, Fewest}
@@ -39,10 +39,11 @@ unfoldable pub placesFrom : ℕ → ℕ → ℕ
 placesFrom zero n = 1
 placesFrom (suc f) n = cond (ltb n 10) 1 (suc (placesFrom f (n / 10)))
 
--- the decimal text of a number below 2^64, and its sixteen hexadecimal digits
+-- the decimal text of a number below 2^64
 unfoldable pub decimalText : ℕ → List ℕ
 decimalText n = digits 10 (placesFrom 19 n) n
 
+-- its sixteen hexadecimal digits
 unfoldable pub hexText : ℕ → List ℕ
 hexText n = digits 16 16 n
 

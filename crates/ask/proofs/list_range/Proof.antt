@@ -2,7 +2,8 @@
 use mathlib.Core.Path.{refl}
 use lib.ListN.{length}
 use borrow.Author.Needs.{needs}
-use Rattle.lists.specs.Lists.{rangeList, rangeNumber, unlessRefused, inFront, answered}
+use Rattle.runs.specs.Lists.{inFront}
+use Rattle.lists.specs.Lists.{rangeList, rangeNumber, unlessRefused, answered}
 use Rattle.ask.specs.Asks.{noList}
 use Rattle.ask.proofs.AskLaws.{past, inside}
 use Rattle.ask.proofs.list_range.Statement.{statement}

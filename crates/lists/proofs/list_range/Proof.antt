@@ -1,8 +1,6 @@
 -- `lists::list_range` meets its contract: nothing needed, too short a buffer, or the list in front.
-use mathlib.Core.Path.{_≡_, sym, ap, _∙_}
 use native.Mathlib.Omega.{arith}
 use borrow.Author.Needs.{needs}
-use lib.ListN.{length}
 use Rattle.tank.specs.State.{view}
 use Rattle.lists.specs.Lists.{rangeList, rangeRefusal}
 use Rattle.lists.proofs.ListLaws.{needed-some, handed-none, handed-short, handed-full, range-is, can-range}

@@ -1,8 +1,7 @@
 -- `lists::list_whole` meets its contract: too short a buffer, or the list in front.
-use mathlib.Core.Path.{_≡_, refl, sym, ap, _∙_}
+use mathlib.Core.Path.{refl}
 use native.Mathlib.Omega.{arith}
 use borrow.Author.Needs.{needs}
-use lib.ListN.{length}
 use Rattle.tank.specs.State.{view}
 use Rattle.lists.specs.Lists.{wholeList}
 use Rattle.lists.proofs.ListLaws.{handed-short, handed-full, whole-is, can-whole}

@@ -4,7 +4,7 @@ use native.Mathlib.Omega.{arith}
 use borrow.Author.Needs.{needs}
 use lib.ListN.{length}
 use Rattle.tank.specs.State.{view}
-use Rattle.lists.proofs.ListLaws.{needed-empty, needed-over, needed-is, range-is, can-tally}
+use Rattle.lists.proofs.ListLaws.{needed-empty, needed-over, needed-is, range-is}
 use Rattle.lists.proofs.stretches_needed.Statement.{statement}
 use Rattle.lists.proofs.stretches_needed.Tie as tie
 use Rattle.lists.proofs.stretches_needed.Reads as reads

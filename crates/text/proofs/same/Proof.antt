@@ -1,5 +1,4 @@
 -- Texts of one length are the same where one starts with the other.
-use mathlib.Core.Path.{_≡_, _∙_, sym}
 use borrow.Author.Needs.{needs}
 use borrow.Author.Tests.{eq-eqb, ne-eqb}
 use Rattle.text.specs.Starts.{sameOf}

@@ -1,7 +1,5 @@
 -- Each turn puts an anchor; the cursor stands in the tank, and the output buffer keeps its length.
 use mathlib.Core.Path.{_≡_}
-use Prim.Native.Nat.{_-_, _≤_}
-use native.Mathlib.Omega.{arith}
 use lib.ListN.{length}
 use Rattle.lists.specs.Anchors.{Stands, Steps}
 use borrow.Author.Needs.{needs}

@@ -1,7 +1,6 @@
 -- Each turn puts a stretch; the output buffer keeps its length.
 use mathlib.Core.Path.{_≡_}
-use Prim.Native.Nat.{_-_, _≤_}
-use native.Mathlib.Omega.{arith}
+use Prim.Native.Nat.{_-_}
 use lib.ListN.{length}
 use borrow.Author.Needs.{needs}
 use Rattle.clerk.proofs.listing.put_stretches.Statement.{statement}

@@ -1,5 +1,5 @@
 -- `anchors::advance` meets its contract: a step's cursor, or the same one where nothing comes.
-use mathlib.Core.Path.{_≡_, sym, ap, _∙_}
+use mathlib.Core.Path.{sym, ap, _∙_}
 use mathlib.Core.List.{List}
 use borrow.Author.Needs.{needs}
 use lib.ListN.{drop}

@@ -1,5 +1,5 @@
 -- `anchors::anchor_at` meets its contract: a step's anchor is the first of what comes.
-use mathlib.Core.Path.{_≡_, sym, ap, _∙_}
+use mathlib.Core.Path.{sym, ap, _∙_}
 use mathlib.Core.List.{List}
 use borrow.Author.Needs.{needs}
 use lib.ListN.{getD}

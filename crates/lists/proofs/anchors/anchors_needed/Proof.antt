@@ -1,5 +1,5 @@
 -- `anchors::anchors_needed` meets its contract. The invariant: what has been counted, with what comes behind the cursor, is the whole count.
-use Prim.Native.Nat.{_-_, _≤_}
+use Prim.Native.Nat.{_-_}
 use native.Mathlib.Omega.{arith}
 use borrow.Author.Needs.{needs}
 use Rattle.lists.proofs.CursorLaws.{Tallied, tallied-first, tallied-next, tallied-end}

@@ -1,6 +1,4 @@
 -- `anchors::judged` meets its contract: 11 where the count is over the room.
-use mathlib.Core.Path.{_≡_}
-use native.Mathlib.Omega.{arith}
 use borrow.Author.Needs.{needs}
 use Rattle.tank.specs.State.{view}
 use Rattle.lists.specs.Anchors.{anchors}

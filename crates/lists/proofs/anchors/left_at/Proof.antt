@@ -1,5 +1,4 @@
 -- `anchors::left_at` meets its contract: a set of marks has as many as its bits.
-use mathlib.Core.Path.{_≡_}
 use native.Mathlib.Omega.{arith}
 use borrow.Author.Needs.{needs}
 use Rattle.lists.proofs.CursorLaws.{left-count}

@@ -1,5 +1,5 @@
 -- `anchors::turns` meets its contract: as many as are written.
-use mathlib.Core.Path.{_≡_, ap}
+use mathlib.Core.Path.{ap}
 use native.Mathlib.Omega.{arith}
 use borrow.Author.Needs.{needs}
 use Rattle.lists.specs.declared.Listed.{Listed}

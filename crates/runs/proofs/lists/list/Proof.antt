@@ -7,7 +7,8 @@ use borrow.Author.Needs.{needs}
 use lib.Count.{ones}
 use lib.ListN.{length, getD, take, drop, length-append}
 use Rattle.runs.specs.Runs.{runs, total}
-use Rattle.runs.specs.Lists.{clipped, numbers, entry, inFront, listed, CanList}
+use Rattle.runs.specs.Positions.{asNumbers}
+use Rattle.runs.specs.Lists.{clipped, entry, inFront, listed, CanList}
 use Rattle.runs.proofs.Laws.{total-more, total-mono}
 use Rattle.runs.proofs.ListLaws.{listed-more, listed-grows, front-write, front-length}
 use Rattle.runs.proofs.lists.list.Statement.{statement}
@@ -83,7 +84,7 @@ abbrev μ-loop : tie.MeasureT-loop
 μ-loop lens sets n from to least out₀ k₀ start₀ at₀ out k start at = n - k
 
 loop-holds : tie.Need-loop-holds Inv-loop μ-loop
-unfolding runs total clipped numbers
+unfolding runs total clipped asNumbers
 loop-holds c = record { within = omega arith; begun = refl; place = refl; done = refl }
 
 add-end : tie.Need-add-end Inv-loop μ-loop

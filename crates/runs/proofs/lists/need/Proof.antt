@@ -8,7 +8,8 @@ use lib.Count.{ones}
 use lib.ListN.{length, getD, length-append}
 use Rattle.runs.specs.Runs.{runs, total}
 use Rattle.runs.specs.Count.{CanTally}
-use Rattle.runs.specs.Lists.{clipped, numbers, entry, listed}
+use Rattle.runs.specs.Positions.{asNumbers}
+use Rattle.runs.specs.Lists.{clipped, entry, listed}
 use Rattle.runs.proofs.Laws.{total-more, total-mono}
 use Rattle.runs.proofs.ListLaws.{listed-more, listed-most, entry-most}
 use Rattle.runs.proofs.lists.need.Statement.{statement}
@@ -56,7 +57,7 @@ abbrev μ-loop : tie.MeasureT-loop
 μ-loop lens sets n from to least k₀ start₀ count₀ k start count = n - k
 
 loop-holds : tie.Need-loop-holds Inv-loop μ-loop
-unfolding runs total clipped numbers
+unfolding runs total clipped asNumbers
 loop-holds c = record { within = omega arith; begun = refl; place = refl }
 
 add-end : tie.Need-add-end Inv-loop μ-loop

@@ -8,7 +8,8 @@ use borrow.Author.Needs.{needs}
 use lib.Bits.{bitAnd}
 use lib.ListN.{getD}
 use Rattle.runs.specs.Runs.{runs, total, setAt}
-use Rattle.runs.specs.Scan.{stretchTo, meets, walked, CanScan}
+use Rattle.runs.specs.Positions.{stretchTo}
+use Rattle.runs.specs.Scan.{meets, walked, CanScan}
 use Rattle.runs.proofs.Laws.{total-more, total-mono}
 use Rattle.runs.proofs.ScanLaws.{walk-turn}
 use Rattle.runs.proofs.scan.back.Statement.{statement}

@@ -1,5 +1,4 @@
 -- `scan::common_at` meets its contract: away from the start it is the AND of two looks.
-use Prim.Native.Nat.{_-_}
 use mathlib.Core.Path.{sym, ap}
 use borrow.Author.Needs.{needs}
 use Rattle.runs.specs.Runs.{runs}

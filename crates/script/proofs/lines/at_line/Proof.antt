@@ -1,9 +1,5 @@
 -- The line is empty.
-use mathlib.Core.Path.{ap}
-use mathlib.Core.List.{List}
-use Prim.Native.Nat.{ℕ}
 use borrow.Author.Needs.{needs}
-use Rattle.script.specs.Lines.{State}
 use Rattle.script.proofs.lines.at_line.Statement.{statement}
 use Rattle.script.proofs.lines.at_line.Tie as tie
 

@@ -1,5 +1,4 @@
 -- No line was read.
-use mathlib.Core.Path.{_∙_}
 use borrow.Author.Needs.{needs}
 use Rattle.script.proofs.lines.begin.Statement.{statement}
 use Rattle.script.proofs.lines.begin.Tie as tie

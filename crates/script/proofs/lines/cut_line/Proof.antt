@@ -1,7 +1,6 @@
 -- The newline is searched, and what stands in front of it is put behind what is kept.
-use mathlib.Core.Path.{_≡_}
 use native.Mathlib.Omega.{arith}
-use lib.ListN.{length, drop, length-drop}
+use lib.ListN.{drop, length-drop}
 use borrow.Author.Needs.{needs}
 use Rattle.script.proofs.CutLaws.{before-length, cut-whole, cut-open}
 use Rattle.script.proofs.lines.cut_line.Statement.{statement}

@@ -1,13 +1,12 @@
 -- Nothing is kept of a line, and an op is what comes next.
-use mathlib.Core.Path.{_≡_, sym, ap, _∙_}
+use mathlib.Core.Path.{_≡_, sym, _∙_}
 use Prim.Native.Nat.{ℕ}
 use native.Mathlib.Omega.{arith}
 use lib.ListN.{length, length-take}
 use borrow.Author.Needs.{needs}
 use borrow.Author.Tests.{eq-eqb, ne-eqb}
 use Rattle.script.specs.declared.Line.{Line}
-use Rattle.script.specs.Grammar.{fieldAt, holdsOf}
-use Rattle.script.specs.Lines.{heldOf, Keeps, endingBy, endingOf}
+use Rattle.script.specs.Lines.{heldOf, Keeps, endingOf}
 use Rattle.script.proofs.lines.ended.Statement.{statement}
 use Rattle.script.proofs.lines.ended.Tie as tie
 

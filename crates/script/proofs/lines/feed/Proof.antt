@@ -1,6 +1,6 @@
 -- The line is cut; where it has ended, it is read, and the next begins.
-use mathlib.Core.Path.{_≡_, refl, sym, ap, _∙_}
-use mathlib.Core.Bool.{Bool, true, false, cond}
+use mathlib.Core.Path.{_≡_, sym, ap, _∙_}
+use mathlib.Core.Bool.{true, false}
 use mathlib.Core.List.{List}
 use Prim.Native.Nat.{ℕ}
 use native.Mathlib.Omega.{arith}
@@ -9,7 +9,7 @@ use Rattle.script.specs.declared.Call.{Call}
 use Rattle.script.specs.declared.Event.{Event}
 use Rattle.script.specs.declared.Read.{Read}
 use Rattle.script.specs.Reading.{lineOf}
-use Rattle.script.specs.Lines.{hasEnd, State, stateOf, grownOf, readOf, turnedOf, eventOf, afterOf, bringsOf, Feeds}
+use Rattle.script.specs.Lines.{hasEnd, State, stateOf, grownOf, readOf, turnedOf, eventOf, afterOf, bringsOf}
 use Rattle.script.proofs.lines.feed.Statement.{statement}
 use Rattle.script.proofs.lines.feed.Tie as tie
 

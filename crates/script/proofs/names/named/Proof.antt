@@ -1,5 +1,4 @@
 -- The word is put at the front of sixteen zeros.
-use mathlib.Core.Path.{_∙_, ap}
 use native.Mathlib.Omega.{arith}
 use borrow.Author.Needs.{needs}
 use Rattle.text.proofs.Putting.{take-put}

@@ -1,5 +1,5 @@
 -- One of two texts, or none of them.
-use mathlib.Core.Path.{_≡_, sym, _∙_}
+use mathlib.Core.Path.{sym, _∙_}
 use borrow.Author.Needs.{needs}
 use Rattle.script.specs.Reading.{valueOf}
 use Rattle.script.proofs.reading.flag_of.Statement.{statement}

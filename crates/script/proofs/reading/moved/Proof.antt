@@ -1,10 +1,5 @@
 -- The parts are those of the call, and how it stands is by the field that comes next.
-use mathlib.Core.Path.{_≡_, ap, _∙_}
 use borrow.Author.Needs.{needs}
-use Rattle.script.specs.declared.Field.{Field}
-use Rattle.script.specs.declared.Holds.{Holds}
-use Rattle.script.specs.declared.Progress.{Progress}
-use Rattle.script.specs.Grammar.{holdsOf, progressOf}
 use Rattle.script.specs.Reading.{movedOf}
 use Rattle.script.proofs.reading.moved.Statement.{statement}
 use Rattle.script.proofs.reading.moved.Tie as tie

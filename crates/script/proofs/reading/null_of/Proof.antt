@@ -1,5 +1,4 @@
 -- A null has no text.
-use mathlib.Core.Path.{sym}
 use borrow.Author.Tests.{eq-eqb, ne-eqb}
 use Rattle.script.specs.Reading.{valueOf}
 use Rattle.script.proofs.reading.null_of.Statement.{statement}

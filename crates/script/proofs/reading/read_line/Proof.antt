@@ -1,6 +1,5 @@
 -- A line that is too long is bad, and so is one where no field is left to come.
-use mathlib.Core.Path.{_≡_, sym, ap, _∙_}
-use mathlib.Core.Bool.{Bool, true, false, cond}
+use mathlib.Core.Path.{_≡_, ap, _∙_}
 use mathlib.Core.List.{List}
 use Prim.Native.Nat.{ℕ, _≤_, _<_}
 use lib.ListN.{length}
@@ -9,7 +8,6 @@ use borrow.Author.Tests.{lt-ltb, le-ltb}
 use Rattle.script.specs.declared.Call.{Call}
 use Rattle.script.specs.declared.Field.{Field}
 use Rattle.script.specs.declared.Holds.{Holds}
-use Rattle.script.specs.declared.Read.{Read}
 use Rattle.script.specs.Grammar.{fieldAt, holdsOf}
 use Rattle.script.specs.Reading.{badOf, heldLine, lineOf}
 use Rattle.script.proofs.Places.{past-fields}

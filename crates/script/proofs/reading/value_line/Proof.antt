@@ -1,10 +1,10 @@
 -- What stands behind the name is read; a line that does not begin with it is bad.
-use mathlib.Core.Path.{_≡_, sym, ap, _∙_}
+use mathlib.Core.Path.{_≡_, sym, _∙_}
 use borrow.Author.Needs.{needs}
 use Rattle.script.specs.declared.ReadValue.{ReadValue}
 use Rattle.script.specs.declared.Start.{Start}
 use Rattle.script.specs.Reading.{startOf, valueOf}
-use Rattle.script.proofs.LineLaws.{start-fits, under-here, under-none}
+use Rattle.script.proofs.LineLaws.{start-fits, name-here, name-none}
 use Rattle.script.proofs.reading.value_line.Statement.{statement}
 use Rattle.script.proofs.reading.value_line.Tie as tie
 
@@ -13,7 +13,7 @@ starts-at : (c : tie.After-known-told) → startOf (c .before .before .before .b
 starts-at c = sym (c .before .before .before .value-start .ensures) ∙ c .before .k .given .1
 
 returns : tie.Need-returns
-returns c = under-none _ _ ReadValue.Bad (valueOf (c .before .before .before .before .args .kind)) (sym (c .before .before .value-start .ensures) ∙ c .enum-told .given .1)
+returns c = name-none _ _ ReadValue.Bad (valueOf (c .before .before .before .before .args .kind)) (sym (c .before .before .value-start .ensures) ∙ c .enum-told .given .1)
 
 sub : tie.Need-sub-value-of
 sub c = start-fits _ _ _ (starts-at c)
@@ -22,7 +22,7 @@ part-start : tie.Need-part-value-of-start
 part-start c = start-fits _ _ _ (starts-at c)
 
 returns-2 : tie.Need-returns-2
-returns-2 c = c .value-of .ensures ∙ under-here _ _ ReadValue.Bad (valueOf (c .before .before .before .before .before .before .before .args .kind)) _ (starts-at (c .before .before))
+returns-2 c = c .value-of .ensures ∙ name-here _ _ ReadValue.Bad (valueOf (c .before .before .before .before .before .before .before .args .kind)) _ (starts-at (c .before .before))
 
 pub value-line-spec : {M : Type 1} → statement M
 value-line-spec = tie.close (tie.spec (λ c κs. search needs) (λ c. search needs) (λ c. search needs) returns sub part-start (λ c. search needs) (λ c κs. search needs) returns-2)

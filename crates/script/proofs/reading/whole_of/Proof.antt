@@ -1,5 +1,5 @@
 -- A whole number keeps its number.
-use mathlib.Core.Path.{_≡_, sym, ap, _∙_}
+use mathlib.Core.Path.{ap}
 use borrow.Author.Needs.{needs}
 use lib.IntN.{ℤ}
 use mir.Syntax.{w64}
@@ -7,7 +7,6 @@ use mir.Val.{SFits}
 use mir.Facts.{toZ-ofZ}
 use Rattle.styles.specs.declared.Value.{Value}
 use Rattle.script.specs.declared.ReadValue.{ReadValue}
-use Rattle.script.specs.Reading.{wholeOf}
 use Rattle.script.proofs.reading.whole_of.Statement.{statement}
 use Rattle.script.proofs.reading.whole_of.Tie as tie
 

@@ -1,8 +1,6 @@
 -- The number is measured.
-use mathlib.Core.Path.{_≡_, sym, ap, _∙_}
 use borrow.Author.Needs.{needs}
 use borrow.Author.Tests.{le-leb, lt-leb}
-use Rattle.script.specs.Reading.{withinOf}
 use Rattle.script.proofs.reading.within.Statement.{statement}
 use Rattle.script.proofs.reading.within.Tie as tie
 

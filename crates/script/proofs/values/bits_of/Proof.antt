@@ -1,6 +1,6 @@
 -- By one test, whether the number is a NaN.
 use mathlib.Core.Path.{_≡_, refl, sym, ap, _∙_}
-use lib.Ieee.{Float, nan, binary64, isNan, toBits}
+use lib.Ieee.{nan, binary64, toBits}
 use borrow.Author.Needs.{needs}
 use Rattle.styles.proofs.Floats.{ne-self, nan-of, not-nan}
 use Rattle.script.proofs.values.bits_of.Statement.{statement}

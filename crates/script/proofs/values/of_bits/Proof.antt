@@ -1,10 +1,10 @@
 -- By one test, whether the bits are a NaN's.
-use mathlib.Core.Path.{_≡_, refl, sym, ap, _∙_, subst}
+use mathlib.Core.Path.{_≡_, refl, sym, _∙_, subst}
 use mathlib.Core.Bool.{Bool, true, false, not}
 use Prim.Native.Nat.{ℕ, _%_, _^_, _<_, _≤_}
 use lib.Bits.{and-mask}
 use lib.Dec.{T, ltb}
-use lib.Ieee.{Float, nan, binary64, ofBits, ofFields, odd, div, nanBits}
+use lib.Ieee.{nan, binary64, ofBits, div}
 use lib.Ieee.Bits.{nanBits-above, nanBits-is}
 use borrow.Author.Needs.{needs}
 use borrow.Author.Tests.{lt-ltb, le-ltb}

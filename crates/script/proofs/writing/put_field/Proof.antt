@@ -1,5 +1,4 @@
 -- Three texts, one behind the other.
-use mathlib.Core.Path.{_≡_, sym, ap, _∙_}
 use native.Mathlib.Omega.{arith}
 use borrow.Author.Needs.{needs}
 use Rattle.script.proofs.PutLaws.{puts-then, puts-all, puts-few, puts-more}

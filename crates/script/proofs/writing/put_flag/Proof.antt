@@ -1,8 +1,7 @@
 -- One byte.
-use mathlib.Core.Path.{_≡_, sym, ap, _∙_}
 use native.Mathlib.Omega.{arith}
 use borrow.Author.Needs.{needs}
-use Rattle.script.proofs.PutLaws.{puts-all, puts-as, puts-more}
+use Rattle.script.proofs.PutLaws.{puts-all, puts-more}
 use Rattle.script.proofs.writing.put_flag.Statement.{statement}
 use Rattle.script.proofs.writing.put_flag.Tie as tie
 

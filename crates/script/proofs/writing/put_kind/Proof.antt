@@ -1,5 +1,4 @@
 -- Three texts, one behind the other.
-use mathlib.Core.Path.{_≡_, sym, ap, _∙_}
 use native.Mathlib.Omega.{arith}
 use borrow.Author.Needs.{needs}
 use Rattle.script.proofs.LineLaws.{length-spelled}

@@ -1,8 +1,7 @@
 -- Six lines, one behind the other.
-use mathlib.Core.Path.{_≡_, sym, ap, _∙_}
+use mathlib.Core.Path.{ap}
 use native.Mathlib.Omega.{arith}
 use borrow.Author.Needs.{needs}
-use Prim.Native.Nat.{ℕ}
 use Rattle.script.specs.Bytes.{bytes}
 use Rattle.script.specs.Writing.{fieldText, markText}
 use Rattle.script.proofs.PutLaws.{puts-then, puts-as}

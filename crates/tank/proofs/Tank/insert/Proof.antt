@@ -1,7 +1,8 @@
 -- `Tank::insert` meets its contract: each test by its number; an untouched tank stays; else the positions get what their neighbours have in common.
 use borrow.Author.Needs.{needs}
 use borrow.Author.Tests.{not-true, not-false}
-use Rattle.tank.proofs.InsertLaws.{insert-3, insert-4, insert-untouched, insert-5, can-look, set-inside, can-grow, insert-done}
+use Rattle.tank.proofs.InsertLaws.{insert-3, insert-4, insert-untouched, insert-5, set-inside, can-grow, insert-done}
+use Rattle.tank.proofs.Shape.{can-look}
 use Rattle.tank.proofs.Tank.insert.Statement.{statement}
 use Rattle.tank.proofs.Tank.insert.Tie as tie
 
@@ -32,11 +33,8 @@ returns-4 c =
 common-at-requires : tie.Need-common-at-requires
 common-at-requires c κs =
     let h = c .before .before .before .before .before in
-    let g = h .before .before in
-    let f = g .before .before in
-    let e = f .before .before in
-    let s = e .before in
-    can-look (s .pre) (s .args .pos) (s .args .len) (e .if1 .left) (f .if2 .left) (not-false _ (g .if3 .left)) (h .if4 .left)
+    let e = h .before .before .before .before .before .before in
+    can-look (e .before .pre .formed .laid)
 
 styles-of-requires : tie.Need-styles-of-requires
 styles-of-requires c κs =

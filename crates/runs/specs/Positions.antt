@@ -1,0 +1,58 @@
+-- What is said of positions alone, with nothing of runs: the stretches of a range, how many they are, and the longest that ends somewhere.
+use Prim.Native.Nat.{ℕ, zero, suc, _+_, _-_}
+use mathlib.Core.Bool.{Bool, true, false, cond, _&&_, _||_}
+use mathlib.Core.List.{List, [], _∷_, _++_}
+use lib.Dec.{ltb, leb}
+
+-- ---- A test over a range
+-- some position of from .. to passes the test
+unfoldable pub anyAt : (ℕ → Bool) → ℕ → ℕ → Bool
+anyAt test from zero = false
+anyAt test from (suc p) = anyAt test from p || (leb from p && test p)
+
+-- every position of from .. to passes the test
+unfoldable pub allAt : (ℕ → Bool) → ℕ → ℕ → Bool
+allAt test from zero = true
+allAt test from (suc p) = allAt test from p && (ltb p from || test p)
+
+-- the first position of the longest stretch of positions that ends just before `end` and passes the test; `end` where there is none
+unfoldable pub stretchTo : (ℕ → Bool) → ℕ → ℕ
+stretchTo test zero = zero
+stretchTo test (suc p) = cond (test p) (stretchTo test p) (suc p)
+
+-- ---- Maximal stretches of alike neighbours; `alike p` says that p and p + 1 have one set
+-- 1 where a stretch starts, else 0: at position 0, and where a position differs from the one before
+unfoldable pub starts : (ℕ → Bool) → ℕ → ℕ
+starts alike zero = 1
+starts alike (suc p) = cond (alike p) 0 1
+
+-- how many of the first n positions start a stretch
+unfoldable pub stretches : (ℕ → Bool) → ℕ → ℕ
+stretches alike zero = 0
+stretches alike (suc n) = stretches alike n + starts alike n
+
+-- the positions start .. end, which have as many marks each
+pub record Stretch : Type 0 where
+  pub start : ℕ
+  pub end : ℕ
+  pub marks : ℕ
+
+-- a stretch by its three numbers
+abbrev pub stretch : ℕ → ℕ → ℕ → Stretch
+stretch a b c = record { start = a; end = b; marks = c }
+
+-- position p more, with c marks: it lengthens the last stretch where it is alike, and begins one otherwise
+unfoldable pub extended : Bool → ℕ → ℕ → List Stretch → List Stretch
+extended alike p c [] = stretch p (suc p) c ∷ []
+extended alike p c (x ∷ xs) = cond alike (stretch (x .start) (suc p) (x .marks) ∷ xs) (stretch p (suc p) c ∷ x ∷ xs)
+
+-- the maximal stretches of from .. to, the last first; `count p` says how many marks p has
+unfoldable pub stretchesAt : (ℕ → Bool) → (ℕ → ℕ) → ℕ → ℕ → List Stretch
+unfolding extended
+stretchesAt alike count from zero = []
+stretchesAt alike count from (suc p) = cond (leb from p) (extended (alike (p - 1)) p (count p) (stretchesAt alike count from p)) []
+
+-- three numbers to a stretch, the first stretch first; stretches with fewer marks than `least` are left out
+unfoldable pub asNumbers : ℕ → List Stretch → List ℕ
+asNumbers least [] = []
+asNumbers least (x ∷ xs) = asNumbers least xs ++ cond (leb least (x .marks)) (x .start ∷ x .end ∷ x .marks ∷ []) []
