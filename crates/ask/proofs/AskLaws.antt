@@ -1,16 +1,27 @@
 -- A tank taken out answers for the tank that it is.
 use Prim.Native.Nat.{ℕ, _≤_, _<_}
-use mathlib.Core.Path.{_≡_, sym, ap, _∙_}
+use mathlib.Core.Path.{_≡_, refl, sym, ap, subst, _∙_}
+use mathlib.Core.Bool.{Bool, true, false, cond}
+use mathlib.Core.List.{List, []}
+use native.Mathlib.Decide.{decLt}
+use native.Mathlib.Omega.{arith}
+use lib.ListN.{length, take}
 use borrow.Author.Tests.{le-leb, lt-leb}
 use Rattle.tank.specs.declared.Tank.{Tank}
 use Rattle.tank.specs.Rules.{View, freshView}
 use Rattle.tank.specs.State.{view}
 use Rattle.tanks.specs.declared.Tanks.{Tanks}
 use Rattle.tanks.specs.Contracts.{Taken}
-use Rattle.tanks.specs.House.{House, tankAt}
+use Rattle.tanks.specs.House.{House, noTank, askNumber, tankAt}
 use Rattle.tanks.specs.Pool.{tankOf, meaning}
 use Rattle.tanks.proofs.MeaningLaws.{tank-at}
-use Rattle.ask.specs.Asks.{askAt}
+use Rattle.lists.specs.declared.Listed.{Listed}
+use Rattle.lists.specs.declared.anchors.Anchor.{Anchor}
+use Rattle.runs.specs.Lists.{inFront}
+use Rattle.lists.specs.Lists.{listRefusal, unlessRefused, answered}
+use Rattle.lists.specs.Anchors.{anchors, anchorsAfter, anchorsNumber}
+use Rattle.lists.proofs.ListLaws.{handed-part, handed-count}
+use Rattle.ask.specs.Asks.{askAt, noList}
 
 module _ {R : Type 0} (s : Tanks) (t : ℕ) (refused : R) (asks : View → R) where
   pub past : {r : R} → 8 ≤ t → r ≡ refused → r ≡ askAt (meaning s) t refused asks
@@ -21,3 +32,62 @@ module _ {R : Type 0} (s : Tanks) (t : ℕ) (refused : R) (asks : View → R) wh
   inside u {x} h e k a =
       rw (lt-leb 8 t h)
       (a ∙ ap (λ (y : Tank). asks (view y)) (k .is ∙ ap (tankOf s) e) ∙ ap asks (sym (tank-at s t freshView h)))
+
+-- ---- the part of a buffer that a list filled
+module _ (number : ℕ) (xs out : List ℕ) (r : Listed) (last : List ℕ) where
+  part-by : (b : Bool) → r ≡ cond b noList (answered number xs) → last ≡ cond b out (inFront (unlessRefused number xs) out) → take (r .count) last ≡ cond b [] (unlessRefused number xs)
+  part-by true e g = ap (λ (x : Listed). take (x .count) last) e
+  part-by false e g = handed-part number xs out r last (e, g)
+
+  count-by : (b : Bool) → r ≡ cond b noList (answered number xs) → last ≡ cond b out (inFront (unlessRefused number xs) out) → r .count ≡ length (take (r .count) last)
+  count-by true e g = ap (λ (x : Listed). x .count) e ∙ sym (ap length (part-by true e g))
+  count-by false e g = handed-count number xs out r last (e, g)
+
+module _ (h : House) (t : ℕ) (number : View → ℕ) (xs : View → List ℕ) (out : List ℕ) (r : Listed) (last : List ℕ)
+    (said : (r ≡ askAt h t noList (λ v. answered (number v) (xs v))) × (last ≡ askAt h t out (λ v. inFront (unlessRefused (number v) (xs v)) out))) where
+  pub asked-part : take (r .count) last ≡ askAt h t [] (λ v. unlessRefused (number v) (xs v))
+  asked-part = part-by (number (tankAt h t)) (xs (tankAt h t)) out r last (noTank t) (said .0) (said .1)
+
+  pub asked-count : r .count ≡ length (take (r .count) last)
+  asked-count = count-by (number (tankAt h t)) (xs (tankAt h t)) out r last (noTank t) (said .0) (said .1)
+
+-- ---- a list that its callee refuses where there is no such tank
+-- the tank whose list it would be
+abbrev pub tankOr0 : ℕ → ℕ
+tankOr0 t = cond (noTank t) 0 t
+
+module _ (s : Tanks) (t : ℕ) {x : Tank} where
+  pub first-taken : 8 ≤ t → Taken s 0 x → Taken s (tankOr0 t) x
+  first-taken h k = rw (le-leb 8 t h) k
+
+  pub own-taken : {u : ℕ} → t < 8 → u ≡ t → Taken s u x → Taken s (tankOr0 t) x
+  own-taken h e k = rw (lt-leb 8 t h) (subst (λ (i : ℕ). Taken s i x) e k)
+
+-- what the walk of `iter_anchors` hears of its callee, and what it says
+abbrev pub Said-listed : Tank → ℕ → List Anchor → Listed → List Anchor → Type 0
+Said-listed x n ys r zs =
+    (r ≡ answered (anchorsAfter n (length ys) (view x)) (anchors (view x))) × (zs ≡ inFront (unlessRefused (anchorsAfter n (length ys) (view x)) (anchors (view x))) ys)
+
+abbrev pub Says-asked : Tanks → ℕ → List Anchor → Listed → List Anchor → Type 0
+Says-asked s t ys r zs =
+    (r ≡ askAt (meaning s) t noList (λ v. answered (anchorsNumber (length ys) v) (anchors v)))
+    × (zs ≡ askAt (meaning s) t ys (λ v. inFront (unlessRefused (anchorsNumber (length ys) v) (anchors v)) ys))
+
+pub anchors-asked : (s : Tanks) (t n : ℕ) (x : Tank) (ys zs : List Anchor) (r : Listed) → Taken s (tankOr0 t) x → n ≡ askNumber t → Said-listed x n ys r zs → Says-asked s t ys r zs
+unfolding listRefusal
+anchors-asked s t n x ys zs r k e said =
+    let number : View → ℕ = anchorsNumber (length ys) in
+    let asks : View → Listed = λ v. answered (number v) (anchors v) in
+    let leaves : View → List Anchor = λ v. inFront (unlessRefused (number v) (anchors v)) ys in
+    elim (decLt t 8) [
+      | yes h ↦
+          let is : n ≡ 0 = e ∙ ap (λ (b : Bool). cond b 1 0) (lt-leb 8 t h) in
+          let own : Taken s t x = subst (λ (b : Bool). Taken s (cond b 0 t) x) (lt-leb 8 t h) k in
+          let a : Said-listed x 0 ys r zs = subst (λ (m : ℕ). Said-listed x m ys r zs) is said in
+          (inside s t noList asks t h refl own (a .0), inside s t ys leaves t h refl own (a .1))
+      | no h ↦
+          let l : 8 ≤ t = omega arith in
+          let is : n ≡ 1 = e ∙ ap (λ (b : Bool). cond b 1 0) (le-leb 8 t l) in
+          let a : Said-listed x 1 ys r zs = subst (λ (m : ℕ). Said-listed x m ys r zs) is said in
+          (past s t noList asks l (a .0), past s t ys leaves l (a .1))
+    ]

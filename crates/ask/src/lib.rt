@@ -1,22 +1,26 @@
 // The questions and lists of eight tanks, with the tank's number in front.
 ghost use mathlib.Core.Path.{_≡_};
-ghost use mathlib.Core.Bool.{false};
+ghost use mathlib.Core.Bool.{cond, false};
 ghost use mathlib.Core.List.{[]};
 ghost use Prim.Native.Nat.{_<_};
 ghost use lib.ListN.{length};
 ghost use Rattle.lists.specs.Lists.{rangeList, wholeList, rangeNeeded, rangeNumber, wholeNumber, unlessRefused, answered};
 ghost use Rattle.runs.specs.Lists.{inFront};
-ghost use Rattle.lists.specs.Anchors.{anchors};
+ghost use Rattle.lists.specs.Anchors.{anchors, anchorsNumber};
+ghost use Rattle.tanks.specs.Contracts.{Taken};
+ghost use Rattle.tanks.specs.House.{askNumber, noTank};
 ghost use Rattle.tanks.specs.Pool.{meaning, Sound};
 ghost use Rattle.questions.specs.Questions.{setOf, sharedOf, valueAt, stylesAt, styleAt, stylesForInsert, styleForInsert, rangeContainsKey, rangeHasKeyValue, stylesOfRange};
 ghost use Rattle.ask.specs.Asks.{askAt, noList};
 use lists::Listed;
+use lists::anchors::Anchor;
 use questions::Asked;
 use questions::SetAsked;
 use questions::Shared;
 use questions::Shown;
 use questions::Told;
 use styles::Value;
+use tank::Tank;
 use tanks::Tanks;
 
 // The number of a tank that there is.
@@ -217,4 +221,55 @@ pub fn list_whole(s: Tanks, tank: u64, out: &mut [u64]) -> Listed
         return no_list();
     }
     lists::list_whole(s.take(narrow(tank)), out)
+}
+
+// The stretches over start .. end: the front part of `out` that they fill, and the empty part where `list_range` refuses.
+pub fn iter_range(s: Tanks, tank: u64, start: u64, end: u64, out: &mut [u64]) -> &mut [u64]
+    requires { ⌜ Sound s ⌝ }
+    ensures { λ r. ⌜ now r ≡ askAt (meaning s) tank [] (λ v. unlessRefused (rangeNumber start end (length (now (out .entry))) v) (rangeList start end v)) ⌝ }
+{
+    let listed = list_range(s, tank, start, end, out);
+    let n = listed.count;
+    &mut out[..n]
+}
+
+// The marked stretches of the whole tank: the front part of `out` that they fill, and the empty part where `list_whole` refuses.
+pub fn iter(s: Tanks, tank: u64, out: &mut [u64]) -> &mut [u64]
+    requires { ⌜ Sound s ⌝ }
+    ensures { λ r. ⌜ now r ≡ askAt (meaning s) tank [] (λ v. unlessRefused (wholeNumber (length (now (out .entry))) v) (wholeList v)) ⌝ }
+{
+    let listed = list_whole(s, tank, out);
+    let n = listed.count;
+    &mut out[..n]
+}
+
+// The refusal of the tank's number: 1, or 0 for none.
+fn missing(tank: u64) -> u64
+    ensures { λ r. ⌜ r ≡ askNumber tank ⌝ }
+{
+    if 8 <= tank {
+        return 1;
+    }
+    0
+}
+
+// The tank, or tank 0 where there is no such tank, for a list that is then refused.
+fn tank_or_first(s: Tanks, tank: u64) -> Tank
+    requires { ⌜ Sound s ⌝ }
+    ensures { λ r. ⌜ Taken s (cond (noTank tank) 0 tank) r ⌝ }
+{
+    if 8 <= tank {
+        return s.take(0);
+    }
+    s.take(narrow(tank))
+}
+
+// The tank's anchors, at the front of `out`. Records past the count stay; a refusal writes nothing.
+pub fn iter_anchors(s: Tanks, tank: u64, out: &mut [Anchor]) -> Listed
+    requires { ⌜ Sound s ⌝ }
+    ensures { λ r. ⌜ (r ≡ askAt (meaning s) tank noList (λ v. answered (anchorsNumber (length (now (out .entry))) v) (anchors v))) × (now (out .exit) ≡ askAt (meaning s) tank (now (out .entry)) (λ v. inFront (unlessRefused (anchorsNumber (length (now (out .entry))) v) (anchors v)) (now (out .entry)))) ⌝ }
+{
+    let t = tank_or_first(s, tank);
+    let number = missing(tank);
+    lists::anchors::iter_anchors(t, number, out)
 }

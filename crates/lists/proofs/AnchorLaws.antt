@@ -43,7 +43,7 @@ lacking-keep zero (suc c) d m xs ys p q e h k = let z : d ≡ 0 = omega arith in
 lacking-keep (suc b) zero d m xs ys p q e h k = let z : d ≡ 1 = omega arith in rw (z, not-member (idOf m) ys k)
 lacking-keep (suc b) (suc c) d m xs ys p q e h k = let z : d ≡ 0 = omega arith in rw (z, same-self (idOf m)) (sym (lacking-skip m xs ys h))
 
-lack-step : (s u : ℕ) → lackingBits s u ≡ lackingBits (s / 2) (u / 2) * 2 + (s % 2 - min (s % 2) (u % 2))
+pub lack-step : (s u : ℕ) → lackingBits s u ≡ lackingBits (s / 2) (u / 2) * 2 + (s % 2 - min (s % 2) (u % 2))
 lack-step s u = omega (arith, and-step s u, and-le-l (s / 2) (u / 2))
 
 pub pick-lacking : (t : List Mark) (s u : ℕ) → Sorted t → pick t (lackingBits s u) ≡ lacking (pick t s) (pick t u)

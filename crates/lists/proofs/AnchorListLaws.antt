@@ -1,14 +1,15 @@
 -- A lent list of anchors: what the walk has stored after some turns, and what it answers.
-use Prim.Native.Nat.{ℕ, zero, suc, _≤_, _<_}
+use Prim.Native.Nat.{ℕ, zero, suc, _+_, _≤_, _<_}
 use mathlib.Core.Path.{_≡_, refl, sym, ap, _∙_, subst}
 use mathlib.Core.Bool.{Bool, true, false, cond}
 use mathlib.Core.List.{List, [], _∷_, _++_}
 use native.Mathlib.Omega.{arith}
 use native.Mathlib.Numerals.{add-one}
+use native.Mathlib.Decide.{decLt}
 use lib.Dec.{eqb}
 use lib.ListN.{length, getD, set, take, drop, length-set}
 use lib.Seq.{drop-cons, drop-drop, set-at, take-suc, take-length, append-snoc, length-take-le}
-use borrow.Author.Tests.{lt-ltb, le-ltb}
+use borrow.Author.Tests.{lt-ltb, le-ltb, ne-eqb}
 use Rattle.tank.specs.declared.Tank.{Tank}
 use Rattle.lists.specs.declared.Listed.{Listed}
 use Rattle.lists.specs.declared.anchors.Anchor.{Anchor}
@@ -18,7 +19,7 @@ use Rattle.lists.specs.declared.anchors.NextAnchor.the-variants.{NoMore,
 use Rattle.tank.specs.State.{view}
 use Rattle.runs.specs.Lists.{inFront}
 use Rattle.lists.specs.Lists.{listRefusal, unlessRefused, answered}
-use Rattle.lists.specs.Anchors.{anchors, anchorsNumber, noAnchor, rest, Stands, Steps}
+use Rattle.lists.specs.Anchors.{anchors, anchorsAfter, noAnchor, rest, Stands, Steps}
 
 -- ---- a step, taken apart
 module _ (t : Tank) (c : AnchorCursor) (r : NextAnchor) (h : Steps t c r) where
@@ -35,14 +36,36 @@ module _ (t : Tank) (c : AnchorCursor) (r : NextAnchor) (h : Steps t c r) where
   step-cursor a d e = let s = subst (Steps t c) e h in (s .1, sym (ap (drop 1) (s .0)))
 
 -- ---- what the list answers
-module _ {A : Type 0} (xs : List A) (room n : ℕ) (is : n ≡ length xs) where
-  pub judged-short : room < n → record { number = 11; count = 0 } ≡ answered (listRefusal 0 room (length xs)) xs
-  unfolding listRefusal
-  judged-short h = let l : room < length xs = omega arith in rw (lt-ltb room (length xs) l)
+lower-first : (lower room needed : ℕ) → 0 < lower → listRefusal lower room needed ≡ lower
+unfolding listRefusal
+lower-first lower room needed h = rw (ne-eqb lower 0 (λ e. omega arith))
 
-  pub judged-full : n ≤ room → record { number = 0; count = n } ≡ answered (listRefusal 0 room (length xs)) xs
+pub judged-lower : {A : Type 0} (xs : List A) (lower room : ℕ) → 0 < lower → record { number = lower; count = 0 } ≡ answered (listRefusal lower room (length xs)) xs
+judged-lower xs lower room h = rw (lower-first lower room (length xs) h, ne-eqb lower 0 (λ e. omega arith))
+
+module _ {A : Type 0} (xs : List A) (lower room n : ℕ) (none : lower ≤ 0) (is : n ≡ length xs) where
+  pub judged-short : room < n → record { number = 11; count = 0 } ≡ answered (listRefusal lower room (length xs)) xs
   unfolding listRefusal
-  judged-full h = let l : length xs ≤ room = omega arith in rw (le-ltb room (length xs) l, is)
+  judged-short h =
+      let z : lower ≡ 0 = omega arith in
+      let l : room < length xs = omega arith in
+      rw (z, lt-ltb room (length xs) l)
+
+  pub judged-full : n ≤ room → record { number = 0; count = n } ≡ answered (listRefusal lower room (length xs)) xs
+  unfolding listRefusal
+  judged-full h =
+      let z : lower ≡ 0 = omega arith in
+      let l : length xs ≤ room = omega arith in
+      rw (z, le-ltb room (length xs) l, is)
+
+-- never more than the room
+pub count-room : {A : Type 0} (xs : List A) (lower room : ℕ) → length (unlessRefused (listRefusal lower room (length xs)) xs) ≤ room
+unfolding listRefusal
+count-room xs zero room = elim (decLt room (length xs)) [
+  | yes h ↦ rw (lt-ltb room (length xs) h) (omega arith)
+  | no h ↦ let l : length xs ≤ room = omega arith in rw (le-ltb room (length xs) l) l
+]
+count-room xs (suc lower) room = simp (ne-eqb (suc lower) 0 (λ e. omega arith)) (omega arith)
 
 -- ---- the list after j stores
 abbrev pub stored : (ℕ → Anchor) → List Anchor → ℕ → List Anchor
@@ -78,8 +101,8 @@ stored-front number xs ys n e h = front-by (eqb number 0) xs ys n e h
 
 -- ---- the walk
 -- what each function that the walk calls says of its result
-abbrev pub Said-turns : Tank → ℕ → ℕ → Type 0
-Said-turns t room r = (r ≡ length (unlessRefused (anchorsNumber room (view t)) (anchors (view t)))) × (r ≤ room)
+abbrev pub Said-turns : Tank → ℕ → ℕ → ℕ → Type 0
+Said-turns t lower room r = (r ≡ length (unlessRefused (anchorsAfter lower room (view t)) (anchors (view t)))) × (r ≤ room)
 
 abbrev pub Said-first : Tank → AnchorCursor → Type 0
 Said-first t r = Stands t r × (rest t r ≡ anchors (view t)) × (r .index ≡ 0)
@@ -90,8 +113,8 @@ Said-anchor t c r = r ≡ getD (rest t c) 0 noAnchor
 abbrev pub Said-advance : Tank → AnchorCursor → AnchorCursor → Type 0
 Said-advance t c r = Stands t r × (rest t r ≡ drop 1 (rest t c))
 
-abbrev pub Said-judged : Tank → ℕ → Listed → Type 0
-Said-judged t room r = r ≡ answered (anchorsNumber room (view t)) (anchors (view t))
+abbrev pub Said-judged : Tank → ℕ → ℕ → Listed → Type 0
+Said-judged t lower room r = r ≡ answered (anchorsAfter lower room (view t)) (anchors (view t))
 
 -- where the walk stands before turn j of n: at a cursor from which the anchors from the j-th on come
 pub record Standing (t : Tank) (j : ℕ) (c : AnchorCursor) : Type 0 where

@@ -100,7 +100,7 @@ unfolding leftAt anchorsOf
 none-left t c a b = rw (a, b, pick-none (tableOf t))
 
 -- behind the last boundary nothing comes
-none-later : {t : Tank} → Laid t → (c : AnchorCursor) → Stands t c → c .index ≡ t .runs → laterThan t c ≡ []
+pub none-later : {t : Tank} → Laid t → (c : AnchorCursor) → Stands t c → c .index ≡ t .runs → laterThan t c ≡ []
 unfolding laterThan boundaries
 none-later {t} f c s e =
     let z : t .length - c .at ≡ 0 = omega (arith, f .sum, s .at-is, ap (λ n. total (runs (t .lens) (t .sets) n)) e) in
@@ -205,7 +205,7 @@ module _ {t : Tank} (f : Laid t) (c d : AnchorCursor) (g : Settles t c d) where
   takes-none a b = g .same ∙ g .over a b
 
 -- ---- the count
-length-anchors : (p : ℕ) (side : AnchorType) (ms : List Mark) → length (anchorsOf p side ms) ≡ length ms
+pub length-anchors : (p : ℕ) (side : AnchorType) (ms : List Mark) → length (anchorsOf p side ms) ≡ length ms
 unfolding anchorsOf
 length-anchors p side [] = refl
 length-anchors p side (m ∷ ms) = omega (arith, length-anchors p side ms)

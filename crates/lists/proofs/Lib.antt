@@ -4,4 +4,5 @@ pub mod CursorLaws
 pub mod AnchorListLaws
 pub mod Leaves
 pub mod ListTests
+pub mod Most
 pub mod Stretches

@@ -59,9 +59,13 @@ boundaries p (suc n) v = boundary p v ++ boundaries (suc p) n v
 unfoldable pub anchors : View → List Anchor
 anchors v = boundaries 0 (suc (v .length)) v
 
--- what a list of anchors gives where the caller lends `room` records: 11, or 0
+-- what a list of anchors gives where the caller lends `room` records: a lower number, or 11, or 0
+abbrev pub anchorsAfter : ℕ → ℕ → View → ℕ
+anchorsAfter lower room v = listRefusal lower room (length (anchors v))
+
+-- and where no lower one is given
 abbrev pub anchorsNumber : ℕ → View → ℕ
-anchorsNumber room v = listRefusal 0 room (length (anchors v))
+anchorsNumber = anchorsAfter 0
 
 -- ---- The cursor
 -- what a look past the last anchor shows

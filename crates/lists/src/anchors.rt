@@ -3,7 +3,7 @@ ghost use mathlib.Core.Path.{_≡_};
 ghost use lib.ListN.{drop, getD, length};
 ghost use Prim.Native.Nat.{_+_, _<_, _≤_};
 ghost use Rattle.styles.specs.Marks.{blank};
-ghost use Rattle.lists.specs.Anchors.{lackingBits, anchorOf, anchors, anchorsNumber, noAnchor, leftAt, rest, Stands, Steps, Follows, Settles};
+ghost use Rattle.lists.specs.Anchors.{lackingBits, anchorOf, anchors, anchorsAfter, noAnchor, leftAt, rest, Stands, Steps, Follows, Settles};
 ghost use Rattle.lists.specs.Lists.{unlessRefused, answered};
 ghost use Rattle.runs.specs.Lists.{inFront};
 ghost use Rattle.tank.specs.State.{view, Sound};
@@ -190,11 +190,17 @@ fn advance(t: Tank, c: AnchorCursor) -> AnchorCursor
     }
 }
 
-// What the list answers where `room` records are lent.
-fn judged(t: Tank, room: usize) -> Listed
+// What the list answers where `room` records are lent. A lower number, which an earlier test gave, goes first; 0 is none.
+fn judged(t: Tank, lower: u64, room: usize) -> Listed
     requires { ⌜ Sound t ⌝ }
-    ensures { λ r. ⌜ r ≡ answered (anchorsNumber room (view t)) (anchors (view t)) ⌝ }
+    ensures { λ r. ⌜ r ≡ answered (anchorsAfter lower room (view t)) (anchors (view t)) ⌝ }
 {
+    if 0 < lower {
+        return Listed {
+            number: lower,
+            count: 0,
+        };
+    }
     let n = anchors_needed(t);
     if room < n {
         return Listed {
@@ -209,20 +215,20 @@ fn judged(t: Tank, room: usize) -> Listed
 }
 
 // How many records it writes.
-fn turns(t: Tank, room: usize) -> usize
+fn turns(t: Tank, lower: u64, room: usize) -> usize
     requires { ⌜ Sound t ⌝ }
-    ensures { λ r. ⌜ (r ≡ length (unlessRefused (anchorsNumber room (view t)) (anchors (view t)))) × (r ≤ room) ⌝ }
+    ensures { λ r. ⌜ (r ≡ length (unlessRefused (anchorsAfter lower room (view t)) (anchors (view t)))) × (r ≤ room) ⌝ }
 {
-    let n = anchors_needed(t);
-    if room < n { 0 } else { n }
+    let listed = judged(t, lower, room);
+    listed.count
 }
 
-// The tank's anchors, at the front of `out`. Records past the count stay; a refusal writes nothing.
-pub fn iter_anchors(t: Tank, out: &mut [Anchor]) -> Listed
+// The tank's anchors, at the front of `out`. Records past the count stay; a refusal, the lower number among them, writes nothing.
+pub fn iter_anchors(t: Tank, lower: u64, out: &mut [Anchor]) -> Listed
     requires { ⌜ Sound t ⌝ }
-    ensures { λ r. ⌜ (r ≡ answered (anchorsNumber (length (now (out .entry))) (view t)) (anchors (view t))) × (now (out .exit) ≡ inFront (unlessRefused (anchorsNumber (length (now (out .entry))) (view t)) (anchors (view t))) (now (out .entry))) ⌝ }
+    ensures { λ r. ⌜ (r ≡ answered (anchorsAfter lower (length (now (out .entry))) (view t)) (anchors (view t))) × (now (out .exit) ≡ inFront (unlessRefused (anchorsAfter lower (length (now (out .entry))) (view t)) (anchors (view t))) (now (out .entry))) ⌝ }
 {
-    let n = turns(t, out.len());
+    let n = turns(t, lower, out.len());
     let mut c = first_anchor(t);
     let mut j = 0;
     while j < n {
@@ -230,5 +236,5 @@ pub fn iter_anchors(t: Tank, out: &mut [Anchor]) -> Listed
         c = advance(t, c);
         j += 1;
     }
-    judged(t, out.len())
+    judged(t, lower, out.len())
 }

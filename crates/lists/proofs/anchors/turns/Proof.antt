@@ -1,11 +1,11 @@
--- `anchors::turns` meets its contract: as many as are written.
-use mathlib.Core.Path.{ap}
-use native.Mathlib.Omega.{arith}
+-- `anchors::turns` meets its contract: the count of the answer, which is never over the room.
+use mathlib.Core.Path.{ap, sym, subst}
+use Prim.Native.Nat.{ℕ, _≤_}
 use borrow.Author.Needs.{needs}
 use Rattle.lists.specs.declared.Listed.{Listed}
 use Rattle.tank.specs.State.{view}
 use Rattle.lists.specs.Anchors.{anchors}
-use Rattle.lists.proofs.AnchorListLaws.{judged-short, judged-full}
+use Rattle.lists.proofs.AnchorListLaws.{count-room}
 use Rattle.lists.proofs.anchors.turns.Statement.{statement}
 use Rattle.lists.proofs.anchors.turns.Tie as tie
 use Rattle.lists.proofs.anchors.turns.Reads as reads
@@ -13,17 +13,9 @@ use Rattle.lists.proofs.anchors.turns.Lts as lts
 
 returns : tie.Need-returns
 returns c =
-    let s = c .before .before in (
-      ap (λ (r : Listed). r .count) (judged-short (anchors (view (s .args .t))) (s .args .room) _ (c .before .anchors-needed .ensures) (c .if1 .taken)),
-      omega arith,
-    )
-
-returns-2 : tie.Need-returns-2
-returns-2 c =
-    let s = c .before .before in (
-      ap (λ (r : Listed). r .count) (judged-full (anchors (view (s .args .t))) (s .args .room) _ (c .before .anchors-needed .ensures) (c .if1 .left)),
-      omega arith,
-    )
+    let s = c .before in
+    let is = ap (λ (r : Listed). r .count) (c .judged .ensures) in
+    (is, subst (λ (n : ℕ). n ≤ s .args .room) (sym is) (count-room (anchors (view (s .args .t))) (s .args .lower) (s .args .room)))
 
 pub turns-spec : {M : Type 1} → statement M
-turns-spec = tie.close (tie.spec (λ c κs. search needs) returns returns-2)
+turns-spec = tie.close (tie.spec (λ c κs. search needs) returns)

@@ -1,0 +1,49 @@
+-- How long a list of anchors can be in a sound state: each other tank claims a run at least, so that one tank holds 505 at most.
+use Prim.Native.Nat.{ℕ, zero, suc, _+_, _≤_, _<_}
+use mathlib.Core.Path.{_≡_, ap}
+use mathlib.Core.List.{List}
+use native.Mathlib.Omega.{arith}
+use native.Mathlib.Decide.{decLt}
+use lib.ListN.{length}
+use borrow.Author.Tests.{le-ltb}
+use Rattle.tank.specs.Rules.{View, freshView}
+use Rattle.tanks.specs.declared.Tanks.{Tanks}
+use Rattle.tanks.specs.declared.Setting.{Setting}
+use Rattle.tanks.specs.Settings.{shareOf, claims}
+use Rattle.tanks.specs.House.{tankAt}
+use Rattle.tanks.specs.Pool.{runsIn, tankOf, meaning, Sound}
+use Rattle.tanks.proofs.SettingLaws.{accepted-at}
+use Rattle.tanks.proofs.MeaningLaws.{tank-at}
+use Rattle.lists.specs.Lists.{listRefusal}
+use Rattle.lists.specs.Anchors.{anchors, anchorsNumber}
+use Rattle.lists.proofs.Most.{anchors-most}
+
+-- ---- the runs of one tank
+module _ (st : List Setting) (f : ℕ → ℕ) where
+  claims-some : (n : ℕ) → ((u : ℕ) → u < n → 1 ≤ shareOf st u) → n ≤ claims st f n
+  unfolding claims
+  claims-some zero h = omega arith
+  claims-some (suc n) h = omega (arith, claims-some n (λ u l. h u (omega arith)), h n (omega arith))
+
+  claims-one : (n t : ℕ) → ((u : ℕ) → u < n → 1 ≤ shareOf st u) → t < n → f t + n ≤ claims st f n + 1
+  unfolding claims
+  claims-one zero t h l = absurd (omega arith)
+  claims-one (suc n) t h l =
+      elim (decLt t n) [
+        | yes k ↦ omega (arith, claims-one n t (λ u g. h u (omega arith)) k, h n (omega arith))
+        | no k ↦ let e : t ≡ n = omega arith in omega (arith, ap f e, claims-some n (λ u g. h u (omega arith)))
+      ]
+
+module _ (s : Tanks) (ok : Sound s) (t : ℕ) (h : t < 8) where
+  pub runs-505 : runsIn (s .heads) t ≤ 505
+  runs-505 = omega (arith, ok .sum, claims-one (s .settings) (runsIn (s .heads)) 8 t (λ u g. accepted-at (s .settings) (ok .rule) u g .low) h)
+
+  -- ---- its anchors
+  pub most-anchors : length (anchors (tankAt (meaning s) t)) ≤ 32384
+  unfolding tankOf
+  most-anchors = omega (arith, ap (λ (v : View). length (anchors v)) (tank-at s t freshView h), anchors-most (ok .each t h .laid), runs-505)
+
+  -- so that as many records are never too few
+  pub room-enough : (room : ℕ) → 32384 ≤ room → anchorsNumber room (tankAt (meaning s) t) ≡ 0
+  unfolding listRefusal
+  room-enough room g = rw (le-ltb room (length (anchors (tankAt (meaning s) t))) (omega (arith, most-anchors)))
