@@ -1,4 +1,4 @@
-//! Times the original and the tank map on the same work and prints a line for each.
+//! Times the original and the tank map on the same work and prints tables.
 //!
 //!     cargo run --release [--features count] [WORK..]
 
@@ -7,31 +7,49 @@ mod original_side;
 #[cfg(ours)]
 mod ours;
 mod side;
+mod table;
 mod work;
 
-use side::{Side, Timed};
-use work::{Work, SIZES, WORK};
+use side::{Clock, Side, Timed};
+use work::{Work, MARKS, RUNS, WORK};
 
-/// Samples of one work; the median is printed.
-const SAMPLES: usize = 7;
+/// Samples of one work, of which the least counts: what disturbs a sample only adds to it.
+const SAMPLES: usize = 9;
+/// How long a sample is, in nanoseconds, where the side has enough turns for it.
+const SAMPLE: f64 = 5e6;
+/// The turns over which the answers of the sides are compared.
+const COMPARED: u64 = 64;
+
+extern "C" {
+    fn mallopt(parameter: i32, value: i32) -> i32;
+}
+
+/// Keeps the C library from handing freed memory back to the system between two calls, and asking
+/// for it again inside the clock.
+fn keep_memory() {
+    // From malloc.h: how much may lie free at the end, how much more is asked for at a time, and
+    // from which size on a piece is asked for alone.
+    const TRIM_THRESHOLD: i32 = -1;
+    const TOP_PAD: i32 = -2;
+    const MMAP_THRESHOLD: i32 = -3;
+    for parameter in [TRIM_THRESHOLD, TOP_PAD, MMAP_THRESHOLD] {
+        // Takes plain numbers.
+        assert_eq!(unsafe { mallopt(parameter, 1 << 25) }, 1);
+    }
+}
 
 fn main() {
+    keep_memory();
     let wanted: Vec<String> = std::env::args().skip(1).collect();
+    let chosen = |work: &Work| wanted.is_empty() || wanted.iter().any(|name| name == work.name());
     let sides = sides();
-    println!("{}", heading());
-    for work in WORK {
-        if !wanted.is_empty() && !wanted.iter().any(|name| name == work.name()) {
-            continue;
-        }
-        for (runs, marks) in SIZES {
-            let timed: Vec<Timed> =
-                sides.iter().map(|side| median(side.as_ref(), work, runs, marks)).collect();
-            assert!(timed.iter().all(|one| one.sum == timed[0].sum), "{work:?}: other answers");
-            for (side, one) in sides.iter().zip(&timed) {
-                println!("{}", line(work, runs, marks, side.name(), one));
-            }
-        }
-    }
+    let names: Vec<&str> = sides.iter().map(|side| side.name()).collect();
+    let rows: Vec<table::Row> = WORK
+        .into_iter()
+        .filter(chosen)
+        .flat_map(|work| MARKS.map(|marks| row(&sides, work, marks)))
+        .collect();
+    table::print(&names, &rows);
 }
 
 #[cfg(ours)]
@@ -45,27 +63,41 @@ fn sides() -> Vec<Box<dyn Side>> {
     vec![Box::new(original_side::OriginalSide)]
 }
 
-/// The sample in the middle, each of about two milliseconds.
-fn median(side: &dyn Side, work: Work, runs: u64, marks: u64) -> Timed {
-    let first = side.time(work, runs, marks, 64);
-    let turns = (2e6 / first.nanoseconds.max(1.0)) as u64;
-    let turns = turns.clamp(64, side.most_turns(work, runs, marks));
-    let mut samples: Vec<Timed> =
-        (0..SAMPLES).map(|_| side.time(work, runs, marks, turns)).collect();
-    samples.sort_by(|a, b| a.nanoseconds.total_cmp(&b.nanoseconds));
-    // The sum of the first, since its count of turns is the same for every side.
-    Timed { sum: first.sum, ..samples[SAMPLES / 2] }
-}
-
-fn heading() -> String {
-    let measured = if cfg!(feature = "count") { "copied   allocated" } else { "nanoseconds" };
-    format!("{:<16}{:>5}{:>7}  {:<10}{measured:>12}", "work", "runs", "marks", "side")
-}
-
-fn line(work: Work, runs: u64, marks: u64, side: &str, timed: &Timed) -> String {
-    let start = format!("{:<16}{runs:>5}{marks:>7}  {side:<10}", work.name());
-    if cfg!(feature = "count") {
-        return format!("{start}{:>9.0}{:>12.0}", timed.bytes.copied, timed.bytes.allocated);
+/// All sides and numbers of runs; the sides must have given the same answers.
+fn row(sides: &[Box<dyn Side>], work: Work, marks: u64) -> table::Row {
+    let cells: Vec<Vec<Timed>> = sides
+        .iter()
+        .map(|side| RUNS.map(|runs| measured(side.as_ref(), work, runs, marks)).to_vec())
+        .collect();
+    for (place, runs) in RUNS.into_iter().enumerate() {
+        let sum = cells[0][place].sum;
+        let agree = cells.iter().all(|side| side[place].sum == sum);
+        assert!(agree, "{work:?}, {runs} runs, {marks} marks: other answers");
     }
-    format!("{start}{:>12.1}", timed.nanoseconds)
+    table::Row { work, marks, cells }
+}
+
+/// One call, without what no turns take. The sum is that of the first turns, which are as many for
+/// every side.
+fn measured(side: &dyn Side, work: Work, runs: u64, marks: u64) -> Timed {
+    let idle = least(side, work, runs, marks, 0);
+    let sum = side.time(work, runs, marks, COMPARED).each(COMPARED).sum;
+    let turns = enough(side, work, runs, marks, idle);
+    let timed = least(side, work, runs, marks, turns).less(idle).each(turns);
+    Timed { sum, ..timed }
+}
+
+/// So many turns that a sample is long enough, or as many as the side has.
+fn enough(side: &dyn Side, work: Work, runs: u64, marks: u64, idle: Clock) -> u64 {
+    let most = side.most_turns(work, runs, marks);
+    let mut turns = COMPARED;
+    while turns < most && side.time(work, runs, marks, turns).less(idle).nanoseconds < SAMPLE {
+        turns = most.min(2 * turns);
+    }
+    turns
+}
+
+fn least(side: &dyn Side, work: Work, runs: u64, marks: u64, turns: u64) -> Clock {
+    let samples = (0..SAMPLES).map(|_| side.time(work, runs, marks, turns));
+    samples.min_by(|a, b| a.nanoseconds.total_cmp(&b.nanoseconds)).expect("a sample")
 }

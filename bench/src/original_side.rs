@@ -6,7 +6,7 @@ use std::sync::Arc;
 
 use original::{join_neighbours, op, Bare, Key, LoroValue, Mark, StyleOp};
 
-use crate::side::{sum, Clock, Side, Timed};
+use crate::side::{sum, Clock, Side};
 use crate::work::{build, run, span, Work, ABSENT, EXTRA, WIDTH};
 
 pub struct OriginalSide;
@@ -85,14 +85,14 @@ impl Side for OriginalSide {
         ((1 << 20) / (runs * marks)).max(64)
     }
 
-    fn time(&self, work: Work, runs: u64, marks: u64, turns: u64) -> Timed {
+    fn time(&self, work: Work, runs: u64, marks: u64, turns: u64) -> Clock {
         let mut base = base(work, runs, marks);
         let highest = Key::new(marks as u16);
         let needs = Needs { runs, extra: extra(), absent: Key::new(ABSENT), highest };
         let mut clock = Clock::default();
         if work.is_question() {
             clock.run(|| sum(0..turns, |turn| call(work, black_box(&mut base), &needs, turn)));
-            return clock.each(turns);
+            return clock;
         }
         let copies = (2000 / (runs * marks)).clamp(1, 64);
         for first in (0..turns).step_by(copies as usize) {
@@ -103,6 +103,6 @@ impl Side for OriginalSide {
                 sum(first..last, |turn| call(work, black_box(&mut tanks[tank(turn)]), &needs, turn))
             });
         }
-        clock.each(turns)
+        clock
     }
 }

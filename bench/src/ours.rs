@@ -1,9 +1,8 @@
 //! The tank map through its static library. A state can't stay on the other side of a call, so each
 //! function builds the tank of `work.rs`, does the work `turns` times, each time on that same tank,
-//! and hands the sum of the answers back. The time of the building, which no turns at all take too,
-//! is taken off.
+//! and hands the sum of the answers back. No turns at all take the time of the building.
 
-use crate::side::{Clock, Side, Timed};
+use crate::side::{Clock, Side};
 use crate::work::Work;
 
 // What the library `timing` exports, in the order of `Work`. Each adds up, over the turns and with
@@ -54,13 +53,9 @@ impl Side for OurSide {
         1 << 20
     }
 
-    fn time(&self, work: Work, runs: u64, marks: u64, turns: u64) -> Timed {
-        let clocked = |turns: u64| {
-            let mut clock = Clock::default();
-            clock.run(|| call(work, runs, marks, turns));
-            clock
-        };
-        let built = clocked(0);
-        clocked(turns).less(built).each(turns)
+    fn time(&self, work: Work, runs: u64, marks: u64, turns: u64) -> Clock {
+        let mut clock = Clock::default();
+        clock.run(|| call(work, runs, marks, turns));
+        clock
     }
 }

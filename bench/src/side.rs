@@ -13,8 +13,9 @@ pub trait Side {
     /// So many turns are worth asking for at most.
     fn most_turns(&self, work: Work, runs: u64, marks: u64) -> u64;
 
-    /// Does the work so many times on the tank of this size.
-    fn time(&self, work: Work, runs: u64, marks: u64, turns: u64) -> Timed;
+    /// Does the work so many times on the tank of this size. With no turns, what it takes is not
+    /// the work's.
+    fn time(&self, work: Work, runs: u64, marks: u64, turns: u64) -> Clock;
 }
 
 #[derive(Clone, Copy, Debug)]
@@ -33,9 +34,9 @@ pub fn sum(turns: Range<u64>, call: impl FnMut(u64) -> u64) -> u64 {
 }
 
 /// Time and bytes of several pieces of work, without what reading the clock takes.
-#[derive(Default)]
+#[derive(Clone, Copy, Default)]
 pub struct Clock {
-    nanoseconds: f64,
+    pub nanoseconds: f64,
     counted: Counted,
     sum: u64,
 }
@@ -56,7 +57,6 @@ impl Clock {
     }
 
     /// Without the work that another clock ran.
-    #[cfg(ours)]
     pub fn less(self, other: Clock) -> Clock {
         let nanoseconds = self.nanoseconds - other.nanoseconds;
         Clock { nanoseconds, counted: self.counted - other.counted, sum: self.sum }

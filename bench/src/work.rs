@@ -11,8 +11,8 @@ pub const EXTRA: u16 = 777;
 /// A key that no mark has.
 pub const ABSENT: u16 = 999;
 
-pub const SIZES: [(u64, u64); 9] =
-    [(3, 1), (3, 5), (3, 20), (50, 1), (50, 5), (50, 20), (500, 1), (500, 5), (500, 20)];
+pub const RUNS: [u64; 3] = [3, 50, 500];
+pub const MARKS: [u64; 3] = [1, 5, 20];
 
 #[derive(Clone, Copy, Debug, PartialEq, Eq)]
 pub enum Work {
