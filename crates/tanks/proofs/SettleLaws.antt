@@ -13,6 +13,7 @@ use Rattle.tank.specs.State.{Formed}
 use Rattle.tanks.specs.declared.Head.{Head}
 use Rattle.tanks.specs.declared.Run.{Run}
 use Rattle.tanks.specs.declared.Spots.{Spots}
+use Rattle.tanks.specs.declared.Table.{Table}
 use Rattle.tanks.specs.declared.Tanks.{Tanks}
 use Rattle.tanks.specs.Settings.{judgement}
 use Rattle.tanks.specs.House.{first}
@@ -99,19 +100,20 @@ module _ (pool : List Run) (x : Tank) (from full k : ℕ) where
   run-blank h g = rw (le-ltb k (x .runs) h, le-ltb k full g)
 
 -- ---- places inside the arrays
-pub record Inside (x : Tank) (m at from full count : ℕ) : Type 0 where
+pub record Inside (x : Tank) (m at from full count : ℕ) (grows : Bool) : Type 0 where
   pub same : m ≡ x .runs
   pub most : m ≤ 514
   pub few : m ≤ count
   pub up : at ≤ from
   pub room : at + count ≤ 512
   pub source : from + (full - m) ≤ 512
+  pub back : grows ≡ ltb from (at + m)
   pub lens-514 : length (x .lens) ≡ 514
   pub sets-514 : length (x .sets) ≡ 514
 
 module _ (s : Tanks) (t number : ℕ) (x : Tank) (ok : Sound s) (t8 : t < 8) (formed : Formed x)
     (z : first number (judgement (s .settings) (runsIn (s .heads)) t (x .runs)) ≡ 0) where
-  pub inside : (r : Spots) → r ≡ spotsOf (s .heads) t (x .runs) → Inside x (x .runs) (r .at) (r .from) (r .full) (r .count)
+  pub inside : (r : Spots) → r ≡ spotsOf (s .heads) t (x .runs) → Inside x (x .runs) (r .at) (r .from) (r .full) (r .count) (r .grows)
   inside r e =
       rw e
       (
@@ -126,13 +128,14 @@ module _ (s : Tanks) (t number : ℕ) (x : Tank) (ok : Sound s) (t8 : t < 8) (fo
         up = omega arith;
         room = omega arith;
         source = omega arith;
+        back = refl;
         lens-514 = formed .laid .lens-514;
         sets-514 = formed .laid .sets-514;
       })
 
 -- the state at the end
-pub put-at-last : (s a : Tanks) (t : ℕ) (x : Tank) (r : Spots) (h : Head) → r ≡ spotsOf (s .heads) t (x .runs) → h ≡ headOf x
+pub put-at-last : (s a : Tanks) (t : ℕ) (x : Tank) (r : Spots) (h : Head) (m : Table) → r ≡ spotsOf (s .heads) t (x .runs) → h ≡ headOf x → m ≡ tableIn x
     → a ≡ withPool s (laid (s .pool) (r .at) (runFrom (s .pool) x (r .from) (r .full)) (r .count))
-    → record { settings = a .settings; heads = set (a .heads) t h; tables = set (a .tables) t (tableIn x); pool = a .pool } ≡ puts s t x
+    → record { settings = a .settings; heads = set (a .heads) t h; tables = set (a .tables) t m; pool = a .pool } ≡ puts s t x
 unfolding puts
-put-at-last s a t x r h g i e = rw (e, g, i)
+put-at-last s a t x r h m g i j e = rw (e, g, i, j)

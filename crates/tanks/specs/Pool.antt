@@ -91,13 +91,15 @@ tableIn x = record { marks = x .table }
 abbrev pub runOf : List ℕ → List ℕ → ℕ → Run
 runOf lens sets k = record { len = getD lens k 0; set = getD sets k 0 }
 
--- where tank t's runs begin and those behind it; how many runs there are from its place on once it holds m, and how many places that touches
+-- where tank t's runs begin and those behind it; how many runs there are from its place on once it holds m, and how many places that
+-- touches; whether those behind it move up
 abbrev pub spotsOf : List Head → ℕ → ℕ → Spots
 spotsOf hs t m = record {
   at = before hs t;
   from = before hs t + runsIn hs t;
   full = m + (before hs 8 - (before hs t + runsIn hs t));
   count = max m (runsIn hs t) + (before hs 8 - (before hs t + runsIn hs t));
+  grows = ltb (before hs t + runsIn hs t) (before hs t + m);
 }
 
 -- the k-th run from there on after the tank has become x: x's runs, then those of the tanks behind it, then blanks

@@ -13,6 +13,7 @@ ghost use Rattle.tanks.specs.Pool.{freshly, meaning, Sound};
 ghost use Rattle.tanks.specs.Contracts.{Opens, CalledAt, counts, says, Taken, editOf, PerformedAs, DoneAt};
 use pool::head_of;
 use pool::spots;
+use pool::table_in;
 use pool::taken;
 use pool::turn;
 use settings::accepts;
@@ -42,12 +43,14 @@ pub struct Run {
     pub set: u64,
 }
 
-// Where a tank's runs begin and those of the tanks behind it, and how many runs and places there are from there on.
+// Where a tank's runs begin and those of the tanks behind it, how many runs and places there are from there on, and whether those behind
+// it move up.
 struct Spots {
     at: usize,
     from: usize,
     full: usize,
     count: usize,
+    grows: bool,
 }
 
 // A tank's marks.
@@ -252,31 +255,25 @@ impl Tanks {
             return refused(number, self);
         }
         let s = spots(heads, t, m);
-        let at = s.at;
-        let from = s.from;
-        let full = s.full;
-        let count = s.count;
-        let grows = from < at + m;
         let mut k = 0;
-        while k < count {
-            let j = turn(grows, k, count);
+        while k < s.count {
+            let j = turn(s.grows, k, s.count);
             k += 1;
             if j < m {
-                self.pool[at + j] = Run {
+                self.pool[s.at + j] = Run {
                     len: x.lens[j],
                     set: x.sets[j],
                 };
             } else {
-                if j < full {
-                    self.pool[at + j] = self.pool[from + (j - m)];
+                if j < s.full {
+                    self.pool[s.at + j] = self.pool[s.from + (j - m)];
                 } else {
-                    self.pool[at + j] = Run { len: 0, set: 0 };
+                    self.pool[s.at + j] = Run { len: 0, set: 0 };
                 }
             }
         }
         self.heads[t] = head_of(x);
-        let marks = x.table;
-        self.tables[t] = Table { marks: marks };
+        self.tables[t] = table_in(x);
         let styles = done.styles;
         Done {
             number: 0,

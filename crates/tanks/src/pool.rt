@@ -1,7 +1,7 @@
 ghost use mathlib.Core.Path.{_≡_};
 ghost use mathlib.Core.Bool.{cond};
 ghost use Prim.Native.Nat.{_+_, _-_, _*_, _≤_, _<_, max};
-ghost use Rattle.tanks.specs.Pool.{before, tankIn, headOf, spotsOf};
+ghost use Rattle.tanks.specs.Pool.{before, tankIn, headOf, tableIn, spotsOf};
 use super::Head;
 use super::Run;
 use super::Spots;
@@ -43,6 +43,7 @@ pub fn spots(heads: [Head; 8], t: usize, m: usize) -> Spots
         from: from,
         full: m + left,
         count: larger(m, n) + left,
+        grows: from < at + m,
     }
 }
 
@@ -93,4 +94,12 @@ pub fn head_of(x: Tank) -> Head
         runs: x.runs,
         marks: x.marks,
     }
+}
+
+// Its marks.
+pub fn table_in(x: Tank) -> Table
+    ensures { λ r. ⌜ r ≡ tableIn x ⌝ }
+{
+    let marks = x.table;
+    Table { marks: marks }
 }

@@ -3,7 +3,6 @@ use borrow.Author.Needs.{needs}
 use native.Mathlib.Omega.{arith}
 use Prim.Native.Nat.{ℕ, _+_, _-_, _≤_, _<_}
 use mathlib.Core.Path.{_≡_, refl, sym, ap, _∙_}
-use lib.Dec.{ltb}
 use Rattle.tanks.specs.Settings.{judgement}
 use Rattle.tanks.specs.House.{first}
 use Rattle.tanks.specs.Pool.{runsIn, laid, runFrom, tankOf}
@@ -20,6 +19,7 @@ use Rattle.tanks.proofs.Tanks.edit.Lts as lts
 use Rattle.tanks.proofs.perform.Reads as perform-reads
 use Rattle.tanks.proofs.pool.head_of.Reads as head-of-reads
 use Rattle.tanks.proofs.pool.spots.Reads as spots-reads
+use Rattle.tanks.proofs.pool.table_in.Reads as table-in-reads
 use Rattle.tanks.proofs.pool.taken.Reads as taken-reads
 use Rattle.tanks.proofs.pool.turn.Reads as turn-reads
 use Rattle.tanks.proofs.refused.Reads as refused-reads
@@ -28,14 +28,13 @@ use Rattle.tanks.proofs.settings.verdict.Reads as verdict-reads
 use Rattle.tanks.proofs.settings.wide.Reads as wide-reads
 
 abbrev Inv-loop : tie.InvT-loop
-Inv-loop tank self₀ t done x m number at from full count grows k₀ self k =
-    (k ≤ count)
-    × Inside x m at from full count
-    × (grows ≡ ltb from (at + m))
-    × (self ≡ withPool self₀ (part (self₀ .pool) at (runFrom (self₀ .pool) x from full) (lowest grows count k) k))
+Inv-loop tank self₀ t done x m number s k₀ self k =
+    (k ≤ s .count)
+    × Inside x m (s .at) (s .from) (s .full) (s .count) (s .grows)
+    × (self ≡ withPool self₀ (part (self₀ .pool) (s .at) (runFrom (self₀ .pool) x (s .from) (s .full)) (lowest (s .grows) (s .count) k) k))
 
 abbrev μ-loop : tie.MeasureT-loop
-μ-loop tank self₀ t done x m number at from full count grows k₀ self k = count - k
+μ-loop tank self₀ t done x m number s k₀ self k = s .count - k
 
 -- ---- what is known on the way
 -- there is such a tank
@@ -63,7 +62,7 @@ accepted : (c : tie.Else2 Inv-loop μ-loop)
 accepted c = let z : c .before .verdict .result ≡ 0 = omega (arith, c .if2 .left) in sym (judged (c .before)) ∙ z
 
 places : (c : tie.After-spots Inv-loop μ-loop)
-    → let x = c .before .before .before .before .before .before .perform .result .tank in let r = c .spots .result in Inside x (x .runs) (r .at) (r .from) (r .full) (r .count)
+    → let x = c .before .before .before .before .before .before .perform .result .tank in let r = c .spots .result in Inside x (x .runs) (r .at) (r .from) (r .full) (r .count) (r .grows)
 places c =
     let a = c .before .before .before .before .before .before .before .before .before .before .before .before .before in
     let p = c .before .before .before .before .before .before .perform in
@@ -115,12 +114,9 @@ returns-2 c =
 spots-requires : tie.Need-spots-requires Inv-loop μ-loop
 spots-requires c κs = let a = c .before .before .before .before .before .before .before .before .before .before .before .before in (tank-8 (c .before .before .before .before .before .before .before .before .before .before), c .before .before .before .before .before .perform .ensures .called .formed .laid .most, sound-held (a .args .t1) (a .pre))
 
-add-grows : tie.Need-add-grows Inv-loop μ-loop
-add-grows c = omega (arith, places c)
-
 loop-holds : tie.Need-loop-holds Inv-loop μ-loop
 unfolding laid
-loop-holds c = (omega arith, places c, refl, refl)
+loop-holds c = (omega arith, places c, refl)
 
 turn-requires : tie.Need-turn-requires Inv-loop μ-loop
 turn-requires c κs = search needs
@@ -128,23 +124,23 @@ turn-requires c κs = search needs
 add-k : tie.Need-add-k Inv-loop μ-loop
 add-k c = search needs
 
-mul-t33 : tie.Need-mul-t33 Inv-loop μ-loop
-mul-t33 c = search needs
+mul-t27 : tie.Need-mul-t27 Inv-loop μ-loop
+mul-t27 c = search needs
 
-element-copy-out-t36 : tie.Need-element-copy-out-t36 Inv-loop μ-loop
-element-copy-out-t36 c = search needs
+element-copy-out-t30 : tie.Need-element-copy-out-t30 Inv-loop μ-loop
+element-copy-out-t30 c = search needs
+
+mul-t31 : tie.Need-mul-t31 Inv-loop μ-loop
+mul-t31 c = search needs
+
+element-copy-out-t34 : tie.Need-element-copy-out-t34 Inv-loop μ-loop
+element-copy-out-t34 c = search needs
+
+add-t36 : tie.Need-add-t36 Inv-loop μ-loop
+add-t36 c = search needs
 
 mul-t37 : tie.Need-mul-t37 Inv-loop μ-loop
 mul-t37 c = search needs
-
-element-copy-out-t40 : tie.Need-element-copy-out-t40 Inv-loop μ-loop
-element-copy-out-t40 c = search needs
-
-add-t42 : tie.Need-add-t42 Inv-loop μ-loop
-add-t42 c = search needs
-
-mul-t43 : tie.Need-mul-t43 Inv-loop μ-loop
-mul-t43 c = search needs
 
 element-set-from-self : tie.Need-element-set-from-self Inv-loop μ-loop
 element-set-from-self c = search needs
@@ -154,16 +150,15 @@ loop-less c = search needs
 
 loop-again : tie.Need-loop-again Inv-loop μ-loop
 loop-again c =
-    let s = c .before .before .before .before .before .before .before .before .before .before .before .before .before .before .before .before .before .before .before .args .t1 in
-    let q = c .before .before .before .before .before .before .spots .result in
-    let l = c .before .before .before .before .before .loop in
-    let x = c .before .before .before .before .before .before .before .before .before .before .before .before .perform .result .tank in
-    let j = c .before .before .before .turn in (
+    let s = c .before .before .before .before .before .before .before .before .before .before .before .before .before .before .before .before .before .before .before .before .before .args .t1 in
+    let q = c .before .before .before .before .before .before .before .before .spots .result in
+    let l = c .before .before .before .before .before .before .before .loop in
+    let x = c .before .before .before .before .before .before .before .before .before .before .before .before .before .before .perform .result .tank in
+    let j = c .before .before .before .before .turn in (
       omega arith,
       l .inv .1,
-      l .inv .2,
-      run-step s (l .self) (s .pool) (q .at) (runFrom (s .pool) x (q .from) (q .full)) (ltb (q .from) (q .at + x .runs)) (q .count) (l .k) (j .result) _
-          (omega arith) (j .ensures .0) (l .inv .3)
+      run-step s (l .self) (s .pool) (q .at) (runFrom (s .pool) x (q .from) (q .full)) (q .grows) (q .count) (l .k) (j .result) _
+          (omega arith) (j .ensures .0) (l .inv .2)
           (run-own (s .pool) x (q .from) (q .full) (j .result) (omega arith)),
     )
 
@@ -176,11 +171,11 @@ mul-self c = search needs
 element-copy-out-self : tie.Need-element-copy-out-self Inv-loop μ-loop
 element-copy-out-self c = search needs
 
-add-t53 : tie.Need-add-t53 Inv-loop μ-loop
-add-t53 c = search needs
+add-t47 : tie.Need-add-t47 Inv-loop μ-loop
+add-t47 c = search needs
 
-mul-t54 : tie.Need-mul-t54 Inv-loop μ-loop
-mul-t54 c = search needs
+mul-t48 : tie.Need-mul-t48 Inv-loop μ-loop
+mul-t48 c = search needs
 
 element-set-from-self-2 : tie.Need-element-set-from-self-2 Inv-loop μ-loop
 element-set-from-self-2 c = search needs
@@ -190,25 +185,24 @@ loop-less-2 c = search needs
 
 loop-again-2 : tie.Need-loop-again-2 Inv-loop μ-loop
 loop-again-2 c =
-    let s = c .before .before .before .before .before .before .before .before .before .before .before .before .before .before .before .before .before .before .before .args .t1 in
-    let q = c .before .before .before .before .before .before .spots .result in
-    let l = c .before .before .before .before .before .loop in
-    let x = c .before .before .before .before .before .before .before .before .before .before .before .before .perform .result .tank in
-    let j = c .before .before .before .turn in (
+    let s = c .before .before .before .before .before .before .before .before .before .before .before .before .before .before .before .before .before .before .before .before .before .before .before .args .t1 in
+    let q = c .before .before .before .before .before .before .before .before .before .before .spots .result in
+    let l = c .before .before .before .before .before .before .before .before .before .loop in
+    let x = c .before .before .before .before .before .before .before .before .before .before .before .before .before .before .before .before .perform .result .tank in
+    let j = c .before .before .before .before .before .before .turn in (
       omega arith,
       l .inv .1,
-      l .inv .2,
-      run-step s (l .self) (s .pool) (q .at) (runFrom (s .pool) x (q .from) (q .full)) (ltb (q .from) (q .at + x .runs)) (q .count) (l .k) (j .result) _
-          (omega arith) (j .ensures .0) (l .inv .3)
-          (read-kept s (l .self) (q .at) (runFrom (s .pool) x (q .from) (q .full)) (ltb (q .from) (q .at + x .runs)) (q .from) (x .runs) (q .count) (l .k) (j .result) (l .inv .2) (omega arith) (j .ensures .0) (omega arith) (l .inv .3)
+      run-step s (l .self) (s .pool) (q .at) (runFrom (s .pool) x (q .from) (q .full)) (q .grows) (q .count) (l .k) (j .result) _
+          (omega arith) (j .ensures .0) (l .inv .2)
+          (read-kept s (l .self) (q .at) (runFrom (s .pool) x (q .from) (q .full)) (q .grows) (q .from) (x .runs) (q .count) (l .k) (j .result) (l .inv .1 .back) (omega arith) (j .ensures .0) (omega arith) (l .inv .2)
           ∙ run-behind (s .pool) x (q .from) (q .full) (j .result) (omega arith) (omega arith)),
     )
 
-add-t58 : tie.Need-add-t58 Inv-loop μ-loop
-add-t58 c = search needs
+add-t52 : tie.Need-add-t52 Inv-loop μ-loop
+add-t52 c = search needs
 
-mul-t59 : tie.Need-mul-t59 Inv-loop μ-loop
-mul-t59 c = search needs
+mul-t53 : tie.Need-mul-t53 Inv-loop μ-loop
+mul-t53 c = search needs
 
 element-set-from-self-3 : tie.Need-element-set-from-self-3 Inv-loop μ-loop
 element-set-from-self-3 c = search needs
@@ -218,49 +212,53 @@ loop-less-3 c = search needs
 
 loop-again-3 : tie.Need-loop-again-3 Inv-loop μ-loop
 loop-again-3 c =
-    let s = c .before .before .before .before .before .before .before .before .before .before .before .before .before .before .before .before .before .before .args .t1 in
-    let q = c .before .before .before .before .before .spots .result in
-    let l = c .before .before .before .before .loop in
-    let x = c .before .before .before .before .before .before .before .before .before .before .before .perform .result .tank in
-    let j = c .before .before .turn in (
+    let s = c .before .before .before .before .before .before .before .before .before .before .before .before .before .before .before .before .before .before .before .before .before .args .t1 in
+    let q = c .before .before .before .before .before .before .before .before .spots .result in
+    let l = c .before .before .before .before .before .before .before .loop in
+    let x = c .before .before .before .before .before .before .before .before .before .before .before .before .before .before .perform .result .tank in
+    let j = c .before .before .before .before .turn in (
       omega arith,
       l .inv .1,
-      l .inv .2,
-      run-step s (l .self) (s .pool) (q .at) (runFrom (s .pool) x (q .from) (q .full)) (ltb (q .from) (q .at + x .runs)) (q .count) (l .k) (j .result) _
-          (omega arith) (j .ensures .0) (l .inv .3)
+      run-step s (l .self) (s .pool) (q .at) (runFrom (s .pool) x (q .from) (q .full)) (q .grows) (q .count) (l .k) (j .result) _
+          (omega arith) (j .ensures .0) (l .inv .2)
           (run-blank (s .pool) x (q .from) (q .full) (j .result) (omega arith) (omega arith)),
     )
 
 head-of-requires : tie.Need-head-of-requires Inv-loop μ-loop
 head-of-requires c κs = search needs
 
-mul-t25 : tie.Need-mul-t25 Inv-loop μ-loop
-mul-t25 c = search needs
+mul-t19 : tie.Need-mul-t19 Inv-loop μ-loop
+mul-t19 c = omega (arith, tank-8 (c .before .before .before .before .before .before .before .before .before .before .before .before .before .before .before))
 
 element-set-from-self-4 : tie.Need-element-set-from-self-4 Inv-loop μ-loop
-element-set-from-self-4 c = search needs
+element-set-from-self-4 c = tank-8 (c .before .before .before .before .before .before .before .before .before .before .before .before .before .before .before)
 
-mul-t25-2 : tie.Need-mul-t25-2 Inv-loop μ-loop
-mul-t25-2 c = search needs
+table-in-requires : tie.Need-table-in-requires Inv-loop μ-loop
+table-in-requires c κs = search needs
+
+mul-t19-2 : tie.Need-mul-t19-2 Inv-loop μ-loop
+mul-t19-2 c = omega (arith, tank-8 (c .before .before .before .before .before .before .before .before .before .before .before .before .before .before .before .before))
 
 element-set-from-self-5 : tie.Need-element-set-from-self-5 Inv-loop μ-loop
-element-set-from-self-5 c = search needs
+element-set-from-self-5 c = tank-8 (c .before .before .before .before .before .before .before .before .before .before .before .before .before .before .before .before)
 
 returns-3 : tie.Need-returns-3 Inv-loop μ-loop
 returns-3 c =
-    let a = c .before .before .before .before .before .before .before .before .before .before .before .before .before .before .before .before .before .before in
-    let r = c .before .before .before .before .before in
-    let l = c .before .before .before .before .loop in
-    let p = c .before .before .before .before .before .before .before .before .before .before .before in
-    let n = c .before .before .before .before .before .before .before .before .before .before .before .before .before .before .before .before in
-    let e : l .k ≡ r .spots .result .count = omega arith in
-    let g : l .self ≡ withPool (a .args .t1) (laid (a .args .t1 .pool) (r .spots .result .at) (runFrom (a .args .t1 .pool) (p .perform .result .tank) (r .spots .result .from) (r .spots .result .full)) (r .spots .result .count)) =
-    (rw e at (l .inv .3)) ∙ ap (withPool (a .args .t1)) (part-all (a .args .t1 .pool) (r .spots .result .at) _ (ltb (r .spots .result .from) (r .spots .result .at + p .perform .result .tank .runs)) (r .spots .result .count)) in
+    let a = c .before .before .before .before .before .before .before .before .before .before .before .before .before .before .before .before .before .before .before in
+    let r = c .before .before .before .before .before .before in
+    let l = c .before .before .before .before .before .loop in
+    let p = c .before .before .before .before .before .before .before .before .before .before .before .before in
+    let n = c .before .before .before .before .before .before .before .before .before .before .before .before .before .before .before .before .before in
+    let q = r .spots .result in
+    let x = p .perform .result .tank in
+    let e : l .k ≡ q .count = omega arith in
+    let g : l .self ≡ withPool (a .args .t1) (laid (a .args .t1 .pool) (q .at) (runFrom (a .args .t1 .pool) x (q .from) (q .full)) (q .count)) =
+    (rw e at (l .inv .2)) ∙ ap (withPool (a .args .t1)) (part-all (a .args .t1 .pool) (q .at) _ (q .grows) (q .count)) in
     let k =
     called-by (a .args .t1) (a .args .tank) _ (editOf (a .args .call)) _ _ _ _ _ (a .pre) (n .before .if1 .left) (n .narrow .ensures)
     (own (p .before)) (p .perform .ensures .called)
     (settled-done (a .args .t1) _ _ _ (a .pre) (tank-8 n) (p .perform .ensures .called .formed) (accepted (r .before))) in
-    rw (put-at-last (a .args .t1) (l .self) (n .narrow .result) (p .perform .result .tank) (r .spots .result) _ (r .spots .ensures) (c .before .before .head-of .ensures) g)
+    rw (put-at-last (a .args .t1) (l .self) (n .narrow .result) x q _ _ (r .spots .ensures) (c .before .before .head-of .ensures) (c .before .table-in .ensures) g)
     (done-by (a .args .t1) (a .args .tank) (editOf (a .args .call)) _ _ (p .perform .result) _ (n .before .if1 .left) (n .narrow .ensures) (own (p .before)) (p .perform .ensures) k)
 
 pub edit-spec : {M : Type 1} → statement M
@@ -281,35 +279,35 @@ edit-spec =
     refused-requires-2
     returns-2
     spots-requires
-    add-grows
     loop-holds
     turn-requires
     add-k
-    mul-t33
-    element-copy-out-t36
+    mul-t27
+    element-copy-out-t30
+    mul-t31
+    element-copy-out-t34
+    add-t36
     mul-t37
-    element-copy-out-t40
-    add-t42
-    mul-t43
     element-set-from-self
     loop-less
     loop-again
     add-self
     mul-self
     element-copy-out-self
-    add-t53
-    mul-t54
+    add-t47
+    mul-t48
     element-set-from-self-2
     loop-less-2
     loop-again-2
-    add-t58
-    mul-t59
+    add-t52
+    mul-t53
     element-set-from-self-3
     loop-less-3
     loop-again-3
     head-of-requires
-    mul-t25
+    mul-t19
     element-set-from-self-4
-    mul-t25-2
+    table-in-requires
+    mul-t19-2
     element-set-from-self-5
     returns-3)

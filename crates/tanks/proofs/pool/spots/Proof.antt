@@ -33,7 +33,10 @@ larger-requires : tie.Need-larger-requires
 larger-requires c κs = search needs
 
 add-t15 : tie.Need-add-t15
-add-t15 c = omega (arith, before-next (c .before .before .before .args .t1) (c .before .before .before .args .t) 8 (c .before .before .before .pre .0), c .before .before .start .ensures, c .before .start2 .ensures, c .larger .ensures)
+add-t15 c = search needs
+
+add-t16 : tie.Need-add-t16
+add-t16 c = omega (arith, before-next (c .before .before .before .args .t1) (c .before .before .before .args .t) 8 (c .before .before .before .pre .0), c .before .before .start .ensures, c .before .start2 .ensures, c .larger .ensures)
 
 returns : tie.Need-returns
 returns c = simp (c .larger .ensures, c .before .start2 .ensures, c .before .before .start .ensures)
@@ -51,4 +54,5 @@ spots-spec =
     add-t11
     larger-requires
     add-t15
+    add-t16
     returns)
