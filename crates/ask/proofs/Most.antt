@@ -1,4 +1,4 @@
--- How long a list of anchors can be in a sound state: each other tank claims a run at least, so that one tank holds 505 at most.
+-- How long a list can be in a sound state: each other tank claims a run at least, so that one tank holds 505 at most.
 use Prim.Native.Nat.{ℕ, zero, suc, _+_, _≤_, _<_}
 use mathlib.Core.Path.{_≡_, ap}
 use mathlib.Core.List.{List}
@@ -7,6 +7,7 @@ use native.Mathlib.Decide.{decLt}
 use lib.ListN.{length}
 use borrow.Author.Tests.{le-ltb}
 use Rattle.tank.specs.Rules.{View, freshView}
+use Rattle.tank.specs.State.{view}
 use Rattle.tanks.specs.declared.Tanks.{Tanks}
 use Rattle.tanks.specs.declared.Setting.{Setting}
 use Rattle.tanks.specs.Settings.{shareOf, claims}
@@ -14,9 +15,9 @@ use Rattle.tanks.specs.House.{tankAt}
 use Rattle.tanks.specs.Pool.{runsIn, tankOf, meaning, Sound}
 use Rattle.tanks.proofs.SettingLaws.{accepted-at}
 use Rattle.tanks.proofs.MeaningLaws.{tank-at}
-use Rattle.lists.specs.Lists.{listRefusal}
+use Rattle.lists.specs.Lists.{rangeList, wholeList, listRefusal}
 use Rattle.lists.specs.Anchors.{anchors, anchorsNumber}
-use Rattle.lists.proofs.Most.{anchors-most}
+use Rattle.lists.proofs.Most.{range-most, whole-most, anchors-most}
 
 -- ---- the runs of one tank
 module _ (st : List Setting) (f : ℕ → ℕ) where
@@ -38,10 +39,21 @@ module _ (s : Tanks) (ok : Sound s) (t : ℕ) (h : t < 8) where
   pub runs-505 : runsIn (s .heads) t ≤ 505
   runs-505 = omega (arith, ok .sum, claims-one (s .settings) (runsIn (s .heads)) 8 t (λ u g. accepted-at (s .settings) (ok .rule) u g .low) h)
 
-  -- ---- its anchors
+  -- ---- its lists
+  abbrev is-view : tankAt (meaning s) t ≡ view (tankOf s t)
+  is-view = tank-at s t freshView h
+
+  pub most-range : (a b : ℕ) → b ≤ tankAt (meaning s) t .length → length (rangeList a b (tankAt (meaning s) t)) ≤ 1515
+  unfolding tankOf view
+  most-range a b g = omega (arith, ap (λ (v : View). length (rangeList a b v)) is-view, range-most (ok .each t h .laid) a b (omega (arith, ap (λ (v : View). v .length) is-view)), runs-505)
+
+  pub most-whole : length (wholeList (tankAt (meaning s) t)) ≤ 1515
+  unfolding tankOf
+  most-whole = omega (arith, ap (λ (v : View). length (wholeList v)) is-view, whole-most (ok .each t h .laid), runs-505)
+
   pub most-anchors : length (anchors (tankAt (meaning s) t)) ≤ 32384
   unfolding tankOf
-  most-anchors = omega (arith, ap (λ (v : View). length (anchors v)) (tank-at s t freshView h), anchors-most (ok .each t h .laid), runs-505)
+  most-anchors = omega (arith, ap (λ (v : View). length (anchors v)) is-view, anchors-most (ok .each t h .laid), runs-505)
 
   -- so that as many records are never too few
   pub room-enough : (room : ℕ) → 32384 ≤ room → anchorsNumber room (tankAt (meaning s) t) ≡ 0

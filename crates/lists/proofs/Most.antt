@@ -1,4 +1,4 @@
--- How many anchors there can be: at a boundary of two runs a mark ends, or starts, or neither, so that a table of 64 marks gives 64 at most.
+-- How long a list can be. Anchors: at a boundary of two runs a mark ends, or starts, or neither, so that a table of 64 marks gives 64 at most. Stretches: three numbers for each run.
 use Prim.Native.Nat.{ℕ, zero, suc, _+_, _-_, _*_, _/_, _%_, _≤_, _<_, min}
 use mathlib.Core.Path.{_≡_, refl, ap, _∙_}
 use mathlib.Core.List.{List, [], _∷_}
@@ -7,12 +7,15 @@ use lib.ListN.{length, getD, length-append}
 use Rattle.styles.specs.declared.Mark.{Mark}
 use Rattle.styles.specs.Bits.{keepBit, pick}
 use Rattle.styles.proofs.PickLaws.{pick-cons}
+use Rattle.runs.proofs.ListLaws.{listed-most}
 use Rattle.tank.specs.declared.Tank.{Tank}
 use Rattle.tank.specs.State.{tableOf, view, Laid}
 use Rattle.tank.proofs.Unique.{table-length}
 use Rattle.lists.specs.declared.anchors.AnchorCursor.{AnchorCursor}
 use Rattle.richtext.specs.declared.AnchorType.the-variants.{Start, End}
+use Rattle.lists.specs.Lists.{rangeList, wholeList}
 use Rattle.lists.specs.Anchors.{anchors, anchorsOf, lackingBits, leftAt, laterThan, rest, Stands, Follows}
+use Rattle.lists.proofs.ListLaws.{range-is, whole-is}
 use Rattle.lists.proofs.AnchorLaws.{lack-step}
 use Rattle.lists.proofs.CursorLaws.{first-is, follows, none-later, length-anchors}
 
@@ -77,3 +80,11 @@ anchors-most {t} f =
     let c : AnchorCursor = record { index = 0; at = 0; ends = lackingBits 0 x; starts = lackingBits x 0 } in
     let i = first-is f c refl in
     omega (arith, ap length (i .1), length-append (leftAt t c) (laterThan t c), left-most f c 0 x refl refl, later-most f (t .runs) c (i .0) (omega arith))
+
+-- ---- stretches
+module _ {t : Tank} (f : Laid t) where
+  pub range-most : (a b : ℕ) → b ≤ t .length → length (rangeList a b (view t)) ≤ 3 * t .runs
+  range-most a b h = omega (arith, ap length (range-is f a b h), listed-most 0 a b (t .lens) (t .sets) (t .runs))
+
+  pub whole-most : length (wholeList (view t)) ≤ 3 * t .runs
+  whole-most = omega (arith, ap length (whole-is f), listed-most 1 0 (t .length) (t .lens) (t .sets) (t .runs))
