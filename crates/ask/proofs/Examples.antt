@@ -1,35 +1,31 @@
--- The numbered examples are true of the rules: each is computed on runs, and what is found there holds of the positions.
+-- Document 01's numbered examples are true of the rules: their lines are computed on runs, and what is found there holds of the positions.
 use Prim.Native.Nat.{ℕ}
 use mathlib.Core.Path.{_≡_, refl, sym, ap, ap₂, _∙_, subst}
-use mathlib.Core.Bool.{Bool, true, false, cond}
+use mathlib.Core.Bool.{Bool, true, cond}
 use mathlib.Core.List.{List, [], _∷_, map}
-use native.Mathlib.Omega.{arith}
 use lib.Dec.{eqb}
 use lib.ListN.{length, replicate}
 use Rattle.styles.specs.declared.Mark.{Mark}
 use Rattle.styles.specs.Order.{numbers as order, stands}
-use Rattle.styles.specs.Marks.{Above, Sorted, member, placeOf, common, sameContent, only, hasKey as carriesKey, winner}
+use Rattle.styles.specs.Marks.{Above, Sorted, member, placeOf, common, sameContent, hasKey, winner}
 use Rattle.styles.specs.Bits.{pick, withBit}
 use Rattle.runs.specs.Runs.{total, setAt, copyRuns, pushRun, joinRun, changing}
 use Rattle.runs.specs.Edits.{altered, deleted, inserted}
 use Rattle.runs.specs.Gather.{gather}
 use Rattle.runs.specs.Scan.{anyAt, stretchTo, commonAt}
-use Rattle.tank.specs.Rules.{View, Edit, annotating, inserting, deleting, removing, inherited, forInsert, backFrom, runsHeld, empty, over, long, notNumber, clash, clashes, full, refusal}
+use Rattle.tank.specs.Rules.{View, Edit, annotating, inserting, deleting, removing, inherited, forInsert, backFrom, empty, over, long, notNumber, clash, clashes, full, refusal}
 use Rattle.tank.proofs.Counted.{counted}
 use Rattle.tank.proofs.OnRuns.{known, numberOn, runsAfter, touchedAfter}
-use Rattle.lists.specs.declared.anchors.Anchor.{Anchor}
 use Rattle.lists.specs.Anchors.{anchors, anchorsOf}
 use Rattle.lists.proofs.AnchorsOnRuns.{edges, anchorsOn, anchors-on}
-use Rattle.questions.specs.declared.Told.{Told}
 use Rattle.questions.specs.declared.Told.the-variants.{Refused}
 use Rattle.questions.specs.Questions.{yesNo, yesNoRefusal, rangeContainsKey}
 use Rattle.tanks.specs.declared.Setting.{Setting}
 use Rattle.tanks.specs.Settings.{fit, shares, accepted as settingsFit, claims, judgement}
-use Rattle.tanks.specs.House.{House, tankAt, held, openNumber, opening, noTank, refusalAt, afterAt, setInserted, firstRemoved}
+use Rattle.tanks.specs.House.{House, tankAt, openNumber, noTank, refusalAt, setInserted, firstRemoved}
 use Rattle.tanks.specs.Pool.{numbers}
 use Rattle.tanks.proofs.OnRuns.{Kept, fresh, keptAt, heldOn, viewOn, houseOn, numberAt, allAfter, may, Way, step, steps, Fit, AllFit, all-fresh, opening-on, tank-on, held-on, number-on, after-fit, after-on, step-clear, steps-clear, steps-on}
-use Rattle.ask.specs.Asks.{askAt}
-use Rattle.ask.specs.Examples.{Answer, refused, accepted, gives, first, reply, answer, marksAt, Look, Looks, winners, Line, given, call, holds, hasKey, wins, anchored, Says, leaves, AllSaid, Case, Holds, AllHold, A, B, C, dots, laid, table}
+use Rattle.ask.specs.Examples.{Answer, refused, accepted, gives, first, reply, answer, marksAt, Look, Looks, winners, Line, given, call, holds, containsKey, wins, anchored, Says, leaves, AllSaid, Case, Holds, AllHold, A, B, C, table}
 use Rattle.ask.proofs.Ranges.{rangeOf, ranges, ranges-at}
 
 -- the marks of all examples, in order
@@ -40,7 +36,7 @@ sorted : Sorted abc
 unfolding abc Sorted Above stands order
 sorted = ((refl, (refl, tt)), ((refl, tt), (tt, tt)))
 
--- ---- what an edit answers, by its number and the tank
+-- ---- what a call answers, by its number and the tank
 unfoldable replyOn : ℕ → Edit → View → Answer
 replyOn n (annotating a b m) v = accepted
 replyOn n (inserting pos len) v = gives (cond (eqb n 0) (forInsert pos v) [])
@@ -63,15 +59,15 @@ unfoldable lookOn : Kept → Look
 unfolding abc
 lookOn k = record { length = total (k .runs); runs = length (k .runs); marks = ranges abc (k .runs) }
 
--- the line with what is found in the place of what it says
+-- the line with what is found in place of what it says
 unfoldable finds : List Setting → List Kept → Line → Line
 unfolding answerOn lookOn abc
 finds st ks (given cs) = given cs
 finds st ks (call t e says look) =
     call t e (answerOn (numberAt st abc ks t e) e (viewOn abc (keptAt ks t))) (lookOn (keptAt (allAfter st abc ks t e) t))
 finds st ks (holds ns sum) = holds (map (heldOn ks) numbers) (claims st (heldOn ks) 8)
-finds st ks (hasKey t a b key says) = hasKey t a b key (cond (noTank t) (Refused 1) (rangeContainsKey a b key (viewOn abc (keptAt ks t))))
-finds st ks (wins t key p n ws) = wins t key p n (winners key p n (viewOn abc (keptAt ks t)))
+finds st ks (containsKey t a b key says) = containsKey t a b key (cond (noTank t) (Refused 1) (rangeContainsKey a b key (viewOn abc (keptAt ks t))))
+finds st ks (wins t key p ws) = wins t key p (winners key p (length ws) (viewOn abc (keptAt ks t)))
 finds st ks (anchored t xs) = anchored t (anchorsOn abc (keptAt ks t .runs))
 
 -- and the tanks that it leaves
@@ -80,8 +76,8 @@ unfolding abc
 next st w (given cs) = steps st abc w cs
 next st w (call t e says look) = step st abc w t e
 next st w (holds ns sum) = w
-next st w (hasKey t a b key says) = w
-next st w (wins t key p n ws) = w
+next st w (containsKey t a b key says) = w
+next st w (wins t key p ws) = w
 next st w (anchored t xs) = w
 
 -- ---- what is found on runs holds of positions
@@ -118,7 +114,7 @@ module _ (st : List Setting) (w : Way) (f : AllFit abc (w .kept)) where
       record {
         says = (
           answer-by h t e ∙ ap₂ (λ n v. answerOn n e v) (number-on abc sorted st ks t e f ok) (tank-on abc sorted st ks t) ∙ a,
-          subst (Looks look) (sym (ap (λ g. tankAt g t) moved ∙ tank-on abc sorted st (allAfter st abc ks t e) t)) (look-on _ look (fit t) b)
+          subst (Looks look) (sym (ap (λ g. tankAt g t) moved ∙ tank-on abc sorted st (allAfter st abc ks t e) t)) (look-on _ look (fit t) b),
         );
         left = moved;
         fits = fit;
@@ -133,12 +129,12 @@ module _ (st : List Setting) (w : Way) (f : AllFit abc (w .kept)) where
       let b : claims st (heldOn ks) 8 ≡ sum = cc in
       let e = held-on abc sorted st ks f in
       record { says = (ap (λ g. map g numbers) e ∙ a, ap (λ g. claims st g 8) e ∙ b); left = refl; fits = f }
-  line-stands (hasKey t a b key says) m q =
+  line-stands (containsKey t a b key says) m q =
       let r : cond (noTank t) (Refused 1) (rangeContainsKey a b key (viewOn abc (keptAt ks t))) ≡ says = cc in
       record { says = ap (λ v. cond (noTank t) (Refused 1) (rangeContainsKey a b key v)) (tank-on abc sorted st ks t) ∙ r; left = refl; fits = f }
-  line-stands (wins t key p n ws) m q =
-      let r : winners key p n (viewOn abc (keptAt ks t)) ≡ ws = cc in
-      record { says = ap (winners key p n) (tank-on abc sorted st ks t) ∙ r; left = refl; fits = f }
+  line-stands (wins t key p ws) m q =
+      let r : winners key p (length ws) (viewOn abc (keptAt ks t)) ≡ ws = cc in
+      record { says = ap (winners key p (length ws)) (tank-on abc sorted st ks t) ∙ r; left = refl; fits = f }
   line-stands (anchored t xs) m q =
       let k = keptAt ks t in
       let r : anchorsOn abc (k .runs) ≡ xs = cc in
@@ -167,8 +163,8 @@ unfolding next
 next-clear st w (given cs) m = steps-clear abc sorted st w cs m
 next-clear st w (call t e says look) m = step-clear abc sorted st w t e m .0
 next-clear st w (holds ns sum) m = m
-next-clear st w (hasKey t a b key says) m = m
-next-clear st w (wins t key p n ws) m = m
+next-clear st w (containsKey t a b key says) m = m
+next-clear st w (wins t key p ws) m = m
 next-clear st w (anchored t xs) m = m
 
 report-clear : (st : List Setting) (w : Way) (ls : List Line) → report st w ls .clear ≡ true → w .clear ≡ true
@@ -221,6 +217,6 @@ pub examples : AllHold table
 unfolding table found claimed abc settingsFit fit shares
     numberAt allAfter step steps may judgement claims known numberOn runsAfter touchedAfter ranges rangeOf anchorsOn edges anchorsOf
     altered deleted inserted copyRuns pushRun joinRun changing gather commonAt setAt total
-    pick withBit placeOf member stands order clash sameContent common carriesKey winner winners
+    pick withBit placeOf member stands order clash sameContent common hasKey winner winners
     refusal empty over long notNumber clashes full forInsert inherited backFrom stretchTo anyAt yesNo yesNoRefusal
 examples = all-hold table refl

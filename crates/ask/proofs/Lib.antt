@@ -1,1 +1,3 @@
 pub mod AskLaws
+pub mod Ranges
+pub mod Examples
