@@ -1,2 +1,4 @@
 pub mod AskLaws
 pub mod Most
+pub mod Ranges
+pub mod Examples

@@ -23,7 +23,7 @@ use Rattle.tank.specs.declared.Tank.{Tank}
 use Rattle.lists.specs.declared.anchors.Anchor.{Anchor}
 use Rattle.richtext.specs.declared.AnchorType.the-variants.{Start, End}
 use Rattle.tank.specs.Rules.{View}
-use Rattle.tank.specs.State.{runsOf, tableOf, view, Laid}
+use Rattle.tank.specs.State.{runsOf, tableOf, viewOf, view, Laid}
 use Rattle.tank.proofs.Counted.{at-inside}
 use Rattle.lists.specs.Anchors.{lacking, before, behind, anchorsOf, boundary, boundaries, lackingBits}
 
@@ -77,28 +77,34 @@ pub between-same : (ms : List Mark) (p x : ℕ) → between ms p x x ≡ []
 unfolding anchorsOf
 between-same ms p x = rw (lack-self x, pick-none ms)
 
-module _ {t : Tank} (f : Laid t) where
-  before-is : (p : ℕ) → before p (view t) ≡ pick (tableOf t) (setBefore (runsOf t) p)
-  unfolding before view
-  before-is zero = sym (pick-none (tableOf t))
+-- runs over a table, of whatever length they sum to
+module _ (touched : Bool) (l : ℕ) (ms : List Mark) (rs : List Run) (sorted : Sorted ms) (sum : l ≡ total rs) where
+  abbrev meant : View
+  meant = viewOf touched l ms rs
+
+  before-is : (p : ℕ) → before p meant ≡ pick ms (setBefore rs p)
+  unfolding before
+  before-is zero = sym (pick-none ms)
   before-is (suc p) = refl
 
-  behind-is : (p : ℕ) → behind p (view t) ≡ pick (tableOf t) (setAt (runsOf t) p)
-  unfolding behind view
+  behind-is : (p : ℕ) → behind p meant ≡ pick ms (setAt rs p)
+  unfolding behind
   behind-is p =
-      elim (decLt p (t .length)) [
-        | yes h ↦ rw (lt-ltb p (t .length) h)
-        | no h ↦
-            rw (le-ltb p (t .length) (omega arith))
-            (sym (ap (pick (tableOf t)) (at-past (runsOf t) p (omega (arith, f .sum))) ∙ pick-none (tableOf t)))
+      elim (decLt p l) [
+        | yes h ↦ rw (lt-ltb p l h)
+        | no h ↦ rw (le-ltb p l (omega arith)) (sym (ap (pick ms) (at-past rs p (omega (arith, sum))) ∙ pick-none ms))
       ]
 
-  pub boundary-is : (p : ℕ) → boundary p (view t) ≡ between (tableOf t) p (setBefore (runsOf t) p) (setAt (runsOf t) p)
+  pub boundary-on : (p : ℕ) → boundary p (viewOf touched l ms rs) ≡ between ms p (setBefore rs p) (setAt rs p)
   unfolding boundary
-  boundary-is p =
-      let x = setBefore (runsOf t) p in
-      let y = setAt (runsOf t) p in
-      rw (before-is p, behind-is p, pick-lacking (tableOf t) x y (f .sorted), pick-lacking (tableOf t) y x (f .sorted))
+  boundary-on p =
+      let x = setBefore rs p in
+      let y = setAt rs p in
+      rw (before-is p, behind-is p, pick-lacking ms x y sorted, pick-lacking ms y x sorted)
+
+pub boundary-is : {t : Tank} → Laid t → (p : ℕ) → boundary p (view t) ≡ between (tableOf t) p (setBefore (runsOf t) p) (setAt (runsOf t) p)
+unfolding view
+boundary-is {t} f p = boundary-on (t .touched) (t .length) (tableOf t) (runsOf t) (f .sorted) (f .sum) p
 
 -- ---- boundaries without anchors are passed
 pub pass : (p j n : ℕ) (v : View) → ((q : ℕ) → p ≤ q → q < p + j → boundary q v ≡ []) → boundaries p (j + n) v ≡ boundaries (p + j) n v

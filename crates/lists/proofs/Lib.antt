@@ -1,5 +1,6 @@
 pub mod ListLaws
 pub mod AnchorLaws
+pub mod AnchorsOnRuns
 pub mod CursorLaws
 pub mod AnchorListLaws
 pub mod Leaves

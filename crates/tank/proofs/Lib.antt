@@ -17,6 +17,4 @@ pub mod StripLaws
 pub mod InsertLaws
 pub mod RemoveLaws
 pub mod Sequences
-pub mod Ranges
 pub mod OnRuns
-pub mod Examples

@@ -10,4 +10,5 @@ pub mod OpeningLaws
 pub mod Unique
 pub mod Theorems
 pub mod Sequences
+pub mod OnRuns
 pub mod Tests

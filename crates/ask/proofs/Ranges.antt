@@ -1,4 +1,4 @@
--- Marks on ranges of positions, as document 01 writes them ("A on 10..24"), and the ranges that runs over a table mean.
+-- The ranges of positions, with their marks, that runs over a table mean.
 use Prim.Native.Nat.{ℕ, _+_, _≤_}
 use mathlib.Core.Path.{_≡_, refl, sym, ap, _∙_}
 use mathlib.Core.Bool.{Bool, true, false, cond}
@@ -12,22 +12,9 @@ use Rattle.styles.specs.Bits.{pick}
 use Rattle.styles.proofs.UnionLaws.{pick-none}
 use Rattle.runs.specs.Runs.{Run, total, setAt}
 use Rattle.runs.proofs.Laws.{at-in, at-last, at-past}
 use Rattle.tank.specs.Rules.{within}
 use Rattle.tank.proofs.ViewLaws.{range-in, range-before, range-past}
-
--- the positions start .. end, each with these marks
-pub record Range : Type 0 where
-  pub start : ℕ
-  pub end : ℕ
-  pub marks : List Mark
-
-abbrev pub on : ℕ → ℕ → List Mark → Range
-on a b ms = record { start = a; end = b; marks = ms }
-
--- the marks at a position: those of the range that it is in, and none outside of all
-unfoldable pub marksAt : List Range → ℕ → List Mark
-marksAt [] p = []
-marksAt (r ∷ rs) p = cond (within (r .start) (r .end) p) (r .marks) (marksAt rs p)
+use Rattle.ask.specs.Examples.{Range, on, marksAt}
 
 -- ---- the ranges of runs over a table, without those that carry nothing
 unfoldable pub rangeOf : List Mark → ℕ → ℕ → ℕ → List Range

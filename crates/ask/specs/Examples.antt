@@ -1,0 +1,230 @@
+-- Document 01, "Checked examples": what an example claims of the rules, and the table of the twelve that are numbered.
+use Prim.Native.Nat.{ℕ, zero, suc, _+_, _-_}
+use mathlib.Core.Path.{_≡_}
+use mathlib.Core.Bool.{cond}
+use mathlib.Core.List.{List, [], _∷_, _++_, map}
+use lib.Dec.{eqb}
+use lib.ListN.{length, replicate}
+use Rattle.styles.specs.declared.Mark.{Mark}
+use Rattle.styles.specs.declared.Value.the-variants.{Null}
+use Rattle.styles.specs.declared.Winner.{Winner}
+use Rattle.styles.specs.declared.Winner.the-variants.{Shows}
+use Rattle.styles.specs.Marks.{winner}
+use Rattle.styles.specs.Order.{idOf}
+use Rattle.lists.specs.declared.anchors.Anchor.{Anchor}
+use Rattle.lists.specs.declared.anchors.AnchorType.the-variants.{Start, End}
+use Rattle.lists.specs.Anchors.{anchorOf, anchors}
+use Rattle.questions.specs.declared.Told.{Told}
+use Rattle.questions.specs.declared.Told.the-variants.{Yes, No, Refused}
+use Rattle.questions.specs.Questions.{rangeContainsKey}
+use Rattle.tank.specs.Rules.{View, within, freshLength, runsHeld, Edit, annotating, inserting, deleting, removing}
+use Rattle.tanks.specs.declared.Setting.{Setting}
+use Rattle.tanks.specs.Settings.{claims}
+use Rattle.tanks.specs.House.{House, tankAt, held, openNumber, opening, refusalAt, afterAt, setInserted, firstRemoved, Call, afterAll}
+use Rattle.tanks.specs.Pool.{numbers}
+use Rattle.ask.specs.Asks.{askAt}
+
+-- ---- What an example claims
+-- a call's answer: the refusal's number, or accepted, an insertion's set, a removal's first position
+pub data Answer : Type 0 where
+  refused : ℕ → Answer
+  accepted : Answer
+  gives : List Mark → Answer
+  first : ℕ → Answer
+
+unfoldable pub reply : House → ℕ → Edit → Answer
+reply h t (annotating a b m) = accepted
+reply h t (inserting pos len) = gives (setInserted h t pos len)
+reply h t (deleting a b) = accepted
+reply h t (removing id last) = first (firstRemoved h t id last)
+
+abbrev pub answer : House → ℕ → Edit → Answer
+answer h t e = cond (eqb (refusalAt h t e) 0) (reply h t e) (refused (refusalAt h t e))
+
+-- the positions start .. end, each with these marks
+pub record Range : Type 0 where
+  pub start : ℕ
+  pub end : ℕ
+  pub marks : List Mark
+
+-- the marks at a position: those of the range that it is in, and none outside of all
+unfoldable pub marksAt : List Range → ℕ → List Mark
+marksAt [] p = []
+marksAt (r ∷ rs) p = cond (within (r .start) (r .end) p) (r .marks) (marksAt rs p)
+
+-- a tank told by its length, the runs that it holds, and its marks
+pub record Look : Type 0 where
+  pub length : ℕ
+  pub runs : ℕ
+  pub marks : List Range
+
+pub record Looks (l : Look) (v : View) : Type 0 where
+  pub length-is : v .length ≡ l .length
+  pub runs-are : runsHeld v ≡ l .runs
+  pub marks-are : (p : ℕ) → v .at p ≡ marksAt (l .marks) p
+
+-- the winners of a key, position by position: n of them from p on
+unfoldable pub winners : ℕ → ℕ → ℕ → View → List Winner
+winners key p zero v = []
+winners key p (suc n) v = winner key (v .at p) ∷ winners key (suc p) n v
+
+-- an example is told line by line
+pub data Line : Type 0 where
+  -- calls that went before, their answers left out
+  given : List Call → Line
+  -- a call on a tank, its answer, and the tank after it
+  call : ℕ → Edit → Answer → Look → Line
+  -- the runs that each tank holds, and the sum over tanks of the larger of runs and share
+  holds : List ℕ → ℕ → Line
+  -- of a tank: has any position of a .. b a mark with this key?
+  containsKey : ℕ → ℕ → ℕ → ℕ → Told → Line
+  -- of a tank: the winners of a key from a position on
+  wins : ℕ → ℕ → ℕ → List Winner → Line
+  -- of a tank: all its anchors
+  anchored : ℕ → List Anchor → Line
+
+-- what a line says of the house that it finds
+unfoldable pub Says : Line → House → Type 0
+unfolding reply winners
+Says (given cs) h = Unit {0}
+Says (call t e says look) h = (answer h t e ≡ says) × Looks look (tankAt (afterAt h t e) t)
+Says (holds ns sum) h = (map (held h) numbers ≡ ns) × (claims (h .settings) (held h) 8 ≡ sum)
+Says (containsKey t a b key says) h = askAt h t (Refused 1) (rangeContainsKey a b key) ≡ says
+Says (wins t key p ws) h = winners key p (length ws) (tankAt h t) ≡ ws
+Says (anchored t xs) h = anchors (tankAt h t) ≡ xs
+
+-- and the house that it leaves
+unfoldable pub leaves : Line → House → House
+leaves (given cs) h = afterAll h cs
+leaves (call t e says look) h = afterAt h t e
+leaves (holds ns sum) h = h
+leaves (containsKey t a b key says) h = h
+leaves (wins t key p ws) h = h
+leaves (anchored t xs) h = h
+
+unfoldable pub AllSaid : List Line → House → Type 0
+unfolding Says leaves
+AllSaid [] h = Unit {0}
+AllSaid (l ∷ ls) h = Says l h × AllSaid ls (leaves l h)
+
+-- an example: the settings, which opening accepts, and the lines from there on
+pub record Case : Type 0 where
+  pub settings : List Setting
+  pub lines : List Line
+
+unfoldable pub Holds : Case → Type 0
+unfolding AllSaid
+Holds c = (openNumber (c .settings) ≡ 0) × AllSaid (c .lines) (opening (c .settings))
+
+unfoldable pub AllHold : List Case → Type 0
+unfolding Holds
+AllHold [] = Unit {0}
+AllHold (c ∷ cs) = Holds c × AllHold cs
+
+-- ---- How the table writes it
+-- marks by key, lamport and peer; the flag byte and the value play no part
+abbrev pub mark : ℕ → ℕ → ℕ → Mark
+mark key lamport peer = record { key = key; flags = 0x84; lamport = lamport; peer = peer; value = Null }
+
+abbrev pub A : Mark
+A = mark 1 5 1
+
+abbrev pub B : Mark
+B = mark 1 5 2
+
+abbrev pub C : Mark
+C = mark 2 3 1
+
+abbrev pub T : ℕ
+T = freshLength
+
+-- these marks on a .. b
+abbrev pub on : ℕ → ℕ → List Mark → Range
+on a b ms = record { start = a; end = b; marks = ms }
+
+-- length, runs, marks
+abbrev pub look : ℕ → ℕ → List Range → Look
+look length runs marks = record { length = length; runs = runs; marks = marks }
+
+-- eight pairs of this share and this limit
+abbrev pub opened : ℕ → ℕ → List Line → Case
+opened share limit lines = record { settings = replicate 8 (record { share = share; limit = limit }); lines = lines }
+
+-- one fresh tank with room, which is tank 0
+abbrev pub alone : List Line → Case
+alone = opened 1 512
+
+abbrev pub edit : Edit → Answer → Look → Line
+edit = call 0
+
+-- A on 10..20, with which most of them begin
+abbrev pub first-A : Line
+first-A = edit (annotating 10 20 A) accepted (look T 3 (on 10 20 (A ∷ []) ∷ []))
+
+-- A on n positions, every second one from p on: 2n runs where p is 0, and 2n + 1 where it is 1
+unfoldable pub dots : ℕ → ℕ → List Range
+dots p zero = []
+dots p (suc n) = on p (p + 1) (A ∷ []) ∷ dots (p + 2) n
+
+-- the calls on a tank that lay A so
+unfoldable pub laying : ℕ → List Range → List Call
+laying t [] = []
+laying t (r ∷ rs) = record { tank = t; edit = annotating (r .start) (r .end) A } ∷ laying t rs
+
+-- A on the last position makes a run more
+abbrev pub last-A : Edit
+last-A = annotating (T - 1) T A
+
+-- ---- The table
+unfoldable pub table : List Case
+unfolding dots laying
+table =
+    -- 1. Insert 5, len 3: empty set, length T.
+    alone (edit (inserting 5 3) (gives []) (look T 1 []) ∷ [])
+    -- 2. A on 10..20: 3 runs, start at 10, end at 19.
+    ∷ alone (first-A ∷ anchored 0 (anchorOf 10 Start A ∷ anchorOf 19 End A ∷ []) ∷ [])
+    -- 3. Then insert 15, len 4: {A}, A on 10..24, length 4611686018427387907.
+    ∷ alone (first-A ∷ edit (inserting 15 4) (gives (A ∷ [])) (look 4611686018427387907 3 (on 10 24 (A ∷ []) ∷ [])) ∷ [])
+    -- 4. Instead insert 10, len 4: empty, A on 14..24, 3 runs.
+    ∷ alone (first-A ∷ edit (inserting 10 4) (gives []) (look 4611686018427387907 3 (on 14 24 (A ∷ []) ∷ [])) ∷ [])
+    -- 5. A on 10..20, C on 15..25: 5 runs. Insert 15, len 2: {A}, still 5.
+    ∷ alone
+    (first-A
+    ∷ edit (annotating 15 25 C) accepted (look T 5 (on 10 15 (A ∷ []) ∷ on 15 20 (A ∷ C ∷ []) ∷ on 20 25 (C ∷ []) ∷ []))
+    ∷ edit (inserting 15 2) (gives (A ∷ [])) (look 4611686018427387905 5 (on 10 17 (A ∷ []) ∷ on 17 22 (A ∷ C ∷ []) ∷ on 22 27 (C ∷ []) ∷ []))
+    ∷ [])
+    -- 6. A on 10..20, C on 20..30: 4 runs. Insert 20, len 1: empty, 5 runs.
+    ∷ alone
+    (first-A
+    ∷ edit (annotating 20 30 C) accepted (look T 4 (on 10 20 (A ∷ []) ∷ on 20 30 (C ∷ []) ∷ []))
+    ∷ edit (inserting 20 1) (gives []) (look 4611686018427387904 5 (on 10 20 (A ∷ []) ∷ on 21 31 (C ∷ []) ∷ []))
+    ∷ [])
+    -- 7. A and B on 10..20: B wins key 1.
+    ∷ alone
+    (first-A ∷ edit (annotating 10 20 B) accepted (look T 3 (on 10 20 (A ∷ B ∷ []) ∷ [])) ∷ wins 0 1 10 (replicate 10 (Shows B)) ∷ [])
+    -- 8. A on 10..20, delete 10..20: 1 run, length 4611686018427387893. Insert 0, len 10: length T.
+    ∷ alone
+    (first-A ∷ edit (deleting 10 20) accepted (look 4611686018427387893 1 []) ∷ edit (inserting 0 10) (gives []) (look T 1 []) ∷ [])
+    -- 9. A on 10..20, remove from 19: answer 10, 1 run.
+    ∷ alone (first-A ∷ edit (removing (idOf A) 19) (first 10) (look T 1 []) ∷ [])
+    -- 10. Remove from 14 instead: answer 10, A on 15..20.
+    ∷ alone (first-A ∷ edit (removing (idOf A) 14) (first 10) (look T 3 (on 15 20 (A ∷ []) ∷ [])) ∷ [])
+    -- From 5: answer 6.
+    ∷ alone (first-A ∷ edit (removing (idOf A) 5) (first 6) (look T 3 (on 10 20 (A ∷ []) ∷ [])) ∷ [])
+    -- 11. A on 10..20. Key 1 in 20..30: no. In 19..20: yes. In 5..5: no.
+    ∷ alone (first-A ∷ containsKey 0 20 30 1 No ∷ containsKey 0 19 20 1 Yes ∷ containsKey 0 5 5 1 No ∷ [])
+    -- 12. Shares 40, limits 200. Tank 0 holds 200, tank 1 holds 72, tank 3 holds 39, the rest 40: sum 512.
+    -- Tank 2 to 41: 10. Tank 0 to 201: 9. Tank 3 from 39 to 40: accepted.
+    ∷ opened 40 200
+    (given (laying 0 (dots 0 100))
+    ∷ given (laying 1 (dots 0 36))
+    ∷ given (laying 2 (dots 0 20))
+    ∷ given (laying 3 (dots 1 19))
+    ∷ given (laying 4 (dots 0 20) ++ laying 5 (dots 0 20) ++ laying 6 (dots 0 20) ++ laying 7 (dots 0 20))
+    ∷ holds (200 ∷ 72 ∷ 40 ∷ 39 ∷ 40 ∷ 40 ∷ 40 ∷ 40 ∷ []) 512
+    ∷ call 2 last-A (refused 10) (look T 40 (dots 0 20))
+    ∷ call 0 last-A (refused 9) (look T 200 (dots 0 100))
+    ∷ call 3 last-A accepted (look T 40 (dots 1 19 ++ on (T - 1) T (A ∷ []) ∷ []))
+    ∷ holds (200 ∷ 72 ∷ 40 ∷ 40 ∷ 40 ∷ 40 ∷ 40 ∷ 40 ∷ []) 512
+    ∷ [])
+    ∷ []

@@ -1,0 +1,243 @@
+-- The rules over eight tanks computed on runs over one sorted table of marks: a tank has more positions than can be looked at, its runs can be.
+use Prim.Native.Nat.{ℕ, zero, suc, _<_, _^_}
+use mathlib.Core.Path.{_≡_, refl, sym, ap, _∙_, fun-ext}
+use mathlib.Core.Bool.{Bool, true, false, cond, _&&_}
+use mathlib.Core.List.{List, [], _∷_, map}
+use native.Mathlib.Omega.{arith}
+use native.Mathlib.Decide.{decLt}
+use lib.Dec.{ltb, eqb}
+use lib.ListN.{length, getD, set, replicate, List·getD-map}
+use lib.Pow.{pow-pos}
+use borrow.Author.Tests.{ltb-true, eqb-true}
+use Rattle.styles.specs.declared.Mark.{Mark}
+use Rattle.styles.specs.Marks.{Sorted}
+use Rattle.styles.specs.Bits.{pick}
+use Rattle.styles.proofs.UnionLaws.{pick-none}
+use Rattle.runs.specs.Runs.{Run, run, total, Other, Canon}
+use Rattle.runs.specs.Gather.{gather}
+use Rattle.runs.proofs.Laws.{at-last, at-past}
+use Rattle.tank.specs.Rules.{View, freshLength, freshView, runsHeld, Edit, after, refusal}
+use Rattle.tank.specs.State.{viewOf}
+use Rattle.tank.proofs.Counted.{counted}
+use Rattle.tank.proofs.OnRuns.{known, numberOn, runsAfter, touchedAfter, canon-after, refusal-on, call-on}
+use Rattle.tank.proofs.ViewLaws.{view-ext}
+use Rattle.tanks.specs.declared.Setting.{Setting}
+use Rattle.tanks.specs.Settings.{accepted, judgement}
+use Rattle.tanks.specs.House.{House, tankAt, held, opening, noTank, first, refusalAt, withTank, afterAt, Call, afterAll}
+use Rattle.tanks.proofs.SettingLaws.{both, first-zero}
+
+-- ---- tanks on runs
+pub record Kept : Type 0 where
+  pub touched : Bool
+  pub runs : List Run
+
+abbrev pub fresh : Kept
+fresh = record { touched = false; runs = run freshLength 0 ∷ [] }
+
+abbrev pub keptAt : List Kept → ℕ → Kept
+keptAt ks t = getD ks t fresh
+
+abbrev pub heldOn : List Kept → ℕ → ℕ
+heldOn ks t = length (keptAt ks t .runs)
+
+-- what they mean
+abbrev pub viewOn : List Mark → Kept → View
+viewOn ms k = viewOf (k .touched) (total (k .runs)) ms (k .runs)
+
+abbrev pub houseOn : List Setting → List Mark → List Kept → House
+houseOn st ms ks = record { settings = st; tanks = map (viewOn ms) ks }
+
+-- ---- a call
+-- what its tank becomes
+abbrev pub keptAfter : List Mark → Edit → Kept → Kept
+keptAfter ms e k = record { touched = touchedAfter e (k .touched); runs = runsAfter ms e (k .touched) (k .runs) }
+
+-- its number, and the tanks after it, where its tank would become `new`: an argument, so that it is computed once
+unfoldable numberWith : List Setting → List Mark → List Kept → ℕ → Edit → Kept → ℕ
+numberWith st ms ks t e new =
+    cond (noTank t) 1 (first (numberOn ms e (keptAt ks t .touched) (keptAt ks t .runs)) (judgement st (heldOn ks) t (length (new .runs))))
+
+unfoldable allWith : List Setting → List Mark → List Kept → ℕ → Edit → Kept → List Kept
+unfolding numberWith
+allWith st ms ks t e new = cond (eqb (numberWith st ms ks t e new) 0) (set ks t new) ks
+
+unfoldable pub numberAt : List Setting → List Mark → List Kept → ℕ → Edit → ℕ
+unfolding numberWith
+numberAt st ms ks t e = numberWith st ms ks t e (keptAfter ms e (keptAt ks t))
+
+unfoldable pub allAfter : List Setting → List Mark → List Kept → ℕ → Edit → List Kept
+unfolding allWith
+allAfter st ms ks t e = allWith st ms ks t e (keptAfter ms e (keptAt ks t))
+
+-- what makes this the rule's call: its mark is in the table, and so are all that it leaves
+unfoldable pub may : List Mark → Edit → Kept → Bool
+may ms e new = known ms e && ltb (gather (new .runs)) (2 ^ length ms)
+
+-- ---- calls one after another: the tanks after them, and whether each was the rule's
+pub record Way : Type 0 where
+  pub clear : Bool
+  pub kept : List Kept
+
+unfoldable stepWith : List Setting → List Mark → Way → ℕ → Edit → Kept → Way
+unfolding may allWith
+stepWith st ms w t e new = record { clear = w .clear && may ms e new; kept = allWith st ms (w .kept) t e new }
+
+unfoldable pub step : List Setting → List Mark → Way → ℕ → Edit → Way
+unfolding stepWith
+step st ms w t e = stepWith st ms w t e (keptAfter ms e (keptAt (w .kept) t))
+
+unfoldable pub steps : List Setting → List Mark → Way → List Call → Way
+unfolding step
+steps st ms w [] = w
+steps st ms w (c ∷ cs) = steps st ms (step st ms w (c .tank) (c .edit)) cs
+
+-- ---- in joined form, with no set beyond the table
+pub record Fit (ms : List Mark) (k : Kept) : Type 0 where
+  pub canon : Canon (k .runs)
+  pub inside : gather (k .runs) < 2 ^ length ms
+
+abbrev pub AllFit : List Mark → List Kept → Type 0
+AllFit ms ks = (t : ℕ) → Fit ms (keptAt ks t)
+
+-- what holds of all elements and of a new one holds of all after it is set
+all-set : {A : Type 0} (P : A → Type 0) (d x : A) (l : List A) (t : ℕ) → ((u : ℕ) → P (getD l u d)) → P x → (u : ℕ) → P (getD (set l t x) u d)
+all-set P d x [] t h k u = h u
+all-set P d x (y ∷ l) zero h k zero = k
+all-set P d x (y ∷ l) zero h k (suc u) = h (suc u)
+all-set P d x (y ∷ l) (suc t) h k zero = h zero
+all-set P d x (y ∷ l) (suc t) h k (suc u) = all-set P d x l t (λ v. h (suc v)) k u
+
+map-set : {A B : Type 0} (f : A → B) (x : A) (l : List A) (t : ℕ) → set (map f l) t (f x) ≡ map f (set l t x)
+map-set f x [] t = refl
+map-set f x (y ∷ l) zero = refl
+map-set {B = B} f x (y ∷ l) (suc t) = ap (λ (m : List B). f y ∷ m) (map-set f x l t)
+
+-- a second number plays a part only beside 0
+first-same : (n x y : ℕ) → (n ≡ 0 → x ≡ y) → first n x ≡ first n y
+first-same n x y h = go (eqb n 0) refl
+  where
+    go : (b : Bool) → eqb n 0 ≡ b → cond b x n ≡ cond b y n
+    go true e = h (eqb-true n 0 e)
+    go false e = refl
+
+own-zero : (b : Bool) (n m : ℕ) → cond b 1 (first n m) ≡ 0 → n ≡ 0
+own-zero true n m h = absurd (omega arith)
+own-zero false n m h = first-zero n m h
+
+module _ (ms : List Mark) (sorted : Sorted ms) where
+  fresh-is : freshView ≡ viewOn ms fresh
+  unfolding freshView total
+  fresh-is =
+      view-ext _ _ refl refl
+      (λ p.
+      sym
+      (ap (pick ms)
+      (elim (decLt p freshLength) [
+        | yes h ↦ at-last (run freshLength 0) [] p (omega arith) (omega arith)
+        | no h ↦ at-past (run freshLength 0 ∷ []) p (omega arith)
+      ])
+      ∙ pick-none ms))
+
+  fresh-fit : Fit ms fresh
+  unfolding Canon Other gather
+  fresh-fit = record { canon = (omega arith, tt, tt); inside = pow-pos (length ms) }
+
+  pub all-fresh : (n : ℕ) → AllFit ms (replicate n fresh)
+  all-fresh zero t = fresh-fit
+  all-fresh (suc n) zero = fresh-fit
+  all-fresh (suc n) (suc t) = all-fresh n t
+
+  -- an accepted edit of a tank
+  edit-on : (e : Edit) (k : Kept) → Fit ms k → known ms e ≡ true → numberOn ms e (k .touched) (k .runs) ≡ 0
+      → after e (viewOn ms k) ≡ viewOn ms (keptAfter ms e k)
+  edit-on e k f g z =
+      let v = viewOn ms k in
+      let r = refusal-on ms sorted e (k .touched) (k .runs) (f .canon) ∙ z in
+      sym (ap (λ n. cond (eqb n 0) (after e v) v) r) ∙ call-on ms sorted e (k .touched) (k .runs) (f .canon) g z
+
+  held-in : (k : Kept) → Fit ms k → runsHeld (viewOn ms k) ≡ length (k .runs)
+  held-in k f = counted ms (k .runs) sorted (f .inside) (f .canon)
+
+  module _ (st : List Setting) where
+    pub opening-on : accepted st ≡ true → opening st ≡ houseOn st ms (replicate 8 fresh)
+    unfolding opening
+    opening-on a = rw a (λ i. record { settings = st; tanks = replicate 8 (fresh-is i) })
+
+    module _ (ks : List Kept) where
+      abbrev h : House
+      h = houseOn st ms ks
+
+      pub tank-on : (t : ℕ) → tankAt h t ≡ viewOn ms (keptAt ks t)
+      tank-on t = ap (getD (map (viewOn ms) ks) t) fresh-is ∙ List·getD-map (viewOn ms) ks t fresh
+
+      pub held-on : AllFit ms ks → held h ≡ heldOn ks
+      held-on f = fun-ext (λ t. ap runsHeld (tank-on t) ∙ held-in (keptAt ks t) (f t))
+
+      module _ (t : ℕ) (e : Edit) (f : AllFit ms ks) (ok : may ms e (keptAfter ms e (keptAt ks t)) ≡ true) where
+        abbrev new : Kept
+        new = keptAfter ms e (keptAt ks t)
+
+        is-known : known ms e ≡ true
+        unfolding may
+        is-known = both (known ms e) _ ok .0
+
+        new-fit : Fit ms new
+        unfolding may
+        new-fit = record {
+          canon = canon-after ms e (keptAt ks t .touched) (keptAt ks t .runs) (f t .canon);
+          inside = ltb-true (gather (new .runs)) (2 ^ length ms) (both (known ms e) _ ok .1);
+        }
+
+        pub number-on : refusalAt h t e ≡ numberAt st ms ks t e
+        unfolding refusalAt numberAt
+        number-on =
+            let k = keptAt ks t in
+            let v = viewOn ms k in
+            ap (λ (u : View). cond (noTank t) 1 (first (refusal e u) (judgement st (held h) t (runsHeld (after e u))))) (tank-on t)
+            ∙ ap (λ (n : ℕ → ℕ). cond (noTank t) 1 (first (refusal e v) (judgement st n t (runsHeld (after e v))))) (held-on f)
+            ∙ ap (λ n. cond (noTank t) 1 (first n (judgement st (heldOn ks) t (runsHeld (after e v))))) (refusal-on ms sorted e (k .touched) (k .runs) (f t .canon))
+            ∙ ap (cond (noTank t) 1)
+            (first-same _ _ _ (λ z. ap (judgement st (heldOn ks) t) (ap runsHeld (edit-on e k (f t) is-known z) ∙ held-in new new-fit)))
+
+        pub after-fit : AllFit ms (allAfter st ms ks t e)
+        unfolding allAfter numberAt
+        after-fit = go (eqb (numberAt st ms ks t e) 0)
+          where
+            go : (b : Bool) → AllFit ms (cond b (set ks t new) ks)
+            go true = all-set (Fit ms) fresh new ks t f new-fit
+            go false = f
+
+        moved : numberAt st ms ks t e ≡ 0 → after e (tankAt h t) ≡ viewOn ms new
+        unfolding numberAt
+        moved z = ap (after e) (tank-on t) ∙ edit-on e (keptAt ks t) (f t) is-known (own-zero (noTank t) _ _ z)
+
+        pub after-on : afterAt h t e ≡ houseOn st ms (allAfter st ms ks t e)
+        unfolding afterAt allAfter numberAt
+        after-on = ap (λ n. cond (eqb n 0) (withTank h t (after e (tankAt h t))) h) number-on ∙ go (eqb (numberAt st ms ks t e) 0) refl
+          where
+            go : (b : Bool) → eqb (numberAt st ms ks t e) 0 ≡ b → cond b (withTank h t (after e (tankAt h t))) h ≡ houseOn st ms (cond b (set ks t new) ks)
+            go true z =
+                let m = moved (eqb-true (numberAt st ms ks t e) 0 z) in
+                λ i. record { settings = st; tanks = (ap (set (map (viewOn ms) ks) t) m ∙ map-set (viewOn ms) new ks t) i }
+            go false z = refl
+
+    -- ---- calls one after another
+    pub step-clear : (w : Way) (t : ℕ) (e : Edit) → step st ms w t e .clear ≡ true
+        → (w .clear ≡ true) × (may ms e (keptAfter ms e (keptAt (w .kept) t)) ≡ true)
+    unfolding step
+    step-clear w t e m = both (w .clear) _ m
+
+    pub steps-clear : (w : Way) (cs : List Call) → steps st ms w cs .clear ≡ true → w .clear ≡ true
+    unfolding steps
+    steps-clear w [] m = m
+    steps-clear w (c ∷ cs) m = step-clear w (c .tank) (c .edit) (steps-clear (step st ms w (c .tank) (c .edit)) cs m) .0
+
+    pub steps-on : (w : Way) (cs : List Call) → AllFit ms (w .kept) → steps st ms w cs .clear ≡ true
+        → (afterAll (houseOn st ms (w .kept)) cs ≡ houseOn st ms (steps st ms w cs .kept)) × AllFit ms (steps st ms w cs .kept)
+    unfolding afterAll steps step allAfter
+    steps-on w [] f m = (refl, f)
+    steps-on w (c ∷ cs) f m =
+        let u = step st ms w (c .tank) (c .edit) in
+        let ok = step-clear w (c .tank) (c .edit) (steps-clear u cs m) .1 in
+        let k = steps-on u cs (after-fit (w .kept) (c .tank) (c .edit) f ok) m in
+        (ap (λ h. afterAll h cs) (after-on (w .kept) (c .tank) (c .edit) f ok) ∙ k .0, k .1)
