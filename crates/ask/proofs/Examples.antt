@@ -12,7 +12,8 @@ use Rattle.styles.specs.Bits.{pick, withBit}
 use Rattle.runs.specs.Runs.{total, setAt, copyRuns, pushRun, joinRun, changing}
 use Rattle.runs.specs.Edits.{altered, deleted, inserted}
 use Rattle.runs.specs.Gather.{gather}
-use Rattle.runs.specs.Scan.{anyAt, stretchTo, commonAt}
+use Rattle.runs.specs.Positions.{anyAt, stretchTo}
+use Rattle.runs.specs.Scan.{commonAt}
 use Rattle.tank.specs.Rules.{View, Edit, annotating, inserting, deleting, removing, inherited, forInsert, backFrom, empty, over, long, notNumber, clash, clashes, full, refusal}
 use Rattle.tank.proofs.Counted.{counted}
 use Rattle.tank.proofs.OnRuns.{known, numberOn, runsAfter, touchedAfter}
