@@ -12,7 +12,7 @@ use Rattle.styles.specs.declared.Winner.the-variants.{Shows}
 use Rattle.styles.specs.Marks.{winner}
 use Rattle.styles.specs.Order.{idOf}
 use Rattle.lists.specs.declared.anchors.Anchor.{Anchor}
-use Rattle.lists.specs.declared.anchors.AnchorType.the-variants.{Start, End}
+use Rattle.richtext.specs.declared.AnchorType.the-variants.{Start, End}
 use Rattle.lists.specs.Anchors.{anchorOf, anchors}
 use Rattle.questions.specs.declared.Told.{Told}
 use Rattle.questions.specs.declared.Told.the-variants.{Yes, No, Refused}
