@@ -33,7 +33,7 @@ pub fn stretches_needed(t: Tank, start: u64, end: u64) -> Listed
     }
     let lens = t.lens;
     let sets = t.sets;
-    let needed = runs::lists::need_range(&lens, &sets, t.runs, start, end);
+    let needed = runs::stretches::need_range(&lens, &sets, t.runs, start, end);
     Listed {
         number: 0,
         count: needed,
@@ -47,7 +47,7 @@ pub fn whole_needed(t: Tank) -> usize
 {
     let lens = t.lens;
     let sets = t.sets;
-    runs::lists::need_marked(&lens, &sets, t.runs, 0, t.length)
+    runs::stretches::need_marked(&lens, &sets, t.runs, 0, t.length)
 }
 
 // Writes the stretches over start .. end to the front of `out`; a refusal writes nothing.
@@ -68,7 +68,7 @@ pub fn list_range(t: Tank, start: u64, end: u64, out: &mut [u64]) -> Listed
     }
     let lens = t.lens;
     let sets = t.sets;
-    let count = runs::lists::list_range(&lens, &sets, t.runs, start, end, out);
+    let count = runs::stretches::list_range(&lens, &sets, t.runs, start, end, out);
     Listed {
         number: 0,
         count: count,
@@ -90,7 +90,7 @@ pub fn list_whole(t: Tank, out: &mut [u64]) -> Listed
     }
     let lens = t.lens;
     let sets = t.sets;
-    let count = runs::lists::list_marked(&lens, &sets, t.runs, 0, t.length, out);
+    let count = runs::stretches::list_marked(&lens, &sets, t.runs, 0, t.length, out);
     Listed {
         number: 0,
         count: count,

@@ -2,8 +2,8 @@
 use mathlib.Core.Path.{sym, ap}
 use lib.ListN.{length}
 use Rattle.runs.proofs.ListLaws.{entry-past, entry-few, entry-full}
-use Rattle.runs.proofs.lists.width.Statement.{statement}
-use Rattle.runs.proofs.lists.width.Tie as tie
+use Rattle.runs.proofs.stretches.width.Statement.{statement}
+use Rattle.runs.proofs.stretches.width.Tie as tie
 
 returns : tie.Need-returns
 returns c = sym (ap length (entry-past _ _ _ _ (c .if1 .taken)))

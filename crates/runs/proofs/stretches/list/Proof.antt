@@ -11,14 +11,14 @@ use Rattle.runs.specs.Positions.{asNumbers}
 use Rattle.runs.specs.Lists.{clipped, entry, inFront, listed, CanList}
 use Rattle.runs.proofs.Laws.{total-more, total-mono}
 use Rattle.runs.proofs.ListLaws.{listed-more, listed-grows, front-write, front-length}
-use Rattle.runs.proofs.lists.list.Statement.{statement}
-use Rattle.runs.proofs.lists.list.Tie as tie
-use Rattle.runs.proofs.lists.list.Reads as reads
-use Rattle.runs.proofs.lists.list.Lts as lts
+use Rattle.runs.proofs.stretches.list.Statement.{statement}
+use Rattle.runs.proofs.stretches.list.Tie as tie
+use Rattle.runs.proofs.stretches.list.Reads as reads
+use Rattle.runs.proofs.stretches.list.Lts as lts
 use Rattle.runs.proofs.later.Reads as later-reads
 use Rattle.runs.proofs.sooner.Reads as sooner-reads
-use Rattle.runs.proofs.lists.marks_of.Reads as marks-of-reads
-use Rattle.runs.proofs.lists.write.Reads as write-reads
+use Rattle.runs.proofs.stretches.marks_of.Reads as marks-of-reads
+use Rattle.runs.proofs.stretches.write.Reads as write-reads
 
 record Listed (lens sets : List ℕ) (n from to least : ℕ) (out₀ out : List ℕ) (k start at : ℕ) : Type 0 where
   within : k ≤ n

@@ -7,11 +7,11 @@ use borrow.Author.Needs.{needs}
 use lib.ListN.{length, length-set}
 use Rattle.runs.specs.Lists.{entry}
 use Rattle.runs.proofs.ListLaws.{entry-none, entry-some, write-three, write-none}
-use Rattle.runs.proofs.lists.write.Statement.{statement}
-use Rattle.runs.proofs.lists.write.Tie as tie
-use Rattle.runs.proofs.lists.write.Reads as reads
-use Rattle.runs.proofs.lists.write.Lts as lts
-use Rattle.runs.proofs.lists.width.Reads as width-reads
+use Rattle.runs.proofs.stretches.write.Statement.{statement}
+use Rattle.runs.proofs.stretches.write.Tie as tie
+use Rattle.runs.proofs.stretches.write.Reads as reads
+use Rattle.runs.proofs.stretches.write.Lts as lts
+use Rattle.runs.proofs.stretches.width.Reads as width-reads
 
 returns : tie.Need-returns
 returns c =
