@@ -1,4 +1,4 @@
--- `lists::list` meets its contract. The invariant: the list of the first k runs stands in front, and the rest of the buffer is as it was.
+-- `stretches::list` meets its contract. The invariant: the list of the first k runs stands in front, and the rest of the buffer is as it was.
 use Prim.Native.Nat.{ℕ, _+_, _-_, _≤_, _<_, _^_, min, max}
 use mathlib.Core.Path.{_≡_, refl, sym, ap, _∙_}
 use mathlib.Core.List.{List, _++_}

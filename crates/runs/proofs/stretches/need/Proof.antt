@@ -1,4 +1,4 @@
--- `lists::need` meets its contract. The invariant: `count` is the length of the list of the first k runs.
+-- `stretches::need` meets its contract. The invariant: `count` is the length of the list of the first k runs.
 use Prim.Native.Nat.{ℕ, _+_, _-_, _*_, _≤_, _<_, _^_, min, max}
 use mathlib.Core.Path.{_≡_, refl, ap}
 use mathlib.Core.List.{List, _++_}

@@ -1,4 +1,4 @@
--- `lists::width` meets its contract: the three forms of an entry.
+-- `stretches::width` meets its contract: the three forms of an entry.
 use mathlib.Core.Path.{sym, ap}
 use lib.ListN.{length}
 use Rattle.runs.proofs.ListLaws.{entry-past, entry-few, entry-full}

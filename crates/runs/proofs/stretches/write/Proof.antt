@@ -1,4 +1,4 @@
--- `lists::write` meets its contract: nothing is stored, or the three numbers of an entry.
+-- `stretches::write` meets its contract: nothing is stored, or the three numbers of an entry.
 use Prim.Native.Nat.{_+_, _≤_}
 use mathlib.Core.Path.{_≡_, refl, sym, ap, _∙_}
 use mathlib.Core.List.{[], _∷_}
