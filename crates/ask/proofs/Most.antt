@@ -12,7 +12,7 @@ use Rattle.tanks.specs.declared.Tanks.{Tanks}
 use Rattle.tanks.specs.declared.Setting.{Setting}
 use Rattle.tanks.specs.Settings.{shareOf, claims}
 use Rattle.tanks.specs.House.{tankAt}
-use Rattle.tanks.specs.Pool.{runsIn, tankOf, meaning, Sound}
+use Rattle.tanks.specs.Pool.{runsIn, tankIn, tankOf, meaning, Sound}
 use Rattle.tanks.proofs.SettingLaws.{accepted-at}
 use Rattle.tanks.proofs.MeaningLaws.{tank-at}
 use Rattle.lists.specs.Lists.{rangeList, wholeList, listRefusal}
@@ -44,15 +44,15 @@ module _ (s : Tanks) (ok : Sound s) (t : ℕ) (h : t < 8) where
   is-view = tank-at s t freshView h
 
   pub most-range : (a b : ℕ) → b ≤ tankAt (meaning s) t .length → length (rangeList a b (tankAt (meaning s) t)) ≤ 1515
-  unfolding tankOf view
+  unfolding tankOf tankIn view
   most-range a b g = omega (arith, ap (λ (v : View). length (rangeList a b v)) is-view, range-most (ok .each t h .laid) a b (omega (arith, ap (λ (v : View). v .length) is-view)), runs-505)
 
   pub most-whole : length (wholeList (tankAt (meaning s) t)) ≤ 1515
-  unfolding tankOf
+  unfolding tankOf tankIn
   most-whole = omega (arith, ap (λ (v : View). length (wholeList v)) is-view, whole-most (ok .each t h .laid), runs-505)
 
   pub most-anchors : length (anchors (tankAt (meaning s) t)) ≤ 32384
-  unfolding tankOf
+  unfolding tankOf tankIn
   most-anchors = omega (arith, ap (λ (v : View). length (anchors v)) is-view, anchors-most (ok .each t h .laid), runs-505)
 
   -- so that as many records are never too few
