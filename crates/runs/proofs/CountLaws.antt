@@ -1,5 +1,4 @@
--- How many runs an edit leaves: an alteration at most two more, a deletion none more, an insertion at most two more, and one more where the
--- new positions get what their neighbours have in common.
+-- How many runs an edit leaves: an alteration at most two more, a deletion none more, an insertion at most two more.
 use Prim.Native.Nat.{ℕ, _+_, _-_, _≤_, _<_, min, max}
 use mathlib.Core.Path.{_≡_, refl, sym, ap, _∙_}
 use mathlib.Core.List.{List, [], _∷_}

@@ -145,7 +145,7 @@ pick-both (m ∷ ms) s u h =
     ∙ ap (keepBit (min (s % 2) (u % 2)) m) (pick-both ms (s / 2) (u / 2) (h .1))
     ∙ common-keep (s % 2) (u % 2) m (pick ms (s / 2)) (pick ms (u / 2)) (above-pick (idOf m) ms (s / 2) (h .0)) (above-pick (idOf m) ms (u / 2) (h .0))
 
--- ---- a mark that is there already
+-- ---- the order of identities, along a list
 -- what comes before an identity comes before all that come after it
 pub above-trans : (i j : Identity) (ms : List Mark) → stands i j ≡ Before → Above j ms → Above i ms
 unfolding Above
