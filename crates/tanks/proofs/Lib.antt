@@ -1,5 +1,6 @@
 pub mod LaidLaws
 pub mod SettingLaws
+pub mod Put
 pub mod PutLaws
 pub mod MeaningLaws
 pub mod SettleLaws

@@ -17,7 +17,8 @@ use Rattle.tanks.specs.declared.Head.{Head}
 use Rattle.tanks.specs.declared.Tanks.{Tanks}
 use Rattle.tanks.specs.Settings.{limitOf, claims, heldAfter, judgement}
 use Rattle.tanks.specs.House.{held, first, withTank}
-use Rattle.tanks.specs.Pool.{noHead, runsIn, before, tankIn, tankOf, headOf, tableIn, puts, meaning, Sound}
+use Rattle.tanks.specs.Pool.{noHead, runsIn, before, tankIn, tankOf, headOf, tableIn, meaning, Sound}
+use Rattle.tanks.proofs.Put.{puts}
 use Rattle.tanks.proofs.PutLaws.{put-length, put-blank, put-same, put-other}
 use Rattle.tanks.proofs.SettingLaws.{claims-cong, before-claims, judge-within, judge-sum, second-zero}
 

@@ -15,7 +15,8 @@ use Rattle.tanks.specs.declared.Table.{Table}
 use Rattle.tanks.specs.declared.Tanks.{Tanks}
 use Rattle.runs.specs.Runs.{Spare}
 use Rattle.tank.specs.State.{Formed}
-use Rattle.tanks.specs.Pool.{noRun, noHead, noTable, runsIn, laid, before, tankIn, tankOf, headOf, tableIn, runOf, runFrom, puts, Sound}
+use Rattle.tanks.specs.Pool.{noRun, noHead, noTable, runsIn, laid, before, tankIn, tankOf, headOf, tableIn, Sound}
+use Rattle.tanks.proofs.Put.{runOf, runFrom, puts}
 use Rattle.tanks.proofs.SettingLaws.{sound-held}
 use Rattle.tanks.proofs.LaidLaws.{length-laid, laid-out, laid-in, laid-front, laid-cong, blank-at, before-next, before-same, before-later}
 

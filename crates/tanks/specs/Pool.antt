@@ -1,7 +1,7 @@
 -- How eight tanks stand in one state: a head and a table of marks for each, and their runs packed one tank after another.
 use Prim.Native.Nat.{ℕ, zero, suc, _+_, _-_, _≤_, _<_, max}
 use mathlib.Core.Path.{_≡_}
-use mathlib.Core.Bool.{true, false, cond}
+use mathlib.Core.Bool.{true, false}
 use mathlib.Core.List.{List, [], _∷_, map}
 use lib.Dec.{ltb}
 use lib.ListN.{length, getD, set, replicate}
@@ -87,10 +87,6 @@ headOf x = record { touched = x .touched; length = x .length; runs = x .runs; ma
 abbrev pub tableIn : Tank → Table
 tableIn x = record { marks = x .table }
 
--- its k-th run
-abbrev pub runOf : List ℕ → List ℕ → ℕ → Run
-runOf lens sets k = record { len = getD lens k 0; set = getD sets k 0 }
-
 -- where tank t's runs begin and those behind it; how many runs there are from its place on once it holds m, and how many places that
 -- touches; whether those behind it move up
 abbrev pub spotsOf : List Head → ℕ → ℕ → Spots
@@ -100,24 +96,6 @@ spotsOf hs t m = record {
   full = m + (before hs 8 - (before hs t + runsIn hs t));
   count = max m (runsIn hs t) + (before hs 8 - (before hs t + runsIn hs t));
   grows = ltb (before hs t + runsIn hs t) (before hs t + m);
-}
-
--- the k-th run from there on after the tank has become x: x's runs, then those of the tanks behind it, then blanks
-unfoldable pub runFrom : List Run → Tank → ℕ → ℕ → ℕ → Run
-runFrom pool x from full k =
-    cond (ltb k (x .runs)) (runOf (x .lens) (x .sets) k) (cond (ltb k full) (getD pool (from + (k - x .runs)) noRun) noRun)
-
--- the pool with x's runs in the place of tank t's
-abbrev pub poolWith : List Run → Spots → Tank → List Run
-poolWith pool s x = laid pool (s .at) (runFrom pool x (s .from) (s .full)) (s .count)
-
--- the state with x in the place of tank t
-unfoldable pub puts : Tanks → ℕ → Tank → Tanks
-puts s t x = record {
-  settings = s .settings;
-  heads = set (s .heads) t (headOf x);
-  tables = set (s .tables) t (tableIn x);
-  pool = poolWith (s .pool) (spotsOf (s .heads) t (x .runs)) x;
 }
 
 -- ---- Opening
