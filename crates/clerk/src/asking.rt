@@ -7,7 +7,6 @@ use super::answers::put_set;
 use super::answers::refuse;
 use super::answers::say;
 use super::answers::set_or;
-use super::edits::key_of;
 use questions::Asked;
 use questions::SetAsked;
 use questions::Shared;
@@ -114,12 +113,12 @@ fn ask_range(s: Tanks, call: Call, out: &mut [u8], at: usize) -> usize
         Op::HasKey => put_told(
             out,
             at,
-            ask::range_contains_key(s, n[0], n[1], n[2], key_of(n[3])),
+            ask::range_contains_key(s, n[0], n[1], n[2], script::key_of(n[3])),
         ),
         Op::AllValue => put_told(
             out,
             at,
-            ask::range_has_key_value(s, n[0], n[1], n[2], key_of(n[3]), v),
+            ask::range_has_key_value(s, n[0], n[1], n[2], script::key_of(n[3]), v),
         ),
         Op::Same => put_shared(out, at, ask::get_styles_of_range(s, n[0], n[1], n[2])),
         _ => at,
@@ -134,7 +133,7 @@ pub fn asked(s: Tanks, call: Call, out: &mut [u8], at: usize) -> usize
     let op = call.op;
     let n = call.numbers;
     match op {
-        Op::Value => put_shown(out, at, ask::value_at(s, n[0], n[1], key_of(n[2]))),
+        Op::Value => put_shown(out, at, ask::value_at(s, n[0], n[1], script::key_of(n[2]))),
         Op::Marks => put_set_asked(out, at, ask::styles_at(s, n[0], n[1])),
         Op::Inherit => put_set_asked(out, at, ask::get_styles_for_insert(s, n[0], n[1])),
         Op::Mark => put_asked(out, at, ask::style_at(s, n[0], n[1], n[2])),

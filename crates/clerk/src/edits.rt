@@ -8,23 +8,8 @@ use super::answers::say;
 use super::answers::set_or;
 use script::Call;
 use script::Op;
-use styles::Identity;
-use styles::Mark;
 use tanks::Setting;
 use tanks::Tanks;
-
-// Numbers that the reader has held to their widths.
-pub fn key_of(n: u64) -> u16 {
-    (n % 65536) as u16
-}
-
-fn lamport_of(n: u64) -> u32 {
-    (n % 4294967296) as u32
-}
-
-fn flags_of(n: u64) -> u8 {
-    (n % 256) as u8
-}
 
 fn pair(n: [u64; 16], i: usize) -> Setting
     requires { ⌜ i ≤ 14 ⌝ }
@@ -64,15 +49,7 @@ fn annotated(s: Tanks, call: Call, out: &mut [u8], at: usize) -> Done
     ensures { λ r. ⌜ Sound (r .tanks) ⌝ }
 {
     let n = call.numbers;
-    let v = call.value;
-    let m = Mark {
-        key: key_of(n[3]),
-        flags: flags_of(n[6]),
-        lamport: lamport_of(n[4]),
-        peer: n[5],
-        value: v,
-    };
-    let e = s.annotate(n[0], n[1], n[2], m);
+    let e = s.annotate(n[0], n[1], n[2], script::mark_of(call));
     let t = e.tanks;
     let k = accept(out, at, e.number);
     Done { tanks: t, at: k }
@@ -110,17 +87,13 @@ fn first_or(out: &mut [u8], at: usize, number: u64, first: u64) -> usize
     refuse(out, at, number)
 }
 
-fn removed(s: Tanks, n: [u64; 16], out: &mut [u8], at: usize) -> Done
+fn removed(s: Tanks, call: Call, out: &mut [u8], at: usize) -> Done
     requires { ⌜ Sound s ⌝ }
     requires { ⌜ 512 ≤ length (now out) ⌝ }
     ensures { λ r. ⌜ Sound (r .tanks) ⌝ }
 {
-    let id = Identity {
-        key: key_of(n[1]),
-        lamport: lamport_of(n[2]),
-        peer: n[3],
-    };
-    let e = s.remove_style_scanning_backward(n[0], id, n[4]);
+    let n = call.numbers;
+    let e = s.remove_style_scanning_backward(n[0], script::identity_of(call), n[4]);
     let t = e.tanks;
     let k = first_or(out, at, e.number, e.first);
     Done { tanks: t, at: k }
@@ -139,7 +112,7 @@ pub fn change(s: Tanks, call: Call, out: &mut [u8], at: usize) -> Done
         Op::Annotate => annotated(s, call, out, at),
         Op::Insert => inserted(s, n, out, at),
         Op::Delete => deleted(s, n, out, at),
-        Op::Remove => removed(s, n, out, at),
+        Op::Remove => removed(s, call, out, at),
         _ => Done { tanks: s, at: at },
     }
 }

@@ -180,8 +180,8 @@ fn turn(s: Tanks, stand: Stand, out: &mut [u8]) -> Eaten
     eat(&buf[..n], s, stand, out)
 }
 
-// All of the input: the count of turns is one that no run uses up. Answers how much of the output waits.
-fn all(s: Tanks, first: Stand, out: &mut [u8]) -> usize
+// All of the input: the count of turns is one that no run uses up. The answers to what was read are written before more is read.
+fn all(s: Tanks, first: Stand, out: &mut [u8])
     requires { ⌜ Sound s ⌝ }
     requires { ⌜ 512 ≤ length (now out) ⌝ }
 {
@@ -193,13 +193,18 @@ fn all(s: Tanks, first: Stand, out: &mut [u8]) -> usize
         let next = e.tanks;
         tanks = next;
         let after = e.stand;
-        stand = after;
-        if stand.over {
-            return stand.at;
+        script::emit(out, after.at);
+        if after.over {
+            return;
         }
+        let reader = after.reader;
+        stand = Stand {
+            reader: reader,
+            at: 0,
+            over: false,
+        };
         turns -= 1;
     }
-    stand.at
 }
 
 // Reads calls from standard input to its end, and writes their answers to standard output. Before the first `open` the state is
@@ -214,8 +219,7 @@ pub fn run() {
         at: 0,
         over: false,
     };
-    let n = all(s, first, &mut out);
-    script::emit(&out, n);
+    all(s, first, &mut out);
 }
 
 // Writes the marked stretches of a tank to standard output.

@@ -11,7 +11,8 @@ fn low8(x: u64) -> u8
     (x % 256) as u8
 }
 
-fn low16(x: u64) -> u16
+// A key that was read.
+pub fn key_of(x: u64) -> u16
     ensures { λ r. ⌜ r ≡ x % 2 ^ 16 ⌝ }
 {
     (x % 65536) as u16
@@ -30,7 +31,7 @@ pub fn mark_of(call: Call) -> Mark
     let n = call.numbers;
     let v = call.value;
     Mark {
-        key: low16(n[3]),
+        key: key_of(n[3]),
         flags: low8(n[6]),
         lamport: low32(n[4]),
         peer: n[5],
@@ -44,7 +45,7 @@ pub fn identity_of(call: Call) -> Identity
 {
     let n = call.numbers;
     Identity {
-        key: low16(n[1]),
+        key: key_of(n[1]),
         lamport: low32(n[2]),
         peer: n[3],
     }

@@ -10,6 +10,7 @@ mod values; // values.rt: f64s and their bits
 mod writing; // writing.rt: answers
 
 pub use args::identity_of;
+pub use args::key_of;
 pub use args::mark_of;
 pub use fields::field_at;
 pub use fields::field_holds;

@@ -9,6 +9,7 @@ use Rattle.clerk.proofs.all.Tie as tie
 use Rattle.clerk.proofs.all.Reads as reads
 use Rattle.clerk.proofs.all.Lts as lts
 use Rattle.clerk.proofs.turn.Reads as turn-reads
+use Rattle.script.proofs.emit.Reads as emit-reads
 
 abbrev Inv-loop : tie.InvT-loop
 Inv-loop out₀ tanks₀ stand₀ turns₀ out tanks stand turns = (length out ≡ length out₀) × Sound tanks
@@ -21,6 +22,9 @@ loop-holds c = search needs
 
 turn-requires : tie.Need-turn-requires Inv-loop μ-loop
 turn-requires c κs = search needs
+
+emit-requires : tie.Need-emit-requires Inv-loop μ-loop
+emit-requires c κs = search needs
 
 same-length : tie.Need-same-length Inv-loop μ-loop
 same-length c = search needs
@@ -51,6 +55,7 @@ all-spec =
     μ-loop
     loop-holds
     turn-requires
+    emit-requires
     same-length
     returns
     sub-turns
