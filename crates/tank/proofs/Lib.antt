@@ -11,6 +11,7 @@ pub mod RoomLaws
 pub mod Calls
 pub mod AnnotateLaws
 pub mod DeleteLaws
+pub mod DeleteCount
 pub mod FreshLaws
 pub mod GrowLaws
 pub mod StripLaws

@@ -5,7 +5,7 @@ use mathlib.Core.Bool.{true}
 use mathlib.Core.List.{List, [], _∷_}
 use native.Mathlib.Omega.{arith}
 use lib.ListN.{length}
-use Rattle.tank.specs.Rules.{Edit, runsHeld, after}
+use Rattle.tank.specs.Rules.{Edit, deleting, runsHeld, after}
 use Rattle.tanks.specs.declared.Setting.{Setting}
 use Rattle.tanks.specs.declared.Opened.{Opened}
 use Rattle.tanks.specs.declared.Tanks.{Tanks}
@@ -14,7 +14,7 @@ use Rattle.tanks.specs.House.{House, tankAt, held, refusalAt, Call, afte
 use Rattle.tanks.specs.Pool.{runsIn, meaning, Sound}
 use Rattle.tanks.specs.Contracts.{Opens, CalledAt}
 use Rattle.tanks.proofs.MeaningLaws.{held-is}
-use Rattle.tanks.proofs.Theorems.{reached, within-limits, never-9-or-10}
+use Rattle.tanks.proofs.Theorems.{kept-sound, delete-free, reached, within-limits, never-9-or-10}
 
 pub data Calls : Tanks → List Call → Tanks → Type 0 where
   none : {s : Tanks} → Calls s [] s
@@ -28,6 +28,10 @@ calls-mean (call {cs = cs} p c) = calls-mean c ∙ ap (λ (h : House). afterAll 
 pub calls-sound : {s last : Tanks} {cs : List Call} → Sound s → Calls s cs last → Sound last
 calls-sound ok none = ok
 calls-sound ok (call p c) = calls-sound (p .sound) c
+
+-- a deletion on a sound state never answers 9 or 10
+pub delete-number : {s next : Tanks} {t a b number : ℕ} → Sound s → CalledAt s t (deleting a b) number next → number ≤ 4
+delete-number {s} {t = t} {a = a} {b = b} ok p = omega (arith, p .number-is, delete-free (meaning s) t a b (kept-sound s ok))
 
 module _ (st : List Setting) (l : length st ≡ 8) (ok : accepted st ≡ true) (r : Opened) (opened : Opens st r) (cs : List Call) (s : Tanks) (calls : Calls (r .tanks) cs s) where
   means : meaning s ≡ reached st l ok cs

@@ -6,11 +6,13 @@ use mathlib.Core.Logic.{_≢_}
 use mathlib.Core.List.{List, [], _∷_}
 use native.Mathlib.Omega.{arith}
 use native.Mathlib.Decide.{decLt, decLe, ℕ-discrete}
-use borrow.Author.Tests.{eq-eqb, ne-eqb}
+use borrow.Author.Tests.{ltb-false, leb-false, eq-eqb, ne-eqb}
 use lib.ListN.{length, replicate, length-set}
 use lib.Seq.{getD-set-same, getD-set-other}
 use Rattle.styles.specs.declared.Identity.{Identity}
-use Rattle.tank.specs.Rules.{View, freshView, runsHeld, Edit, inserting, removing, after, empty, over, long, notNumber, clashes, full, refusal}
+use Rattle.tank.specs.Rules.{View, freshView, runsHeld, Edit, inserting, deleting, removing, after, empty, over, long, notNumber, clashes, full, refusal}
+use Rattle.tank.proofs.Sequences.{accepted-fits}
+use Rattle.tank.proofs.DeleteCount.{delete-fewer}
 use Rattle.tanks.specs.declared.Setting.{Setting}
 use Rattle.tanks.specs.declared.Tanks.{Tanks}
 use Rattle.tanks.specs.Settings.{shareOf, limitOf, accepted, claims, heldAfter, judgement}
@@ -180,8 +182,8 @@ ten-only h t e ten =
           ]
     ]
 
--- ---- an edit that leaves its tank at or under its share is refused by neither 9 nor 10
-module _ (h : House) (t : ℕ) (n : ℕ) (le : n ≤ shareOf (h .settings) t) where
+-- ---- an edit that leaves its tank at or under its share, or with no more runs than it held, is refused by neither 9 nor 10
+module _ (h : House) (t : ℕ) (n : ℕ) (le : n ≤ max (held h t) (shareOf (h .settings) t)) where
   claims-less : (k : ℕ) → claims (h .settings) (heldAfter (held h) t n) k ≤ claims (h .settings) (held h) k
   unfolding claims
   claims-less zero = omega arith
@@ -193,20 +195,52 @@ module _ (h : House) (t : ℕ) (n : ℕ) (le : n ≤ shareOf (h .settings) t) wh
           (rw (eq-eqb t t refl) (omega arith))
           (λ ne. rw (ne-eqb k t ne) (omega arith))
 
-  share-judged : Kept h → t < 8 → judgement (h .settings) (held h) t n ≡ 0
-  share-judged kept t8 =
-      judge-0 (h .settings) (held h) t n (omega (arith, accepted-at (h .settings) (kept .rule) t t8)) (omega (arith, claims-less 8, kept .sum))
+  no-more-judged : Kept h → t < 8 → judgement (h .settings) (held h) t n ≡ 0
+  no-more-judged kept t8 =
+      judge-0 (h .settings) (held h) t n
+      (omega (arith, accepted-at (h .settings) (kept .rule) t t8, kept .limits t t8))
+      (omega (arith, claims-less 8, kept .sum))
 
--- its number is that of the tank's own rules, which is 8 or less
+-- its number is that of the tank's own rules
+own-number : (h : House) (t : ℕ) (e : Edit) → Kept h → t < 8
+    → (refusal e (tankAt h t) ≡ 0 → runsHeld (after e (tankAt h t)) ≤ max (held h t) (shareOf (h .settings) t))
+    → refusalAt h t e ≡ refusal e (tankAt h t)
+own-number h t e kept t8 le =
+    elim (ℕ-discrete (refusal e (tankAt h t)) 0) [
+      | no ne ↦ own-first h t e t8 ne
+      | yes z ↦ judged-next h t e t8 z ∙ no-more-judged h t _ (le z) kept t8 ∙ sym z
+    ]
+
+-- at or under its share: 8 or less
 pub share-free : (h : House) (t : ℕ) (e : Edit) → Kept h → t < 8 → runsHeld (after e (tankAt h t)) ≤ shareOf (h .settings) t
     → (refusalAt h t e ≡ refusal e (tankAt h t)) × (refusalAt h t e ≤ 8)
 share-free h t e kept t8 le =
-    let f : refusalAt h t e ≡ refusal e (tankAt h t) =
-    elim (ℕ-discrete (refusal e (tankAt h t)) 0) [
-      | no ne ↦ own-first h t e t8 ne
-      | yes z ↦ judged-next h t e t8 z ∙ share-judged h t _ le kept t8 ∙ sym z
-    ] in
+    let f = own-number h t e kept t8 (λ _. omega arith) in
     (f, omega (arith, f, own-most e (tankAt h t)))
+
+-- ---- a deletion: its own numbers are 3 and 4, and an accepted one leaves no more runs
+delete-most : (a b : ℕ) (v : View) → refusal (deleting a b) v ≤ 4
+unfolding refusal long notNumber clashes full
+delete-most a b v =
+    cond-le (empty (deleting a b)) 3 _ 4 (omega arith) (cond-le (over (deleting a b) v) 4 0 4 (omega arith) (omega arith))
+
+delete-no-more : (a b : ℕ) (v : View) → refusal (deleting a b) v ≡ 0 → runsHeld (after (deleting a b) v) ≤ runsHeld v
+unfolding after empty over
+delete-no-more a b v z =
+    let f = accepted-fits (deleting a b) v z in
+    let up = leb-false b a (f .0) in
+    delete-fewer a b v (omega arith) (ltb-false (v .length) b (f .1))
+
+-- so the tank's own rules alone refuse it, and with 1 for no such tank its number is at most 4
+pub delete-own : (h : House) (t a b : ℕ) → Kept h → t < 8 → refusalAt h t (deleting a b) ≡ refusal (deleting a b) (tankAt h t)
+delete-own h t a b kept t8 = own-number h t (deleting a b) kept t8 (λ z. omega (arith, delete-no-more a b (tankAt h t) z))
+
+pub delete-free : (h : House) (t a b : ℕ) → Kept h → refusalAt h t (deleting a b) ≤ 4
+delete-free h t a b kept =
+    elim (decLt t 8) [
+      | no l ↦ omega (arith, refusal-past h t (deleting a b) (omega arith))
+      | yes l ↦ omega (arith, delete-own h t a b kept l, delete-most a b (tankAt h t))
+    ]
 
 -- ---- a call on one tank changes no answer of another, refusal 10 aside
 judge-not-10 : (st : List Setting) (f g : ℕ → ℕ) (t n : ℕ) → judgement st f t n ≢ 10 → judgement st g t n ≢ 10 → judgement st f t n ≡ judgement st g t n
@@ -295,3 +329,7 @@ module _ (st : List Setting) (l : length st ≡ 8) (ok : accepted st ≡ true) (
   -- an edit that leaves its tank at or under its share is refused by neither 9 nor 10
   pub never-9-or-10 : (t : ℕ) (e : Edit) → t < 8 → runsHeld (after e (tankAt reached t)) ≤ shareOf st t → refusalAt reached t e ≤ 8
   never-9-or-10 t e t8 le = share-free reached t e reached-kept t8 (rw reached-settings le) .1
+
+  -- a deletion is refused by neither, however many runs the tanks hold
+  pub delete-never-9-or-10 : (t a b : ℕ) → refusalAt reached t (deleting a b) ≤ 4
+  delete-never-9-or-10 t a b = delete-free reached t a b reached-kept
