@@ -17,7 +17,7 @@ use Rattle.lists.specs.declared.anchors.AnchorCursor.{AnchorCursor}
 use Rattle.lists.specs.declared.anchors.NextAnchor.{NextAnchor}
 use Rattle.lists.specs.declared.anchors.NextAnchor.the-variants.{NoMore, Found}
 use Rattle.tank.specs.State.{view}
-use Rattle.runs.specs.Lists.{inFront}
+use Rattle.runs.specs.Stretches.{inFront}
 use Rattle.lists.specs.Lists.{listRefusal, unlessRefused, answered}
 use Rattle.lists.specs.Anchors.{anchors, anchorsAfter, noAnchor, rest, Stands, Steps}
 
