@@ -71,26 +71,28 @@ editOf (code.Edit.Insert pos len) = inserting pos len
 editOf (code.Edit.Delete start end) = deleting start end
 editOf (code.Edit.Remove id last) = removing id last
 
--- what stands beside the number of one tank's own call: the set of an insertion, the first position of a removal
+-- what stands beside the number of one tank's own call: the set of an insertion; empty beside any other edit
 abbrev pub setBeside : Edit → View → List Mark
 setBeside (annotating a b m) v = []
 setBeside (inserting pos len) v = insertedSet pos len v
 setBeside (deleting a b) v = []
 setBeside (removing id last) v = []
 
+-- and the first position of a removal; 0 beside any other edit
 abbrev pub firstBeside : Edit → View → ℕ
 firstBeside (annotating a b m) v = 0
 firstBeside (inserting pos len) v = 0
 firstBeside (deleting a b) v = 0
 firstBeside (removing id last) v = removedFirst id last v
 
--- and beside that of a call on one of eight
+-- what stands beside the number of a call on tank t of the eight: the set of an insertion; empty beside any other edit
 abbrev pub setAt : House → ℕ → Edit → List Mark
 setAt h t (annotating a b m) = []
 setAt h t (inserting pos len) = setInserted h t pos len
 setAt h t (deleting a b) = []
 setAt h t (removing id last) = []
 
+-- and the first position of a removal; 0 beside any other edit
 abbrev pub firstAt : House → ℕ → Edit → ℕ
 firstAt h t (annotating a b m) = 0
 firstAt h t (inserting pos len) = 0
