@@ -17,7 +17,7 @@ use Rattle.tanks.specs.Pool.{tankOf, meaning}
 use Rattle.tanks.proofs.MeaningLaws.{tank-at}
 use Rattle.lists.specs.declared.Listed.{Listed}
 use Rattle.lists.specs.declared.anchors.Anchor.{Anchor}
-use Rattle.runs.specs.Lists.{inFront}
+use Rattle.runs.specs.Stretches.{inFront}
 use Rattle.lists.specs.Lists.{listRefusal, unlessRefused, answered}
 use Rattle.lists.specs.Anchors.{anchors, anchorsAfter, anchorsNumber}
 use Rattle.lists.proofs.ListLaws.{handed-part, handed-count}

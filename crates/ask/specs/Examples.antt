@@ -32,12 +32,14 @@ pub data Answer : Type 0 where
   gives : List Mark → Answer
   first : ℕ → Answer
 
+-- what an accepted call answers: an insertion its set, a removal the first position, annotate and delete no more than accepted
 unfoldable pub reply : House → ℕ → Edit → Answer
 reply h t (annotating a b m) = accepted
 reply h t (inserting pos len) = gives (setInserted h t pos len)
 reply h t (deleting a b) = accepted
 reply h t (removing id last) = first (firstRemoved h t id last)
 
+-- what a call answers: its refusal's number, or what an accepted call does
 abbrev pub answer : House → ℕ → Edit → Answer
 answer h t e = cond (eqb (refusalAt h t e) 0) (reply h t e) (refused (refusalAt h t e))
 
@@ -58,6 +60,7 @@ pub record Look : Type 0 where
   pub runs : ℕ
   pub marks : List Range
 
+-- a tank that looks so: it has this length, holds so many runs, and carries these marks at each position
 pub record Looks (l : Look) (v : View) : Type 0 where
   pub length-is : v .length ≡ l .length
   pub runs-are : runsHeld v ≡ l .runs
@@ -102,6 +105,7 @@ leaves (containsKey t a b key says) h = h
 leaves (wins t key p ws) h = h
 leaves (anchored t xs) h = h
 
+-- every line is true of the house that the lines before it leave
 unfoldable pub AllSaid : List Line → House → Type 0
 unfolding Says leaves
 AllSaid [] h = Unit {0}
@@ -112,10 +116,12 @@ pub record Case : Type 0 where
   pub settings : List Setting
   pub lines : List Line
 
+-- an example holds: opening accepts its settings, and all its lines are true from there on
 unfoldable pub Holds : Case → Type 0
 unfolding AllSaid
 Holds c = (openNumber (c .settings) ≡ 0) × AllSaid (c .lines) (opening (c .settings))
 
+-- every example of the table holds
 unfoldable pub AllHold : List Case → Type 0
 unfolding Holds
 AllHold [] = Unit {0}
@@ -126,15 +132,19 @@ AllHold (c ∷ cs) = Holds c × AllHold cs
 abbrev pub mark : ℕ → ℕ → ℕ → Mark
 mark key lamport peer = record { key = key; flags = 0x84; lamport = lamport; peer = peer; value = Null }
 
+-- A = (key 1, lamport 5, peer 1)
 abbrev pub A : Mark
 A = mark 1 5 1
 
+-- B = (1, 5, 2)
 abbrev pub B : Mark
 B = mark 1 5 2
 
+-- C = (2, 3, 1)
 abbrev pub C : Mark
 C = mark 2 3 1
 
+-- T, a fresh tank's length
 abbrev pub T : ℕ
 T = freshLength
 
@@ -154,6 +164,7 @@ opened share limit lines = record { settings = replicate 8 (record { share = sha
 abbrev pub alone : List Line → Case
 alone = opened 1 512
 
+-- a call on that tank, its answer, and the tank after it
 abbrev pub edit : Edit → Answer → Look → Line
 edit = call 0
 
@@ -176,6 +187,7 @@ abbrev pub last-A : Edit
 last-A = annotating (T - 1) T A
 
 -- ---- The table
+-- the twelve numbered examples in their order; the tenth takes two lines of the table
 unfoldable pub table : List Case
 unfolding dots laying
 table =

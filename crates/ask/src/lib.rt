@@ -5,7 +5,7 @@ ghost use mathlib.Core.List.{[]};
 ghost use Prim.Native.Nat.{_<_};
 ghost use lib.ListN.{length};
 ghost use Rattle.lists.specs.Lists.{rangeList, wholeList, rangeNeeded, rangeNumber, wholeNumber, unlessRefused, answered};
-ghost use Rattle.runs.specs.Lists.{inFront};
+ghost use Rattle.runs.specs.Stretches.{inFront};
 ghost use Rattle.lists.specs.Anchors.{anchors, anchorsNumber};
 ghost use Rattle.tanks.specs.Contracts.{Taken};
 ghost use Rattle.tanks.specs.House.{askNumber, noTank};

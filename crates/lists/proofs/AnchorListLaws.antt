@@ -1,5 +1,5 @@
 -- A lent list of anchors: what the walk has stored after some turns, and what it answers.
-use Prim.Native.Nat.{ℕ, zero, suc, _+_, _≤_, _<_}
+use Prim.Native.Nat.{ℕ, zero, suc, _≤_, _<_}
 use mathlib.Core.Path.{_≡_, refl, sym, ap, _∙_, subst}
 use mathlib.Core.Bool.{Bool, true, false, cond}
 use mathlib.Core.List.{List, [], _∷_, _++_}
@@ -17,7 +17,7 @@ use Rattle.lists.specs.declared.anchors.AnchorCursor.{AnchorCursor}
 use Rattle.lists.specs.declared.anchors.NextAnchor.{NextAnchor}
 use Rattle.lists.specs.declared.anchors.NextAnchor.the-variants.{NoMore, Found}
 use Rattle.tank.specs.State.{view}
-use Rattle.runs.specs.Lists.{inFront}
+use Rattle.runs.specs.Stretches.{inFront}
 use Rattle.lists.specs.Lists.{listRefusal, unlessRefused, answered}
 use Rattle.lists.specs.Anchors.{anchors, anchorsAfter, noAnchor, rest, Stands, Steps}
 

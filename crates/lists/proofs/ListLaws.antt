@@ -11,7 +11,7 @@ use Rattle.styles.proofs.CountLaws.{pick-length}
 use Rattle.styles.proofs.SameLaws.{same-pick}
 use Rattle.runs.specs.Runs.{setAt}
 use Rattle.runs.specs.Positions.{asNumbers}
-use Rattle.runs.specs.Lists.{clipped, inFront, listed, CanList}
+use Rattle.runs.specs.Stretches.{clipped, inFront, listed, CanList}
 use Rattle.runs.proofs.PositionLaws.{clipped-is, at-ext, at-none}
 use Rattle.tank.specs.declared.Tank.{Tank}
 use Rattle.lists.specs.declared.Listed.{Listed}

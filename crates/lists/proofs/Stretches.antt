@@ -12,25 +12,11 @@ use Rattle.styles.specs.Order.{idOf, sameId}
 use Rattle.styles.specs.Marks.{sameMarks}
 use Rattle.runs.specs.Positions.{Stretch, stretch, extended, stretchesAt}
 use Rattle.tank.specs.Rules.{View}
-use Rattle.lists.specs.Lists.{stretchesOver}
+use Rattle.lists.specs.Lists.{stretchesOver, Maximal, Tiles, TilesOver}
 
 module _ (alike : ℕ → Bool) (count : ℕ → ℕ) where
-  -- x is a stretch of a .. b that ends it: one set throughout, with its count, and before it either the range begins or the set changes
-  pub record Maximal (a b : ℕ) (x : Stretch) : Type 0 where
-    pub last : x .end ≡ b
-    pub inside : a ≤ x .start
-    pub some : x .start < x .end
-    pub one : (p : ℕ) → x .start ≤ p → suc p < x .end → alike p ≡ true
-    pub counted : (p : ℕ) → x .start ≤ p → p < x .end → count p ≡ x .marks
-    pub begun : a < x .start → alike (x .start - 1) ≡ false
-
-  -- such stretches, the last first, from the end of the range back to where it begins
-  unfoldable pub Tiles : ℕ → ℕ → List Stretch → Type 0
-  Tiles a b [] = b ≤ a
-  Tiles a b (x ∷ xs) = Maximal a b x × Tiles a (x .start) xs
-
   module _ (same : (p : ℕ) → alike p ≡ true → count p ≡ count (suc p)) (a : ℕ) where
-    begins : (p : ℕ) (xs : List Stretch) → a ≤ p → (a < p → alike (p - 1) ≡ false) → Tiles a p xs → Tiles a (suc p) (stretch p (suc p) (count p) ∷ xs)
+    begins : (p : ℕ) (xs : List Stretch) → a ≤ p → (a < p → alike (p - 1) ≡ false) → Tiles alike count a p xs → Tiles alike count a (suc p) (stretch p (suc p) (count p) ∷ xs)
     unfolding Tiles
     begins p xs h g t = (
       record {
@@ -44,7 +30,7 @@ module _ (alike : ℕ → Bool) (count : ℕ → ℕ) where
       t,
     )
 
-    goes-on : (p : ℕ) (x : Stretch) (xs : List Stretch) → alike (p - 1) ≡ true → Tiles a p (x ∷ xs) → Tiles a (suc p) (stretch (x .start) (suc p) (x .marks) ∷ xs)
+    goes-on : (p : ℕ) (x : Stretch) (xs : List Stretch) → alike (p - 1) ≡ true → Tiles alike count a p (x ∷ xs) → Tiles alike count a (suc p) (stretch (x .start) (suc p) (x .marks) ∷ xs)
     unfolding Tiles
     goes-on p x xs e t =
         let m = t .0 in
@@ -73,13 +59,13 @@ module _ (alike : ℕ → Bool) (count : ℕ → ℕ) where
           t .1,
         )
 
-    longer : (t : Bool) (p : ℕ) (xs : List Stretch) → alike (p - 1) ≡ t → a ≤ p → Tiles a p xs → Tiles a (suc p) (extended t p (count p) xs)
+    longer : (t : Bool) (p : ℕ) (xs : List Stretch) → alike (p - 1) ≡ t → a ≤ p → Tiles alike count a p xs → Tiles alike count a (suc p) (extended t p (count p) xs)
     unfolding extended Tiles
     longer t p [] e h g = begins p [] h (λ k. absurd (omega arith)) g
     longer true p (x ∷ xs) e h g = goes-on p x xs e g
     longer false p (x ∷ xs) e h g = begins p (x ∷ xs) h (λ k. e) g
 
-    pub tiles : (b : ℕ) → Tiles a b (stretchesAt alike count a b)
+    pub tiles : (b : ℕ) → Tiles alike count a b (stretchesAt alike count a b)
     unfolding stretchesAt Tiles
     tiles zero = omega arith
     tiles (suc p) =
@@ -89,7 +75,7 @@ module _ (alike : ℕ → Bool) (count : ℕ → ℕ) where
         ]
 
   -- one of two stretches that end a range does not begin before the other
-  not-before : (a b : ℕ) (x y : Stretch) → Maximal a b x → Maximal a b y → x .start < y .start → ⊥
+  not-before : (a b : ℕ) (x y : Stretch) → Maximal alike count a b x → Maximal alike count a b y → x .start < y .start → ⊥
   not-before a b x y m n h =
       let i = m .inside in
       let l = m .last in
@@ -97,7 +83,7 @@ module _ (alike : ℕ → Bool) (count : ℕ → ℕ) where
       let s = n .some in
       false≢true (sym (n .begun (omega arith)) ∙ m .one (y .start - 1) (omega arith) (omega arith))
 
-  pub only-one : (a b : ℕ) (xs ys : List Stretch) → Tiles a b xs → Tiles a b ys → xs ≡ ys
+  pub only-one : (a b : ℕ) (xs ys : List Stretch) → Tiles alike count a b xs → Tiles alike count a b ys → xs ≡ ys
   unfolding Tiles
   only-one a b [] [] t u = refl
   only-one a b [] (y ∷ ys) t u = let i = u .0 .inside in let l = u .0 .last in let s = u .0 .some in absurd (omega arith)
@@ -125,10 +111,6 @@ same-length [] [] e = refl
 same-length [] (y ∷ ys) e = absurd (false≢true e)
 same-length (x ∷ xs) [] e = absurd (false≢true e)
 same-length (x ∷ xs) (y ∷ ys) e = omega (arith, same-length xs ys (rest-same (sameId (idOf x) (idOf y)) (sameMarks xs ys) e))
-
--- its stretches over a range
-abbrev pub TilesOver : ℕ → ℕ → View → List Stretch → Type 0
-TilesOver a b v = Tiles (λ p. sameMarks (v .at p) (v .at (suc p))) (λ p. length (v .at p)) a b
 
 pub stretches-tile : (a b : ℕ) (v : View) → TilesOver a b v (stretchesOver a b v)
 stretches-tile a b v = tiles _ _ (λ p. same-length (v .at p) (v .at (suc p))) a b

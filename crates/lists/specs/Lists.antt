@@ -1,7 +1,8 @@
 -- Document 01, "Questions and lists": the stretches of a range and of the whole tank, from the positions.
-use Prim.Native.Nat.{ℕ}
-use mathlib.Core.Bool.{cond}
-use mathlib.Core.List.{List, []}
+use Prim.Native.Nat.{ℕ, suc, _-_, _≤_, _<_}
+use mathlib.Core.Path.{_≡_}
+use mathlib.Core.Bool.{Bool, true, false, cond}
+use mathlib.Core.List.{List, [], _∷_}
 use lib.Dec.{ltb, leb, eqb}
 use lib.ListN.{length}
 use Rattle.runs.specs.Positions.{Stretch, stretchesAt, asNumbers}
@@ -9,9 +10,29 @@ use Rattle.lists.specs.declared.Listed.{Listed}
 use Rattle.tank.specs.Rules.{View, alike}
 
 -- the maximal stretches of neighbouring positions of a .. b with equal sets, clipped to it, each with its count of marks: a position more
--- lengthens the last stretch where its marks are those of the position before it, and begins one otherwise
+-- lengthens the last stretch where its marks are those of the position before it, and begins one otherwise. It is the one list that tiles
+-- the range with maximal stretches: the laws `stretches-tile` and `stretches-only`
 abbrev pub stretchesOver : ℕ → ℕ → View → List Stretch
 stretchesOver a b v = stretchesAt (alike (v .at)) (λ p. length (v .at p)) a b
+
+-- x is the last maximal stretch of a .. b, clipped to it: neighbouring positions with equal sets and as many marks each, which begin where
+-- the range does or where the set changes; `equal p` says that p and p + 1 have equal sets, `count p` how many marks p has
+pub record Maximal (equal : ℕ → Bool) (count : ℕ → ℕ) (a b : ℕ) (x : Stretch) : Type 0 where
+  pub last : x .end ≡ b
+  pub inside : a ≤ x .start
+  pub some : x .start < x .end
+  pub one : (p : ℕ) → x .start ≤ p → suc p < x .end → equal p ≡ true
+  pub counted : (p : ℕ) → x .start ≤ p → p < x .end → count p ≡ x .marks
+  pub begun : a < x .start → equal (x .start - 1) ≡ false
+
+-- maximal stretches, the last first, that leave no position of a .. b out: each ends where the one after it begins; an empty range has none
+unfoldable pub Tiles : (ℕ → Bool) → (ℕ → ℕ) → ℕ → ℕ → List Stretch → Type 0
+Tiles equal count a b [] = b ≤ a
+Tiles equal count a b (x ∷ xs) = Maximal equal count a b x × Tiles equal count a (x .start) xs
+
+-- the stretches tile a tank's positions a .. b, by the marks at each
+abbrev pub TilesOver : ℕ → ℕ → View → List Stretch → Type 0
+TilesOver a b v = Tiles (alike (v .at)) (λ p. length (v .at p)) a b
 
 -- the stretches over a .. b, unmarked ones included: start, end, count of marks of each in order
 unfoldable pub rangeList : ℕ → ℕ → View → List ℕ

@@ -5,7 +5,7 @@ ghost use Prim.Native.Nat.{_+_, _<_, _≤_};
 ghost use Rattle.styles.specs.Marks.{blank};
 ghost use Rattle.lists.specs.Anchors.{lackingBits, anchorOf, anchors, anchorsAfter, noAnchor, leftAt, rest, Stands, Steps, Follows, Settles};
 ghost use Rattle.lists.specs.Lists.{unlessRefused, answered};
-ghost use Rattle.runs.specs.Lists.{inFront};
+ghost use Rattle.runs.specs.Stretches.{inFront};
 ghost use Rattle.tank.specs.State.{view, Sound};
 use super::Listed;
 use richtext::AnchorType;

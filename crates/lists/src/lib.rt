@@ -4,7 +4,7 @@ pub mod anchors; // anchors.rt: where marks start and end
 ghost use mathlib.Core.Path.{_≡_};
 ghost use lib.ListN.{length};
 ghost use Rattle.lists.specs.Lists.{rangeList, wholeList, rangeNeeded, rangeNumber, wholeNumber, unlessRefused, answered};
-ghost use Rattle.runs.specs.Lists.{inFront};
+ghost use Rattle.runs.specs.Stretches.{inFront};
 ghost use Rattle.tank.specs.State.{view, Sound};
 use tank::Tank;
 

@@ -13,7 +13,7 @@ use lib.ListN.{length, getD, set, take, drop, length-append, length-drop}
 use lib.Seq.{sets-eq, take-at, drop-append-add, drop-drop}
 use Rattle.runs.specs.Runs.{Run, run, runs, total}
 use Rattle.runs.specs.Positions.{stretch, asNumbers}
-use Rattle.runs.specs.Lists.{clipped, entry, inFront, listed}
+use Rattle.runs.specs.Stretches.{clipped, entry, inFront, listed}
 
 -- ---- the numbers of one run
 pub entry-past : (least a b c : ℕ) → b ≤ a → entry least a b c ≡ []

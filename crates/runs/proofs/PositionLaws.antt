@@ -11,7 +11,7 @@ use lib.Count.{ones}
 use lib.Dec.{eqb}
 use Rattle.runs.specs.Runs.{Run, total, setAt, Other, Canon}
 use Rattle.runs.specs.Positions.{Stretch, stretch, extended, stretchesAt}
-use Rattle.runs.specs.Lists.{clipped}
+use Rattle.runs.specs.Stretches.{clipped}
 use Rattle.runs.proofs.Laws.{at-in, at-last}
 use Rattle.runs.proofs.StretchLaws.{alikeIn}
 

@@ -14,7 +14,7 @@ use Rattle.runs.specs.Gather.{gather, Renumbered}
 use Rattle.runs.specs.Positions.{anyAt, allAt, stretchTo, starts, stretches, stretch, extended, stretchesAt, asNumbers}
 use Rattle.runs.specs.Scan.{meets, topIn, shows, passes, commonAt, walked}
 use Rattle.runs.specs.Count.{tallyOf}
-use Rattle.runs.specs.Lists.{clipped, entry, inFront, listed}
+use Rattle.runs.specs.Stretches.{clipped, entry, inFront, listed}
 use Rattle.runs.proofs.MapLaws.{AllSets}
 use Rattle.runs.proofs.StretchLaws.{alikeIn}
 use Rattle.runs.proofs.PositionLaws.{marksIn}

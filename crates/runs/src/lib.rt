@@ -93,6 +93,7 @@ pub fn copy(
     at
 }
 
+// A run by its number, and the position that it starts at.
 pub struct Place {
     pub index: usize,
     pub start: u64,

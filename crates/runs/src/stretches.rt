@@ -6,7 +6,7 @@ ghost use Prim.Native.Nat.{_+_, _≤_, _<_};
 ghost use lib.Count.{ones};
 ghost use lib.ListN.{length, take, drop};
 ghost use Rattle.runs.specs.Count.{CanTally};
-ghost use Rattle.runs.specs.Lists.{entry, inFront, listed, CanList};
+ghost use Rattle.runs.specs.Stretches.{entry, inFront, listed, CanList};
 use super::later;
 use super::sooner;
 

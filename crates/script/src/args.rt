@@ -1,3 +1,4 @@
+// The mark and the identity that a call which was read whole speaks of.
 ghost use mathlib.Core.Path.{_≡_};
 ghost use Prim.Native.Nat.{_%_, _^_};
 ghost use Rattle.script.specs.Args.{markOf, identityOf};

@@ -1,3 +1,4 @@
+// Which fields an op has, in their order, and what the line of each gives.
 ghost use mathlib.Core.Path.{_≡_};
 ghost use Rattle.script.specs.Grammar.{fieldsOf, fieldAt, padded, holdsOf, progressOf};
 use super::Field;

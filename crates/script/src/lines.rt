@@ -1,3 +1,4 @@
+// Bytes, however they are cut, to lines, and lines to calls; a reader stands for what came so far.
 ghost use mathlib.Core.Path.{_≡_};
 ghost use mathlib.Core.List.{[]};
 ghost use Prim.Native.Nat.{_+_, _≤_, _<_, min};

@@ -1,3 +1,4 @@
+// How ops, fields and kinds are spelled, for reading and for writing.
 ghost use mathlib.Core.Path.{_≡_};
 ghost use Prim.Native.Nat.{_≤_};
 ghost use lib.ListN.{length};

@@ -1,3 +1,4 @@
+// What one line, without its newline, makes of the call that is being read.
 ghost use mathlib.Core.Path.{_≡_};
 ghost use mathlib.Core.List.{[], _∷_};
 ghost use Prim.Native.Nat.{_+_, _<_};

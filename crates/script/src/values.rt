@@ -1,3 +1,4 @@
+// A decimal's 64 bits and back, with one NaN for all.
 ghost use mathlib.Core.Path.{_≡_};
 ghost use lib.Ieee.{toBits, ofBits, binary64};
 

@@ -1,3 +1,4 @@
+// Answers put line by line into a buffer, and written out where its room runs short.
 ghost use mathlib.Core.Path.{_≡_};
 ghost use Prim.Native.Nat.{_+_, _≤_};
 ghost use lib.ListN.{length};

@@ -1,7 +1,6 @@
 // Reads a call script to its end and prints each call again from what was read of it; a bad line, or an end in the middle
 // of a line or a group, ends the run with its number.
 ghost use Prim.Native.Nat.{_+_, _≤_, _<_};
-ghost use mathlib.Core.Path.{_≡_};
 ghost use lib.ListN.{length};
 use script::Call;
 use script::Ending;

@@ -15,6 +15,7 @@ use styles::Identity;
 use styles::Mark;
 use styles::Styles;
 
+// The first `runs` places of `lens` and `sets` are the runs, a length and a set of bits each; the first `marks` of the table are the marks.
 pub struct Tank {
     pub touched: bool,
     pub length: u64,

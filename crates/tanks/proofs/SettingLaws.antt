@@ -48,11 +48,6 @@ pub fit-more : (st : List Setting) (n : ℕ) → fit st (n + 1) ≡ (fit st n &&
 unfolding fit
 fit-more st n = rw add-one
 
-pub fit-all : (st : List Setting) (n : ℕ) → ((u : ℕ) → u < n → fits (getD st u noSetting) ≡ true) → fit st n ≡ true
-unfolding fit
-fit-all st zero h = refl
-fit-all st (suc n) h = rw (fit-all st n (λ u l. h u (omega arith)), h n (omega arith))
-
 -- one that does not fit spoils all
 pub fit-not : (st : List Setting) (n u : ℕ) → u < n → fits (getD st u noSetting) ≡ false → fit st n ≡ false
 unfolding fit

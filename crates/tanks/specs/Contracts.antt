@@ -18,7 +18,7 @@ use Rattle.tanks.specs.declared.Performed.{Performed}
 use Rattle.tanks.specs.declared.Done.{Done}
 use Rattle.tanks.specs.declared.Count.{Count}
 use Rattle.tanks.specs.declared.YesNo.{YesNo}
-use Rattle.tanks.specs.Settings.{accepted, shareOf, limitOf, judgement}
+use Rattle.tanks.specs.Settings.{accepted, shareOf, limitOf}
 use Rattle.tanks.specs.House.{House, openNumber, opening, refusalAt, afterAt, setInserted, firstRemoved}
 use Rattle.tanks.specs.Pool.{runsIn, tankOf, meaning, Sound}
 
@@ -71,31 +71,33 @@ editOf (code.Edit.Insert pos len) = inserting pos len
 editOf (code.Edit.Delete start end) = deleting start end
 editOf (code.Edit.Remove id last) = removing id last
 
--- what stands beside the number of one tank's own call: the set of an insertion, the first position of a removal
+-- what stands beside the number of one tank's own call: the set of an insertion; empty beside any other edit
 abbrev pub setBeside : Edit → View → List Mark
 setBeside (annotating a b m) v = []
 setBeside (inserting pos len) v = insertedSet pos len v
 setBeside (deleting a b) v = []
 setBeside (removing id last) v = []
 
+-- and the first position of a removal; 0 beside any other edit
 abbrev pub firstBeside : Edit → View → ℕ
 firstBeside (annotating a b m) v = 0
 firstBeside (inserting pos len) v = 0
 firstBeside (deleting a b) v = 0
 firstBeside (removing id last) v = removedFirst id last v
 
--- and beside that of a call on one of eight
-abbrev pub setAt : House → ℕ → Edit → List Mark
-setAt h t (annotating a b m) = []
-setAt h t (inserting pos len) = setInserted h t pos len
-setAt h t (deleting a b) = []
-setAt h t (removing id last) = []
+-- what stands beside the number of a call on tank t of the eight: the set of an insertion; empty beside any other edit
+abbrev pub setAnswer : House → ℕ → Edit → List Mark
+setAnswer h t (annotating a b m) = []
+setAnswer h t (inserting pos len) = setInserted h t pos len
+setAnswer h t (deleting a b) = []
+setAnswer h t (removing id last) = []
 
-abbrev pub firstAt : House → ℕ → Edit → ℕ
-firstAt h t (annotating a b m) = 0
-firstAt h t (inserting pos len) = 0
-firstAt h t (deleting a b) = 0
-firstAt h t (removing id last) = firstRemoved h t id last
+-- and the first position of a removal; 0 beside any other edit
+abbrev pub firstAnswer : House → ℕ → Edit → ℕ
+firstAnswer h t (annotating a b m) = 0
+firstAnswer h t (inserting pos len) = 0
+firstAnswer h t (deleting a b) = 0
+firstAnswer h t (removing id last) = firstRemoved h t id last
 
 -- what an edit of a tank taken out hands back
 pub record PerformedAs (e : Edit) (x : Tank) (r : Performed) : Type 0 where
@@ -106,5 +108,5 @@ pub record PerformedAs (e : Edit) (x : Tank) (r : Performed) : Type 0 where
 -- what an edit of tank t hands back
 pub record DoneAt (s : Tanks) (t : ℕ) (e : Edit) (r : Done) : Type 0 where
   pub called : CalledAt s t e (r .number) (r .tanks)
-  pub styles-are : r .styles ≡ stylesOf (setAt (meaning s) t e)
-  pub first-is : r .first ≡ firstAt (meaning s) t e
+  pub styles-are : r .styles ≡ stylesOf (setAnswer (meaning s) t e)
+  pub first-is : r .first ≡ firstAnswer (meaning s) t e

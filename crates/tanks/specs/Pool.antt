@@ -26,6 +26,7 @@ noRun = record { len = 0; set = 0 }
 abbrev pub noHead : Head
 noHead = record { touched = false; length = 0; runs = 0; marks = 0 }
 
+-- and for its marks: a table with none
 abbrev pub noTable : Table
 noTable = record { marks = [] }
 
@@ -55,6 +56,7 @@ tankIn hs pool table t = record {
   table = table .marks;
 }
 
+-- tank t of a state, on its own
 unfoldable pub tankOf : Tanks → ℕ → Tank
 tankOf s t = tankIn (s .heads) (s .pool) (getD (s .tables) t noTable) t
 

@@ -1,6 +1,6 @@
 ghost use mathlib.Core.Path.{_≡_};
 ghost use mathlib.Core.Bool.{cond};
-ghost use Prim.Native.Nat.{_+_, _-_, _*_, _≤_, _<_, max};
+ghost use Prim.Native.Nat.{_+_, _-_, _≤_, _<_, max};
 ghost use Rattle.tanks.specs.Pool.{before, tankIn, headOf, tableIn, spotsOf};
 use super::Head;
 use super::Run;

@@ -2,7 +2,7 @@
 use mathlib.Core.Path.{refl}
 use lib.ListN.{length}
 use borrow.Author.Needs.{needs}
-use Rattle.runs.specs.Lists.{inFront}
+use Rattle.runs.specs.Stretches.{inFront}
 use Rattle.lists.specs.Lists.{wholeList, wholeNumber, unlessRefused, answered}
 use Rattle.ask.specs.Asks.{noList}
 use Rattle.ask.proofs.AskLaws.{past, inside}

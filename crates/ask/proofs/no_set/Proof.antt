@@ -1,5 +1,4 @@
 -- `no_set` meets its contract.
-use mathlib.Core.Bool.{false}
 use mathlib.Core.Path.{ap}
 use borrow.Author.Needs.{needs}
 use Rattle.styles.specs.declared.Styles.{Styles}

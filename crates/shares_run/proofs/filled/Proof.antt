@@ -1,3 +1,4 @@
+-- `filled` meets its contract. The loop's invariant: the tanks are sound, as each annotate leaves them so; at most 100 turns keep the positions within 64 bits.
 use borrow.Author.Needs.{needs}
 use Prim.Native.Nat.{_-_, _≤_}
 use Rattle.tanks.specs.Pool.{Sound}

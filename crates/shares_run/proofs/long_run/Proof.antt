@@ -1,3 +1,4 @@
+-- `long_run` meets its contract. The loop's invariant: the tanks are sound, as each turn leaves them so.
 use borrow.Author.Needs.{needs}
 use Prim.Native.Nat.{_-_, _≤_}
 use Rattle.tanks.specs.Pool.{Sound}

@@ -1,3 +1,4 @@
+-- `part` meets its contract: a remainder is below what was divided by.
 use borrow.Author.Needs.{needs}
 use Prim.Native.Nat.{_/_, _<_}
 use native.Mathlib.Nat.{mod-lt}

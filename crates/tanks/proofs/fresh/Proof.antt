@@ -1,3 +1,4 @@
+-- `fresh` meets its contract. The loop's invariant: the first u places of the pool are laid with a fresh tank's one run each.
 use borrow.Author.Needs.{needs}
 use native.Mathlib.Omega.{arith}
 use Prim.Native.Nat.{_-_, _≤_}

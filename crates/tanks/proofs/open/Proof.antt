@@ -1,3 +1,4 @@
+-- `open` meets its contract: eight fresh tanks are sound under settings that keep the rule, and eight pairs (1, 1) keep it.
 use borrow.Author.Needs.{needs}
 use mathlib.Core.Path.{sym, _∙_}
 use Rattle.tanks.proofs.OpeningLaws.{opens, opens-2}

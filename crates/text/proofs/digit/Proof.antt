@@ -1,3 +1,4 @@
+-- `digit` meets its contract: a difference in the definition is cut off at 0, and there the code answers 0.
 use native.Mathlib.Omega.{arith}
 use borrow.Author.Needs.{needs}
 use Rattle.text.proofs.Steps.{digit-low, digit-high}

@@ -1,3 +1,4 @@
+-- `number` meets its contract. The loop's invariant: the bytes from i on, read after the number so far, spell what the whole text does.
 use mathlib.Core.Path.{_≡_, sym, _∙_}
 use Prim.Native.Nat.{_-_, _≤_}
 use native.Mathlib.Omega.{arith}

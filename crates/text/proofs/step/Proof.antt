@@ -1,3 +1,4 @@
+-- `step` meets its contract: its three tests are the definition's, the last one asked by a quotient, so that the product and the sum fit.
 use mathlib.Core.Path.{_≡_, sym, ap, _∙_}
 use Prim.Native.Nat.{ℕ}
 use native.Mathlib.Omega.{arith}

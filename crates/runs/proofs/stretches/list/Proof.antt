@@ -8,7 +8,7 @@ use lib.Count.{ones}
 use lib.ListN.{length, getD, take, drop, length-append}
 use Rattle.runs.specs.Runs.{runs, total}
 use Rattle.runs.specs.Positions.{asNumbers}
-use Rattle.runs.specs.Lists.{clipped, entry, inFront, listed, CanList}
+use Rattle.runs.specs.Stretches.{clipped, entry, inFront, listed, CanList}
 use Rattle.runs.proofs.Laws.{total-more, total-mono}
 use Rattle.runs.proofs.ListLaws.{listed-more, listed-grows, front-write, front-length}
 use Rattle.runs.proofs.stretches.list.Statement.{statement}

@@ -9,7 +9,7 @@ use lib.ListN.{length, getD, length-append}
 use Rattle.runs.specs.Runs.{runs, total}
 use Rattle.runs.specs.Count.{CanTally}
 use Rattle.runs.specs.Positions.{asNumbers}
-use Rattle.runs.specs.Lists.{clipped, entry, listed}
+use Rattle.runs.specs.Stretches.{clipped, entry, listed}
 use Rattle.runs.proofs.Laws.{total-more, total-mono}
 use Rattle.runs.proofs.ListLaws.{listed-more, listed-most, entry-most}
 use Rattle.runs.proofs.stretches.need.Statement.{statement}

@@ -5,7 +5,7 @@ use mathlib.Core.List.{[], _∷_}
 use native.Mathlib.Omega.{arith}
 use borrow.Author.Needs.{needs}
 use lib.ListN.{length, length-set}
-use Rattle.runs.specs.Lists.{entry}
+use Rattle.runs.specs.Stretches.{entry}
 use Rattle.runs.proofs.ListLaws.{entry-none, entry-some, write-three, write-none}
 use Rattle.runs.proofs.stretches.write.Statement.{statement}
 use Rattle.runs.proofs.stretches.write.Tie as tie

@@ -1,7 +1,7 @@
 -- The tank is put back run by run; what the loop has written so far is a part of the pool that `puts` says.
 use borrow.Author.Needs.{needs}
 use native.Mathlib.Omega.{arith}
-use Prim.Native.Nat.{ℕ, _+_, _-_, _≤_, _<_}
+use Prim.Native.Nat.{ℕ, _-_, _≤_, _<_}
 use mathlib.Core.Path.{_≡_, refl, sym, ap, _∙_}
 use Rattle.tanks.specs.Settings.{judgement}
 use Rattle.tanks.specs.House.{first}

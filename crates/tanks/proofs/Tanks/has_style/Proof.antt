@@ -1,3 +1,4 @@
+-- `Tanks::has_style` meets its contract: no such tank, or the head's word, which is that of the tank's meaning.
 use borrow.Author.Needs.{needs}
 use Rattle.tanks.specs.declared.YesNo.{YesNo}
 use Rattle.tanks.proofs.AskLaws.{asked-past, asked-in, touched-said}

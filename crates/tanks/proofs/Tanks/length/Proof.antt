@@ -1,3 +1,4 @@
+-- `Tanks::length` meets its contract: no such tank, or the head's length, which is that of the tank's meaning.
 use borrow.Author.Needs.{needs}
 use Rattle.tanks.specs.declared.Count.{Count}
 use Rattle.tanks.proofs.AskLaws.{asked-past, asked-in, length-said}

@@ -1,3 +1,4 @@
+-- `Tanks::runs` meets its contract: no such tank, or the head's count, which in a sound state is that of the maximal stretches.
 use borrow.Author.Needs.{needs}
 use mathlib.Core.Path.{_∙_}
 use Rattle.tanks.specs.declared.Count.{Count}

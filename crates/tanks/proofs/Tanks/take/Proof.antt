@@ -1,3 +1,4 @@
+-- `Tanks::take` meets its contract: what is taken out is tank t, and every tank of a sound state is sound.
 use borrow.Author.Needs.{needs}
 use Rattle.tanks.specs.Pool.{tankOf}
 use Rattle.tanks.proofs.SettingLaws.{sound-held, taken}

@@ -1,3 +1,4 @@
+-- `spots` meets its contract: a tank's runs end no later than those of all eight, so no difference is below 0, and each field is the definition's.
 use borrow.Author.Needs.{needs}
 use native.Mathlib.Omega.{arith}
 use Rattle.tanks.proofs.LaidLaws.{before-next}

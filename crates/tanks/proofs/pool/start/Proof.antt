@@ -1,3 +1,4 @@
+-- `start` meets its contract. The loop's invariant: `at` is how many runs the tanks below u hold; all eight hold at most 512, so it fits.
 use borrow.Author.Needs.{needs}
 use native.Mathlib.Omega.{arith}
 use Prim.Native.Nat.{_-_, _≤_}

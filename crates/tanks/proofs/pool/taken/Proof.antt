@@ -1,3 +1,4 @@
+-- `taken` meets its contract. The loop's invariant: the first i lengths and sets are those of the pool from the tank's place on.
 use borrow.Author.Needs.{needs}
 use native.Mathlib.Omega.{arith}
 use Prim.Native.Nat.{_+_, _-_, _≤_}

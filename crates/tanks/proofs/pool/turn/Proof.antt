@@ -1,3 +1,4 @@
+-- `turn` meets its contract: the definition has the same two cases, and both answer a place below the count.
 use borrow.Author.Needs.{needs}
 use native.Mathlib.Omega.{arith}
 use Rattle.tanks.proofs.pool.turn.Statement.{statement}

@@ -1,3 +1,4 @@
+-- `accepts` meets its contract. The loop's invariant: the first u pairs keep the rule and the sum is that of their shares; each is at most 512, so it fits.
 use borrow.Author.Needs.{needs}
 use native.Mathlib.Omega.{arith}
 use Prim.Native.Nat.{_-_, _*_, _≤_}

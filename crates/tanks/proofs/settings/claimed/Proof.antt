@@ -1,3 +1,4 @@
+-- `claimed` meets its contract. The loop's invariant: the sum is that of what the first u tanks claim; each claims at most 512, so it fits.
 use borrow.Author.Needs.{needs}
 use native.Mathlib.Omega.{arith}
 use Prim.Native.Nat.{ℕ, _-_, _≤_, max}

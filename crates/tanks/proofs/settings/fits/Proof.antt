@@ -1,3 +1,4 @@
+-- `fits` meets its contract: its three tests are the rule's, in the rule's order.
 use borrow.Author.Tests.{le-leb, lt-leb}
 use Rattle.tanks.specs.Pool.{before}
 use Rattle.tanks.proofs.SettingLaws.{fits-last}

@@ -1,3 +1,4 @@
+-- `held_after` meets its contract: the definition has the same two cases.
 use borrow.Author.Tests.{eq-eqb, ne-eqb}
 use Rattle.tanks.proofs.settings.held_after.Statement.{statement}
 use Rattle.tanks.proofs.settings.held_after.Tie as tie

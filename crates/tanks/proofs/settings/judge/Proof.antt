@@ -1,3 +1,4 @@
+-- `judge` meets its contract: 9 is asked before 10 as in the definition, and a count within its limit is small enough for the sum.
 use borrow.Author.Needs.{needs}
 use native.Mathlib.Omega.{arith}
 use mathlib.Core.Path.{sym}

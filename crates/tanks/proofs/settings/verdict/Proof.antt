@@ -1,3 +1,4 @@
+-- `verdict` meets its contract: the tank's own number comes first, and where it is 0 the judgement does.
 use borrow.Author.Needs.{needs}
 use native.Mathlib.Omega.{arith}
 use mathlib.Core.Path.{_≡_}
