@@ -1,3 +1,4 @@
+// Answers as lines.
 ghost use Prim.Native.Nat.{_≤_};
 ghost use lib.ListN.{length};
 use styles::Styles;

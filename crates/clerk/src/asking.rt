@@ -1,3 +1,4 @@
+// Calls that ask for a number, a yes or no, a value, a mark or a set.
 ghost use Prim.Native.Nat.{_≤_};
 ghost use lib.ListN.{length};
 ghost use Rattle.tanks.specs.Pool.{Sound};

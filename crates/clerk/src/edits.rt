@@ -1,3 +1,4 @@
+// Calls that change the state: each is made with the numbers that were read, and answered.
 ghost use Prim.Native.Nat.{_≤_};
 ghost use lib.ListN.{length};
 ghost use Rattle.tanks.specs.Pool.{Sound};

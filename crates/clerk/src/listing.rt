@@ -1,3 +1,4 @@
+// Calls that ask for a list: stretches, the whole tank, anchors, and what they take.
 ghost use Prim.Native.Nat.{_≤_, _<_};
 ghost use lib.ListN.{length};
 ghost use Rattle.tanks.specs.Pool.{Sound};
@@ -170,7 +171,7 @@ fn all_anchors(s: Tanks, tank: u64, count: usize, out: &mut [u8], at: usize) -> 
     put_anchors(out, k, t, c, count)
 }
 
-// The console has room for 32768 records, the most that it lends.
+// The anchors, written one by one as the cursor comes to them: the room that the call names is judged, and nothing is lent.
 fn anchors(s: Tanks, n: [u64; 16], out: &mut [u8], at: usize) -> usize
     requires { ⌜ Sound s ⌝ }
     requires { ⌜ 512 ≤ length (now out) ⌝ }

@@ -31,6 +31,7 @@ pub struct Setting {
     pub limit: u64,
 }
 
+// A tank but for its runs and its marks, which are so many.
 pub struct Head {
     pub touched: bool,
     pub length: u64,
@@ -38,6 +39,7 @@ pub struct Head {
     pub marks: usize,
 }
 
+// So many neighbouring positions with one set of marks, by their bits in the tank's table.
 pub struct Run {
     pub len: u64,
     pub set: u64,
@@ -66,22 +68,26 @@ pub struct Tanks {
     pub pool: [Run; 512],
 }
 
+// What opening hands back: 0 or 2, and the state.
 pub struct Opened {
     pub number: u64,
     pub tanks: Tanks,
 }
 
+// What annotate and delete hand back: 0 or the refusal's number, and the next state.
 pub struct Edited {
     pub number: u64,
     pub tanks: Tanks,
 }
 
+// What insert hands back: beside those the set that the new positions carry, empty where it is refused.
 pub struct Inserted {
     pub number: u64,
     pub styles: Styles,
     pub tanks: Tanks,
 }
 
+// What a removal hands back: beside those the first position of the stretch, 0 where it is refused.
 pub struct Removed {
     pub number: u64,
     pub first: u64,

@@ -1,3 +1,4 @@
+// The tanks of one state: where their runs stand in the pool, and one of them taken out.
 ghost use mathlib.Core.Path.{_≡_};
 ghost use mathlib.Core.Bool.{cond};
 ghost use Prim.Native.Nat.{_+_, _-_, _≤_, _<_, max};

@@ -1,3 +1,4 @@
+// The settings' rule at opening, and the judgement by shares and limits.
 ghost use mathlib.Core.Path.{_≡_};
 ghost use mathlib.Core.Bool.{cond};
 ghost use Prim.Native.Nat.{_<_, max};

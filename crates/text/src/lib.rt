@@ -7,11 +7,13 @@ ghost use Rattle.text.specs.Signed.{plusOf, minusOf, signedOf, sizeOf, s
 ghost use Rattle.text.specs.Starts.{startsOf, sameOf};
 ghost use Rattle.text.specs.Number.{digitOf, stepOf, numberFrom, decimalOf, hexOf, decimalText, hexText, put as putOf};
 
+// A number that was read, or none.
 pub enum Parsed {
     Bad,
     Number(u64),
 }
 
+// A signed number that was read, or none.
 pub enum Signed {
     Bad,
     Number(i64),
