@@ -16,7 +16,7 @@ use compare::tally::Tally;
 use compare::{cases, refusals, text};
 
 const USE: &str = "\
-compare CONSOLE [--quick | --long] [--seeds A..B] [--calls N] [--only CLASS]
+compare CONSOLE [--quick | --long] [--seeds A..B] [--calls N] [--only CLASS | --without CLASS]
 compare --self [--break FAULT] [..]
 
 CONSOLE       the console to compare: call scripts in, answers out
@@ -28,6 +28,8 @@ CONSOLE       the console to compare: call scripts in, answers out
 --calls N     so many calls in a random script, in place of the round's own
 --only CLASS  one class alone: a class of random scripts, or cases, refusals, text,
               exhaust
+--without CLASS
+              all classes but one
 
 It prints how many answers of each kind were compared, and ends with status 0. At the first
 difference it prints the smallest script found, the expected answer and the one that came, and
@@ -42,6 +44,7 @@ struct Round {
     seeds: std::ops::Range<u64>,
     calls: usize,
     only: Option<String>,
+    without: Option<String>,
 }
 
 fn main() -> ExitCode {
@@ -76,7 +79,8 @@ fn options(arguments: Vec<String>) -> Option<Round> {
     let mut rest = arguments.into_iter();
     let mut console = None;
     let mut fault = Vec::new();
-    let (mut long, mut seeds, mut calls, mut only) = (false, None, None, None);
+    let (mut long, mut seeds, mut calls) = (false, None, None);
+    let (mut only, mut without) = (None, None);
     while let Some(word) = rest.next() {
         match word.as_str() {
             "--self" => {
@@ -92,6 +96,7 @@ fn options(arguments: Vec<String>) -> Option<Round> {
             }
             "--calls" => calls = Some(rest.next()?.parse().ok()?),
             "--only" => only = Some(rest.next()?),
+            "--without" => without = Some(rest.next()?),
             path if !path.starts_with('-') => console = Some(PathBuf::from(path)),
             _ => return None,
         }
@@ -102,6 +107,7 @@ fn options(arguments: Vec<String>) -> Option<Round> {
         seeds: seeds.unwrap_or(if long { 1..201 } else { 1..13 }),
         calls: calls.unwrap_or(if long { 800 } else { 300 }),
         only,
+        without,
     })
 }
 
@@ -111,7 +117,10 @@ impl Round {
     fn run(&self) -> Result<Tally, Found> {
         let mut tally = Tally::default();
         let mut part = |name: &str, scripts: &mut dyn Iterator<Item = Script>| {
-            if self.only.as_ref().is_some_and(|only| only != name) {
+            let is = |class: &String| class == name;
+            if self.only.as_ref().is_some_and(|only| !is(only))
+                || self.without.as_ref().is_some_and(is)
+            {
                 return Ok::<(), Found>(());
             }
             let start = Instant::now();
