@@ -18,7 +18,7 @@ use Rattle.tanks.proofs.MeaningLaws.{tank-at}
 use Rattle.lists.specs.declared.Listed.{Listed}
 use Rattle.lists.specs.declared.anchors.Anchor.{Anchor}
 use Rattle.runs.specs.Stretches.{inFront}
-use Rattle.lists.specs.Lists.{listRefusal, unlessRefused, answered}
+use Rattle.lists.specs.Lists.{listRefusal, unlessRefused, filledBeside}
 use Rattle.lists.specs.Anchors.{anchors, anchorsAfter, anchorsNumber}
 use Rattle.lists.proofs.ListLaws.{handed-part, handed-count}
 use Rattle.ask.specs.Asks.{askAt, noList}
@@ -35,16 +35,16 @@ module _ {R : Type 0} (s : Tanks) (t : ℕ) (refused : R) (asks : View → R) wh
 
 -- ---- the part of a buffer that a list filled
 module _ (number : ℕ) (xs out : List ℕ) (r : Listed) (last : List ℕ) where
-  part-by : (b : Bool) → r ≡ cond b noList (answered number xs) → last ≡ cond b out (inFront (unlessRefused number xs) out) → take (r .count) last ≡ cond b [] (unlessRefused number xs)
+  part-by : (b : Bool) → r ≡ cond b noList (filledBeside number xs) → last ≡ cond b out (inFront (unlessRefused number xs) out) → take (r .count) last ≡ cond b [] (unlessRefused number xs)
   part-by true e g = ap (λ (x : Listed). take (x .count) last) e
   part-by false e g = handed-part number xs out r last (e, g)
 
-  count-by : (b : Bool) → r ≡ cond b noList (answered number xs) → last ≡ cond b out (inFront (unlessRefused number xs) out) → r .count ≡ length (take (r .count) last)
+  count-by : (b : Bool) → r ≡ cond b noList (filledBeside number xs) → last ≡ cond b out (inFront (unlessRefused number xs) out) → r .count ≡ length (take (r .count) last)
   count-by true e g = ap (λ (x : Listed). x .count) e ∙ sym (ap length (part-by true e g))
   count-by false e g = handed-count number xs out r last (e, g)
 
 module _ (h : House) (t : ℕ) (number : View → ℕ) (xs : View → List ℕ) (out : List ℕ) (r : Listed) (last : List ℕ)
-    (said : (r ≡ askAt h t noList (λ v. answered (number v) (xs v))) × (last ≡ askAt h t out (λ v. inFront (unlessRefused (number v) (xs v)) out))) where
+    (said : (r ≡ askAt h t noList (λ v. filledBeside (number v) (xs v))) × (last ≡ askAt h t out (λ v. inFront (unlessRefused (number v) (xs v)) out))) where
   pub asked-part : take (r .count) last ≡ askAt h t [] (λ v. unlessRefused (number v) (xs v))
   asked-part = part-by (number (tankAt h t)) (xs (tankAt h t)) out r last (noTank t) (said .0) (said .1)
 
@@ -66,18 +66,18 @@ module _ (s : Tanks) (t : ℕ) {x : Tank} where
 -- what the walk of `iter_anchors` hears of its callee, and what it says
 abbrev pub Said-listed : Tank → ℕ → List Anchor → Listed → List Anchor → Type 0
 Said-listed x n ys r zs =
-    (r ≡ answered (anchorsAfter n (length ys) (view x)) (anchors (view x))) × (zs ≡ inFront (unlessRefused (anchorsAfter n (length ys) (view x)) (anchors (view x))) ys)
+    (r ≡ filledBeside (anchorsAfter n (length ys) (view x)) (anchors (view x))) × (zs ≡ inFront (unlessRefused (anchorsAfter n (length ys) (view x)) (anchors (view x))) ys)
 
 abbrev pub Says-asked : Tanks → ℕ → List Anchor → Listed → List Anchor → Type 0
 Says-asked s t ys r zs =
-    (r ≡ askAt (meaning s) t noList (λ v. answered (anchorsNumber (length ys) v) (anchors v)))
+    (r ≡ askAt (meaning s) t noList (λ v. filledBeside (anchorsNumber (length ys) v) (anchors v)))
     × (zs ≡ askAt (meaning s) t ys (λ v. inFront (unlessRefused (anchorsNumber (length ys) v) (anchors v)) ys))
 
 pub anchors-asked : (s : Tanks) (t n : ℕ) (x : Tank) (ys zs : List Anchor) (r : Listed) → Taken s (tankOr0 t) x → n ≡ askNumber t → Said-listed x n ys r zs → Says-asked s t ys r zs
 unfolding listRefusal
 anchors-asked s t n x ys zs r k e said =
     let number : View → ℕ = anchorsNumber (length ys) in
-    let asks : View → Listed = λ v. answered (number v) (anchors v) in
+    let asks : View → Listed = λ v. filledBeside (number v) (anchors v) in
     let leaves : View → List Anchor = λ v. inFront (unlessRefused (number v) (anchors v)) ys in
     elim (decLt t 8) [
       | yes h ↦

@@ -6,7 +6,7 @@ use mathlib.Core.List.{List, [], _∷_, map}
 use lib.Dec.{eqb}
 use lib.ListN.{length, replicate}
 use Rattle.styles.specs.declared.Mark.{Mark}
-use Rattle.styles.specs.Order.{numbers as order, stands}
+use Rattle.styles.specs.Order.{numbers, stands}
 use Rattle.styles.specs.Marks.{Above, Sorted, member, placeOf, common, sameContent, hasKey, winner}
 use Rattle.styles.specs.Bits.{pick, withBit}
 use Rattle.runs.specs.Runs.{total, setAt, copyRuns, pushRun, joinRun, changing}
@@ -24,7 +24,7 @@ use Rattle.questions.specs.Questions.{yesNo, yesNoRefusal, rangeContainsKey}
 use Rattle.tanks.specs.declared.Setting.{Setting}
 use Rattle.tanks.specs.Settings.{fit, shares, accepted as settingsFit, claims, judgement}
 use Rattle.tanks.specs.House.{House, tankAt, openNumber, noTank, refusalAt, setInserted, firstRemoved}
-use Rattle.tanks.specs.Pool.{numbers}
+use Rattle.tanks.specs.Pool.{tankNumbers}
 use Rattle.tanks.proofs.OnRuns.{Kept, fresh, keptAt, heldOn, viewOn, houseOn, numberAt, allAfter, may, Way, step, steps, Fit, AllFit, all-fresh, opening-on, tank-on, held-on, number-on, after-fit, after-on, step-clear, steps-clear, steps-on}
 use Rattle.ask.specs.Examples.{Answer, refused, accepted, gives, first, reply, answer, marksAt, Look, Looks, winners, Line, given, call, holds, containsKey, wins, anchored, Says, leaves, AllSaid, Case, Holds, AllHold, A, B, C, table}
 use Rattle.ask.proofs.Ranges.{rangeOf, ranges, ranges-at}
@@ -34,7 +34,7 @@ abc : List Mark
 abc = A ∷ B ∷ C ∷ []
 
 sorted : Sorted abc
-unfolding abc Sorted Above stands order
+unfolding abc Sorted Above stands numbers
 sorted = ((refl, (refl, tt)), ((refl, tt), (tt, tt)))
 
 -- ---- what a call answers, by its number and the tank
@@ -66,7 +66,7 @@ unfolding answerOn lookOn abc
 finds st ks (given cs) = given cs
 finds st ks (call t e says look) =
     call t e (answerOn (numberAt st abc ks t e) e (viewOn abc (keptAt ks t))) (lookOn (keptAt (allAfter st abc ks t e) t))
-finds st ks (holds ns sum) = holds (map (heldOn ks) numbers) (claims st (heldOn ks) 8)
+finds st ks (holds ns sum) = holds (map (heldOn ks) tankNumbers) (claims st (heldOn ks) 8)
 finds st ks (containsKey t a b key says) = containsKey t a b key (cond (noTank t) (Refused 1) (rangeContainsKey a b key (viewOn abc (keptAt ks t))))
 finds st ks (wins t key p ws) = wins t key p (winners key p (length ws) (viewOn abc (keptAt ks t)))
 finds st ks (anchored t xs) = anchored t (anchorsOn abc (keptAt ks t .runs))
@@ -126,10 +126,10 @@ module _ (st : List Setting) (w : Way) (f : AllFit abc (w .kept)) where
   line-stands (given cs) m q = let k = steps-on abc sorted st w cs f m in record { says = tt; left = k .0; fits = k .1 }
   line-stands (call t e says look) m q = call-stands t e says look m q
   line-stands (holds ns sum) m q =
-      let a : map (heldOn ks) numbers ≡ ns = cc in
+      let a : map (heldOn ks) tankNumbers ≡ ns = cc in
       let b : claims st (heldOn ks) 8 ≡ sum = cc in
       let e = held-on abc sorted st ks f in
-      record { says = (ap (λ g. map g numbers) e ∙ a, ap (λ g. claims st g 8) e ∙ b); left = refl; fits = f }
+      record { says = (ap (λ g. map g tankNumbers) e ∙ a, ap (λ g. claims st g 8) e ∙ b); left = refl; fits = f }
   line-stands (containsKey t a b key says) m q =
       let r : cond (noTank t) (Refused 1) (rangeContainsKey a b key (viewOn abc (keptAt ks t))) ≡ says = cc in
       record { says = ap (λ v. cond (noTank t) (Refused 1) (rangeContainsKey a b key v)) (tank-on abc sorted st ks t) ∙ r; left = refl; fits = f }
@@ -218,6 +218,6 @@ pub examples : AllHold table
 unfolding table found claimed abc settingsFit fit shares
     numberAt allAfter step steps may judgement claims known numberOn runsAfter touchedAfter ranges rangeOf anchorsOn edges anchorsOf
     altered deleted inserted copyRuns pushRun joinRun changing gather commonAt setAt total
-    pick withBit placeOf member stands order clash sameContent common hasKey winner winners
+    pick withBit placeOf member stands numbers clash sameContent common hasKey winner winners
     refusal empty over long notNumber clashes full forInsert inherited backFrom stretchTo anyAt yesNo yesNoRefusal
 examples = all-hold table refl

@@ -21,7 +21,7 @@ use Rattle.tank.specs.Rules.{View, within, freshLength, runsHeld, Edit, annotat
 use Rattle.tanks.specs.declared.Setting.{Setting}
 use Rattle.tanks.specs.Settings.{claims}
 use Rattle.tanks.specs.House.{House, tankAt, held, openNumber, opening, refusalAt, afterAt, setInserted, firstRemoved, Call, afterAll}
-use Rattle.tanks.specs.Pool.{numbers}
+use Rattle.tanks.specs.Pool.{tankNumbers}
 use Rattle.ask.specs.Asks.{askAt}
 
 -- ---- What an example claims
@@ -91,7 +91,7 @@ unfoldable pub Says : Line → House → Type 0
 unfolding reply winners
 Says (given cs) h = Unit {0}
 Says (call t e says look) h = (answer h t e ≡ says) × Looks look (tankAt (afterAt h t e) t)
-Says (holds ns sum) h = (map (held h) numbers ≡ ns) × (claims (h .settings) (held h) 8 ≡ sum)
+Says (holds ns sum) h = (map (held h) tankNumbers ≡ ns) × (claims (h .settings) (held h) 8 ≡ sum)
 Says (containsKey t a b key says) h = askAt h t (Refused 1) (rangeContainsKey a b key) ≡ says
 Says (wins t key p ws) h = winners key p (length ws) (tankAt h t) ≡ ws
 Says (anchored t xs) h = anchors (tankAt h t) ≡ xs

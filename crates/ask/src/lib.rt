@@ -4,7 +4,7 @@ ghost use mathlib.Core.Bool.{cond, false};
 ghost use mathlib.Core.List.{[]};
 ghost use Prim.Native.Nat.{_<_};
 ghost use lib.ListN.{length};
-ghost use Rattle.lists.specs.Lists.{rangeList, wholeList, rangeNeeded, rangeNumber, wholeNumber, unlessRefused, answered};
+ghost use Rattle.lists.specs.Lists.{rangeList, wholeList, rangeNeeded, rangeNumber, wholeNumber, unlessRefused, filledBeside};
 ghost use Rattle.runs.specs.Stretches.{inFront};
 ghost use Rattle.lists.specs.Anchors.{anchors, anchorsNumber};
 ghost use Rattle.tanks.specs.Contracts.{Taken};
@@ -180,7 +180,7 @@ pub fn stretches_needed(s: Tanks, tank: u64, start: u64, end: u64) -> Listed
 // How many u64 the list of the whole tank takes.
 pub fn whole_needed(s: Tanks, tank: u64) -> Listed
     requires { ⌜ Sound s ⌝ }
-    ensures { λ r. ⌜ r ≡ askAt (meaning s) tank noList (λ v. answered 0 (wholeList v)) ⌝ }
+    ensures { λ r. ⌜ r ≡ askAt (meaning s) tank noList (λ v. filledBeside 0 (wholeList v)) ⌝ }
 {
     if 8 <= tank {
         return no_list();
@@ -191,7 +191,7 @@ pub fn whole_needed(s: Tanks, tank: u64) -> Listed
 // How many anchors the tank has.
 pub fn anchors_needed(s: Tanks, tank: u64) -> Listed
     requires { ⌜ Sound s ⌝ }
-    ensures { λ r. ⌜ r ≡ askAt (meaning s) tank noList (λ v. answered 0 (anchors v)) ⌝ }
+    ensures { λ r. ⌜ r ≡ askAt (meaning s) tank noList (λ v. filledBeside 0 (anchors v)) ⌝ }
 {
     if 8 <= tank {
         return no_list();
@@ -202,7 +202,7 @@ pub fn anchors_needed(s: Tanks, tank: u64) -> Listed
 // The stretches over start .. end, at the front of a lent buffer.
 pub fn list_range(s: Tanks, tank: u64, start: u64, end: u64, out: &mut [u64]) -> Listed
     requires { ⌜ Sound s ⌝ }
-    ensures { λ r. ⌜ r ≡ askAt (meaning s) tank noList (λ v. answered (rangeNumber start end (length (now (out .entry))) v) (rangeList start end v)) ⌝ }
+    ensures { λ r. ⌜ r ≡ askAt (meaning s) tank noList (λ v. filledBeside (rangeNumber start end (length (now (out .entry))) v) (rangeList start end v)) ⌝ }
     ensures { λ r. ⌜ now (out .exit) ≡ askAt (meaning s) tank (now (out .entry)) (λ v. inFront (unlessRefused (rangeNumber start end (length (now (out .entry))) v) (rangeList start end v)) (now (out .entry))) ⌝ }
 {
     if 8 <= tank {
@@ -214,7 +214,7 @@ pub fn list_range(s: Tanks, tank: u64, start: u64, end: u64, out: &mut [u64]) ->
 // The marked stretches of the whole tank, at the front of a lent buffer.
 pub fn list_whole(s: Tanks, tank: u64, out: &mut [u64]) -> Listed
     requires { ⌜ Sound s ⌝ }
-    ensures { λ r. ⌜ r ≡ askAt (meaning s) tank noList (λ v. answered (wholeNumber (length (now (out .entry))) v) (wholeList v)) ⌝ }
+    ensures { λ r. ⌜ r ≡ askAt (meaning s) tank noList (λ v. filledBeside (wholeNumber (length (now (out .entry))) v) (wholeList v)) ⌝ }
     ensures { λ r. ⌜ now (out .exit) ≡ askAt (meaning s) tank (now (out .entry)) (λ v. inFront (unlessRefused (wholeNumber (length (now (out .entry))) v) (wholeList v)) (now (out .entry))) ⌝ }
 {
     if 8 <= tank {
@@ -267,7 +267,7 @@ fn tank_or_first(s: Tanks, tank: u64) -> Tank
 // The tank's anchors, at the front of `out`. Records past the count stay; a refusal writes nothing.
 pub fn iter_anchors(s: Tanks, tank: u64, out: &mut [Anchor]) -> Listed
     requires { ⌜ Sound s ⌝ }
-    ensures { λ r. ⌜ (r ≡ askAt (meaning s) tank noList (λ v. answered (anchorsNumber (length (now (out .entry))) v) (anchors v))) × (now (out .exit) ≡ askAt (meaning s) tank (now (out .entry)) (λ v. inFront (unlessRefused (anchorsNumber (length (now (out .entry))) v) (anchors v)) (now (out .entry)))) ⌝ }
+    ensures { λ r. ⌜ (r ≡ askAt (meaning s) tank noList (λ v. filledBeside (anchorsNumber (length (now (out .entry))) v) (anchors v))) × (now (out .exit) ≡ askAt (meaning s) tank (now (out .entry)) (λ v. inFront (unlessRefused (anchorsNumber (length (now (out .entry))) v) (anchors v)) (now (out .entry)))) ⌝ }
 {
     let t = tank_or_first(s, tank);
     let number = missing(tank);

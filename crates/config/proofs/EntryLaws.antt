@@ -8,11 +8,11 @@ use lib.ListN.{length, length-append, length-replicate, take-append-drop}
 use lib.Seq.{take-append-seam, drop-append-seam, length-take-le}
 use Rattle.config.specs.Names.{holdsColon, zeros}
 use Rattle.config.specs.Table.{Named}
-use Rattle.config.specs.Meaning.{blank, entryOf, nameOf, namedOf, Tidy}
+use Rattle.config.specs.Meaning.{blankEntry, entryOf, nameIn, namedOf, Tidy}
 use Rattle.config.specs.declared.Entry.{Entry}
 use Rattle.config.specs.declared.StyleConfig.{StyleConfig}
 
-pub name-entry : (k : List ℕ) (s : StyleConfig) → nameOf (entryOf k s) ≡ k
+pub name-entry : (k : List ℕ) (s : StyleConfig) → nameIn (entryOf k s) ≡ k
 name-entry k s = take-append-seam k (zeros (32 - length k))
 
 pub tidy-entry : (k : List ℕ) (s : StyleConfig) → length k ≤ 32 → holdsColon k ≡ false → Tidy (entryOf k s)
@@ -24,15 +24,15 @@ tidy-entry k s h c =
       plain = rw (name-entry k s) c;
     }
 
-pub tidy-blank : Tidy blank
+pub tidy-blank : Tidy blankEntry
 unfolding holdsColon
 tidy-blank = record { wide = refl; within = omega arith; rest = refl; plain = refl }
 
 -- a tidy entry is the entry of its name
-pub entry-name : (e : Entry) → Tidy e → entryOf (nameOf e) (e .style) ≡ e
+pub entry-name : (e : Entry) → Tidy e → entryOf (nameIn e) (e .style) ≡ e
 entry-name e t =
-    let l : length (nameOf e) ≡ e .len = length-take-le (e .len) (e .name) (omega arith) in
-    let n : nameOf e ++ zeros (32 - length (nameOf e)) ≡ e .name = rw (l, ← t .rest) (take-append-drop (e .len) (e .name)) in
+    let l : length (nameIn e) ≡ e .len = length-take-le (e .len) (e .name) (omega arith) in
+    let n : nameIn e ++ zeros (32 - length (nameIn e)) ≡ e .name = rw (l, ← t .rest) (take-append-drop (e .len) (e .name)) in
     λ i. record { name = n i; len = l i; style = e .style }
 
 -- two tidy entries of one name and one style are one

@@ -12,59 +12,59 @@ use lib.Seq.{length-take-le, getD-take, getD-drop, getD-set-same, getD-set-other
 use borrow.Author.Tests.{eq-eqb, ne-eqb}
 use Rattle.richtext.specs.Bytes.{same}
 use Rattle.config.specs.Names.{holdsColon}
-use Rattle.config.specs.Table.{Named, Table, find, place, put, refuses, insert, styleFor}
-use Rattle.config.specs.Meaning.{blank, noEntry, entryOf, nameOf, namedOf, styleIn, meaning, entryAt, stored, Tidy, Sound, Means, Inserts}
+use Rattle.config.specs.Table.{Named, Table, find, place, entered, refuses, insert, styleFor}
+use Rattle.config.specs.Meaning.{blankEntry, noEntry, entryOf, nameIn, namedOf, styleIn, configured, entryAt, stored, Tidy, Sound, Means, Inserts}
 use Rattle.config.specs.declared.Entry.{Entry}
 use Rattle.config.specs.declared.MaybeStyle.{MaybeStyle}
 use Rattle.config.specs.declared.MaybeStyle.the-variants.{Style, Nothing}
 use Rattle.config.specs.declared.StyleConfig.{StyleConfig}
 use Rattle.config.specs.declared.StyleConfigMap.{StyleConfigMap}
 use Rattle.config.proofs.EntryLaws.{name-entry, tidy-entry, one-entry}
-use Rattle.config.proofs.TableLaws.{place-step, place-here, place-end, place-le, known-place, find-place, put-place, once-put, refuses-full, accepts-known, accepts-new}
+use Rattle.config.proofs.TableLaws.{place-step, place-here, place-end, place-le, known-place, find-place, entered-place, once-entered, refuses-full, accepts-known, accepts-new}
 
 -- A map's entries, seen through its meaning
 
-pub length-meaning : (m : StyleConfigMap) → Sound m → length (meaning m .entries) ≡ m .count
-length-meaning m s = length-map (take (m .count) (m .entries)) namedOf ∙ length-take-le (m .count) (m .entries) (omega arith)
+pub length-configured : (m : StyleConfigMap) → Sound m → length (configured m .entries) ≡ m .count
+length-configured m s = length-map (take (m .count) (m .entries)) namedOf ∙ length-take-le (m .count) (m .entries) (omega arith)
 
-pub meaning-at : (m : StyleConfigMap) (i : ℕ) → i < m .count → getD (meaning m .entries) i (namedOf noEntry) ≡ namedOf (entryAt m i)
-meaning-at m i h = List·getD-map namedOf (take (m .count) (m .entries)) i noEntry ∙ ap namedOf (getD-take (m .count) (m .entries) i noEntry h)
+pub configured-at : (m : StyleConfigMap) (i : ℕ) → i < m .count → getD (configured m .entries) i (namedOf noEntry) ≡ namedOf (entryAt m i)
+configured-at m i h = List·getD-map namedOf (take (m .count) (m .entries)) i noEntry ∙ ap namedOf (getD-take (m .count) (m .entries) i noEntry h)
 
 module _ (m : StyleConfigMap) (s : Sound m) (k : List ℕ) (i : ℕ) where
   -- an entry of another name is passed, one of this name is the place, and past the count there is none
-  pub place-pass : i < m .count → same (nameOf (entryAt m i)) k ≡ false → place k (drop i (meaning m .entries)) ≡ suc (place k (drop (suc i) (meaning m .entries)))
-  place-pass h e = place-step k (meaning m .entries) i (namedOf noEntry) (rw (length-meaning m s) h) (rw (meaning-at m i h) e)
+  pub place-pass : i < m .count → same (nameIn (entryAt m i)) k ≡ false → place k (drop i (configured m .entries)) ≡ suc (place k (drop (suc i) (configured m .entries)))
+  place-pass h e = place-step k (configured m .entries) i (namedOf noEntry) (rw (length-configured m s) h) (rw (configured-at m i h) e)
 
-  pub place-stop : i < m .count → same (nameOf (entryAt m i)) k ≡ true → place k (drop i (meaning m .entries)) ≡ 0
-  place-stop h e = place-here k (meaning m .entries) i (namedOf noEntry) (rw (length-meaning m s) h) (rw (meaning-at m i h) e)
+  pub place-stop : i < m .count → same (nameIn (entryAt m i)) k ≡ true → place k (drop i (configured m .entries)) ≡ 0
+  place-stop h e = place-here k (configured m .entries) i (namedOf noEntry) (rw (length-configured m s) h) (rw (configured-at m i h) e)
 
-  pub place-over : m .count ≤ i → place k (drop i (meaning m .entries)) ≡ 0
-  place-over h = place-end k (meaning m .entries) i (rw (length-meaning m s) h)
+  pub place-over : m .count ≤ i → place k (drop i (configured m .entries)) ≡ 0
+  place-over h = place-end k (configured m .entries) i (rw (length-configured m s) h)
 
 module _ (m : StyleConfigMap) (s : Sound m) (k : List ℕ) where
   -- the style of a name is that of the entry at its place, or the default
-  pub style-known : place k (meaning m .entries) < m .count → styleFor k (meaning m) ≡ some (entryAt m (place k (meaning m .entries)) .style)
+  pub style-known : place k (configured m .entries) < m .count → styleFor k (configured m) ≡ some (entryAt m (place k (configured m .entries)) .style)
   unfolding orElse
   style-known h =
-      let f : find k (meaning m .entries) ≡ some (getD (meaning m .entries) (place k (meaning m .entries)) (namedOf noEntry) .style) =
-      find-place k (namedOf noEntry) (meaning m .entries) .0 (rw (length-meaning m s) h) in
-      rw (f, meaning-at m (place k (meaning m .entries)) h)
+      let f : find k (configured m .entries) ≡ some (getD (configured m .entries) (place k (configured m .entries)) (namedOf noEntry) .style) =
+      find-place k (namedOf noEntry) (configured m .entries) .0 (rw (length-configured m s) h) in
+      rw (f, configured-at m (place k (configured m .entries)) h)
 
-  pub style-default : m .count ≤ place k (meaning m .entries) → styleFor k (meaning m) ≡ styleIn (m .«default_style»)
+  pub style-default : m .count ≤ place k (configured m .entries) → styleFor k (configured m) ≡ styleIn (m .«default_style»)
   unfolding orElse
   style-default h =
-      let f : find k (meaning m .entries) ≡ none = find-place k (namedOf noEntry) (meaning m .entries) .1 (rw (length-meaning m s) h) in
+      let f : find k (configured m .entries) ≡ none = find-place k (namedOf noEntry) (configured m .entries) .1 (rw (length-configured m s) h) in
       rw f
 
 -- One meaning, one map
 
 -- a place past the count is blank
-spare-at : (m : StyleConfigMap) → Sound m → (i : ℕ) → m .count ≤ i → i < 32 → entryAt m i ≡ blank
+spare-at : (m : StyleConfigMap) → Sound m → (i : ℕ) → m .count ≤ i → i < 32 → entryAt m i ≡ blankEntry
 spare-at m s i h l =
     let e : m .count + (i - m .count) ≡ i = omega arith in
     let k : i - m .count < 32 - m .count = omega arith in
     rw (← e)
-    (sym (getD-drop (m .count) (m .entries) (i - m .count) noEntry) ∙ rw (s .rest) (getD-replicate (32 - m .count) (i - m .count) blank noEntry k))
+    (sym (getD-drop (m .count) (m .entries) (i - m .count) noEntry) ∙ rw (s .rest) (getD-replicate (32 - m .count) (i - m .count) blankEntry noEntry k))
 
 one-default : (a b : MaybeStyle) → styleIn a ≡ styleIn b → a ≡ b
 one-default (Style s) (Style t) e = cc
@@ -72,14 +72,14 @@ one-default (Style s) Nothing e = cc
 one-default Nothing (Style t) e = cc
 one-default Nothing Nothing e = refl
 
-pub one-map : (m n : StyleConfigMap) → Sound m → Sound n → meaning m ≡ meaning n → m ≡ n
+pub one-map : (m n : StyleConfigMap) → Sound m → Sound n → configured m ≡ configured n → m ≡ n
 one-map m n s t e =
-    let c : m .count ≡ n .count = sym (length-meaning m s) ∙ (ap (λ (x : Table). length (x .entries)) e ∙ length-meaning n t) in
+    let c : m .count ≡ n .count = sym (length-configured m s) ∙ (ap (λ (x : Table). length (x .entries)) e ∙ length-configured n t) in
     let entry : (i : ℕ) → i < length (m .entries) → entryAt m i ≡ entryAt n i = λ i h.
     elim (decLt i (m .count)) [
       | yes k ↦
           one-entry (entryAt m i) (entryAt n i) (s .tidy i (omega arith)) (t .tidy i (omega arith))
-          (sym (meaning-at m i k) ∙ (ap (λ (x : Table). getD (x .entries) i (namedOf noEntry)) e ∙ meaning-at n i (omega arith)))
+          (sym (configured-at m i k) ∙ (ap (λ (x : Table). getD (x .entries) i (namedOf noEntry)) e ∙ configured-at n i (omega arith)))
       | no k ↦ spare-at m s i (omega arith) (omega arith) ∙ sym (spare-at n t i (omega arith) (omega arith))
     ] in
     let es : m .entries ≡ n .entries = ext-getD noEntry (m .entries) (n .entries) (omega arith) entry in
@@ -114,10 +114,10 @@ tidy-set es at e h t f i l =
     ]
 
 -- the places after the count stay blank, with one entry more or not
-rest-known : (es : List Entry) (n at : ℕ) (e : Entry) → at < n → drop n es ≡ replicate (32 - n) blank → drop n (set es at e) ≡ replicate (32 - n) blank
+rest-known : (es : List Entry) (n at : ℕ) (e : Entry) → at < n → drop n es ≡ replicate (32 - n) blankEntry → drop n (set es at e) ≡ replicate (32 - n) blankEntry
 rest-known es n at e h r = drop-set-lt n es at e h ∙ r
 
-rest-new : (es : List Entry) (n : ℕ) (e : Entry) → n < 32 → drop n es ≡ replicate (32 - n) blank → drop (n + 1) (set es n e) ≡ replicate (32 - (n + 1)) blank
+rest-new : (es : List Entry) (n : ℕ) (e : Entry) → n < 32 → drop n es ≡ replicate (32 - n) blankEntry → drop (n + 1) (set es n e) ≡ replicate (32 - (n + 1)) blankEntry
 rest-new es n e h r =
     let l : 32 - n ≡ suc (32 - (n + 1)) = omega arith in
     drop-set-lt (n + 1) es n e (omega arith) ∙ (sym (drop-drop 1 n es) ∙ (rw (r, l)))
@@ -125,10 +125,10 @@ rest-new es n e h r =
 module _ (m : StyleConfigMap) (s : Sound m) (k : List ℕ) (v : StyleConfig) (short : length k ≤ 32) (plain : holdsColon k ≡ false) where
   -- what an accepted insertion comes to, at whatever place and count
   placed : (at n : ℕ) → at < 32 → n ≤ 32
-      → map namedOf (take n (set (m .entries) at (entryOf k v))) ≡ put k v (meaning m .entries)
-      → drop n (set (m .entries) at (entryOf k v)) ≡ replicate (32 - n) blank
-      → refuses k (meaning m) ≡ false
-      → Means (insert k v (meaning m)) (record { entries = set (m .entries) at (entryOf k v); count = n; «default_style» = m .«default_style» })
+      → map namedOf (take n (set (m .entries) at (entryOf k v))) ≡ entered k v (configured m .entries)
+      → drop n (set (m .entries) at (entryOf k v)) ≡ replicate (32 - n) blankEntry
+      → refuses k (configured m) ≡ false
+      → Means (insert k v (configured m)) (record { entries = set (m .entries) at (entryOf k v); count = n; «default_style» = m .«default_style» })
   placed at n h f a rest r =
       record {
         sound =
@@ -137,21 +137,21 @@ module _ (m : StyleConfigMap) (s : Sound m) (k : List ℕ) (v : StyleConfig) (sh
               within = f;
               tidy = tidy-set (m .entries) at (entryOf k v) (omega arith) (tidy-entry k v short plain) (s .tidy);
               rest = rest;
-              names = rw a (once-put k v (meaning m .entries) (s .names));
+              names = rw a (once-entered k v (configured m .entries) (s .names));
             };
         means = rw r (λ i. record { entries = a i; default = styleIn (m .«default_style») });
       }
 
   -- at the place of a known name
-  stored-known : place k (meaning m .entries) < m .count → Inserts m k v (record { refusal = 0; map = stored m (place k (meaning m .entries)) (entryOf k v) })
+  stored-known : place k (configured m .entries) < m .count → Inserts m k v (record { refusal = 0; map = stored m (place k (configured m .entries)) (entryOf k v) })
   stored-known h =
-      let at : ℕ = place k (meaning m .entries) in
-      let es : List Named = meaning m .entries in
-      let l : length es ≡ m .count = length-meaning m s in
-      let a : map namedOf (take (m .count) (set (m .entries) at (entryOf k v))) ≡ put k v es =
+      let at : ℕ = place k (configured m .entries) in
+      let es : List Named = configured m .entries in
+      let l : length es ≡ m .count = length-configured m s in
+      let a : map namedOf (take (m .count) (set (m .entries) at (entryOf k v))) ≡ entered k v es =
       rw (take-set-lt (m .count) (m .entries) at (entryOf k v) h, map-set namedOf (take (m .count) (m .entries)) at (entryOf k v), named-entry k v)
-      (sym (put-place k v es .0 (omega arith))) in
-      let r : refuses k (meaning m) ≡ false = accepts-known k (meaning m) short plain (known-place k es .0 (omega arith)) in
+      (sym (entered-place k v es .0 (omega arith))) in
+      let r : refuses k (configured m) ≡ false = accepts-known k (configured m) short plain (known-place k es .0 (omega arith)) in
       record {
         refusal = rw r;
         map =
@@ -160,14 +160,14 @@ module _ (m : StyleConfigMap) (s : Sound m) (k : List ℕ) (v : StyleConfig) (sh
       }
 
   -- after the last entry
-  stored-new : place k (meaning m .entries) ≡ m .count → m .count < 32 → Inserts m k v (record { refusal = 0; map = stored m (m .count) (entryOf k v) })
+  stored-new : place k (configured m .entries) ≡ m .count → m .count < 32 → Inserts m k v (record { refusal = 0; map = stored m (m .count) (entryOf k v) })
   stored-new h f =
-      let es : List Named = meaning m .entries in
-      let l : length es ≡ m .count = length-meaning m s in
-      let a : map namedOf (take (m .count + 1) (set (m .entries) (m .count) (entryOf k v))) ≡ put k v es =
+      let es : List Named = configured m .entries in
+      let l : length es ≡ m .count = length-configured m s in
+      let a : map namedOf (take (m .count + 1) (set (m .entries) (m .count) (entryOf k v))) ≡ entered k v es =
       rw (add-one (m .count), take-suc-set (m .entries) (m .count) (entryOf k v) (omega arith), map-last namedOf (take (m .count) (m .entries)) (entryOf k v), named-entry k v)
-      (sym (put-place k v es .1 (omega arith))) in
-      let r : refuses k (meaning m) ≡ false = accepts-new k (meaning m) short plain (known-place k es .1 (omega arith)) (omega arith) in
+      (sym (entered-place k v es .1 (omega arith))) in
+      let r : refuses k (configured m) ≡ false = accepts-new k (configured m) short plain (known-place k es .1 (omega arith)) (omega arith) in
       record {
         refusal = rw r;
         map =
@@ -176,22 +176,22 @@ module _ (m : StyleConfigMap) (s : Sound m) (k : List ℕ) (v : StyleConfig) (sh
       }
 
   -- a name with a place among the 32 is accepted
-  pub accepted : place k (meaning m .entries) < 32 → Inserts m k v (record { refusal = 0; map = stored m (place k (meaning m .entries)) (entryOf k v) })
+  pub accepted : place k (configured m .entries) < 32 → Inserts m k v (record { refusal = 0; map = stored m (place k (configured m .entries)) (entryOf k v) })
   accepted h =
-      elim (decLt (place k (meaning m .entries)) (m .count)) [
+      elim (decLt (place k (configured m .entries)) (m .count)) [
         | yes p ↦ stored-known p
         | no p ↦
-            let e : place k (meaning m .entries) ≡ m .count = omega (arith, place-le k (meaning m .entries), length-meaning m s) in
+            let e : place k (configured m .entries) ≡ m .count = omega (arith, place-le k (configured m .entries), length-configured m s) in
             rw e (stored-new e (omega arith))
       ]
 
 -- a name without a place among the 32 is refused
-pub full : (m : StyleConfigMap) → Sound m → (k : List ℕ) → 32 ≤ place k (meaning m .entries) → refuses k (meaning m) ≡ true
+pub full : (m : StyleConfigMap) → Sound m → (k : List ℕ) → 32 ≤ place k (configured m .entries) → refuses k (configured m) ≡ true
 full m s k h =
-    let es : List Named = meaning m .entries in
-    let l : length es ≡ m .count = length-meaning m s in
-    refuses-full k (meaning m) (known-place k es .1 (omega arith)) (omega (arith, place-le k es))
+    let es : List Named = configured m .entries in
+    let l : length es ≡ m .count = length-configured m s in
+    refuses-full k (configured m) (known-place k es .1 (omega arith)) (omega (arith, place-le k es))
 
 -- a refused insertion hands back the map as it was
-pub refused : (m : StyleConfigMap) → Sound m → (k : List ℕ) (v : StyleConfig) → refuses k (meaning m) ≡ true → Inserts m k v (record { refusal = 19; map = m })
+pub refused : (m : StyleConfigMap) → Sound m → (k : List ℕ) (v : StyleConfig) → refuses k (configured m) ≡ true → Inserts m k v (record { refusal = 19; map = m })
 refused m s k v r = record { refusal = rw r; map = record { sound = s; means = rw r } }

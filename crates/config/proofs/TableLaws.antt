@@ -11,7 +11,7 @@ use borrow.Author.Tests.{le-leb, lt-leb, lt-ltb, le-ltb}
 use Rattle.richtext.specs.Bytes.{same}
 use Rattle.richtext.proofs.Same.{same-true, same-flip}
 use Rattle.config.specs.Names.{tooLong, holdsColon}
-use Rattle.config.specs.Table.{Named, Table, known, find, place, put, once, refuses}
+use Rattle.config.specs.Table.{Named, Table, known, find, place, entered, once, refuses}
 use Rattle.config.specs.declared.StyleConfig.{StyleConfig}
 
 -- The place of a name
@@ -71,26 +71,26 @@ find-place k d =
     (λ x xs e. ((λ h. rw e), λ h. absurd (omega arith)))
     (λ x xs e r. ((λ h. rw e (r .0 (omega arith))), λ h. rw e (r .1 (omega arith))))
 
-pub put-place : (k : List ℕ) (s : StyleConfig) (es : List Named)
-    → (place k es < length es → put k s es ≡ set es (place k es) (record { name = k; style = s }))
-    × (length es ≤ place k es → put k s es ≡ es ++ (record { name = k; style = s } ∷ []))
-unfolding put
-put-place k s =
+pub entered-place : (k : List ℕ) (s : StyleConfig) (es : List Named)
+    → (place k es < length es → entered k s es ≡ set es (place k es) (record { name = k; style = s }))
+    × (length es ≤ place k es → entered k s es ≡ es ++ (record { name = k; style = s } ∷ []))
+unfolding entered
+entered-place k s =
     place-by
     k
-    (λ es n. (n < length es → put k s es ≡ set es n (record { name = k; style = s })) × (length es ≤ n → put k s es ≡ es ++ (record { name = k; style = s } ∷ [])))
+    (λ es n. (n < length es → entered k s es ≡ set es n (record { name = k; style = s })) × (length es ≤ n → entered k s es ≡ es ++ (record { name = k; style = s } ∷ [])))
     ((λ h. absurd (omega arith)), λ h. refl)
     (λ x xs e. ((λ h. rw e), λ h. absurd (omega arith)))
     (λ x xs e r. ((λ h. rw (e, r .0 (omega arith))), λ h. rw (e, r .1 (omega arith))))
 
 -- Each name once
 
-pub known-put : (j k : List ℕ) (s : StyleConfig) → same k j ≡ false → (es : List Named) → known j (put k s es) ≡ known j es
-unfolding known put
-known-put j k s n =
+pub known-entered : (j k : List ℕ) (s : StyleConfig) → same k j ≡ false → (es : List Named) → known j (entered k s es) ≡ known j es
+unfolding known entered
+known-entered j k s n =
     place-by
     k
-    (λ es i. known j (put k s es) ≡ known j es)
+    (λ es i. known j (entered k s es) ≡ known j es)
     (rw n)
     (λ x xs e. rw (e, same-true (x .name) k e))
     (λ x xs e r. rw (e, r))
@@ -99,17 +99,17 @@ both : (t a : Bool) → cond t false a ≡ true → (t ≡ false) × (a ≡ true
 both true a e = (sym e, cc)
 both false a e = (refl, e)
 
-pub once-put : (k : List ℕ) (s : StyleConfig) (es : List Named) → once es ≡ true → once (put k s es) ≡ true
-unfolding once put known
-once-put k s =
+pub once-entered : (k : List ℕ) (s : StyleConfig) (es : List Named) → once es ≡ true → once (entered k s es) ≡ true
+unfolding once entered known
+once-entered k s =
     place-by
     k
-    (λ es i. once es ≡ true → once (put k s es) ≡ true)
+    (λ es i. once es ≡ true → once (entered k s es) ≡ true)
     (λ h. refl)
     (λ x xs e h. rw e (rw (same-true (x .name) k e) at h))
     (λ x xs e r h.
     let b : (known (x .name) xs ≡ false) × (once xs ≡ true) = both (known (x .name) xs) (once xs) h in
-    rw (e, known-put (x .name) k s (same-flip (x .name) k e) xs, b .0) (r (b .1)))
+    rw (e, known-entered (x .name) k s (same-flip (x .name) k e) xs, b .0) (r (b .1)))
 
 -- Refusals
 

@@ -9,7 +9,7 @@ use Rattle.richtext.specs.Bytes.{same}
 use Rattle.richtext.specs.Flags.{flagOf}
 use Rattle.richtext.specs.declared.ExpandType.the-variants.{Before, After, Both, None}
 use Rattle.config.specs.Names.{holdsColon, cut}
-use Rattle.config.specs.Table.{known, find, put, once, refuses, insert, withDefault}
+use Rattle.config.specs.Table.{known, find, entered, once, refuses, insert, withDefault}
 use Rattle.config.specs.BuiltIn.{growing, bold, link, comment, builtIns, builtIn}
 use Rattle.config.specs.Answers.{getSays, flagSays, unmarkSays}
 
@@ -58,11 +58,11 @@ flag-33 = refl
 
 -- a known name is replaced where it stands, a new one comes last
 replaced : insert bold (record { expand = Both }) (builtIn 1) ≡ record { entries = growing bold Both ∷ []; default = none }
-unfolding holdsColon known put same
+unfolding holdsColon known entered same
 replaced = refl
 
 appended : insert link (record { expand = None }) (builtIn 1) ≡ record { entries = growing bold After ∷ growing link None ∷ []; default = none }
-unfolding holdsColon known put same
+unfolding holdsColon known entered same
 appended = refl
 
 -- a name with a colon is refused

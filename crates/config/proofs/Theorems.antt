@@ -10,16 +10,16 @@ use lib.ListN.{length, getD}
 use Rattle.richtext.specs.Bytes.{same}
 use Rattle.richtext.proofs.Same.{same-refl, same-true}
 use Rattle.config.specs.Names.{holdsColon}
-use Rattle.config.specs.Table.{Named, find, place, put, refuses, styleFor}
+use Rattle.config.specs.Table.{Named, find, place, entered, refuses, styleFor}
 use Rattle.config.specs.Answers.{said, saidFlag, getSays, flagSays, unmarkSays}
-use Rattle.config.specs.Meaning.{noEntry, namedOf, styleIn, meaning, Sound, Inserts}
+use Rattle.config.specs.Meaning.{noEntry, namedOf, styleIn, configured, Sound, Inserts}
 use Rattle.config.specs.declared.Got.{Got}
 use Rattle.config.specs.declared.GotFlag.{GotFlag}
 use Rattle.config.specs.declared.Inserted.{Inserted}
 use Rattle.config.specs.declared.StyleConfig.{StyleConfig}
 use Rattle.config.specs.declared.StyleConfigMap.{StyleConfigMap}
 use Rattle.config.proofs.TableLaws.{place-by}
-use Rattle.config.proofs.MapLaws.{length-meaning, meaning-at, style-default, one-map, one-means}
+use Rattle.config.proofs.MapLaws.{length-configured, configured-at, style-default, one-map, one-means}
 use Rattle.config.proofs.AnswerLaws.{one-said, one-flag}
 
 -- One result each: new, default_rich_text_config, set_default and clear_default by `one-means`; the others here
@@ -30,18 +30,18 @@ one-insert m k s a b p q =
     let e : a .map ≡ b .map = one-means _ (a .map) (b .map) (p .map) (q .map) in
     λ i. record { refusal = n i; map = e i }
 
-pub one-get : (m : StyleConfigMap) (k : List ℕ) (a b : Got) → said a ≡ getSays k (meaning m) → said b ≡ getSays k (meaning m) → a ≡ b
+pub one-get : (m : StyleConfigMap) (k : List ℕ) (a b : Got) → said a ≡ getSays k (configured m) → said b ≡ getSays k (configured m) → a ≡ b
 one-get m k a b p q = one-said a b (p ∙ sym q)
 
-pub one-style-flag : (m : StyleConfigMap) (k : List ℕ) (a b : GotFlag) → saidFlag a ≡ flagSays k (meaning m) → saidFlag b ≡ flagSays k (meaning m) → a ≡ b
+pub one-style-flag : (m : StyleConfigMap) (k : List ℕ) (a b : GotFlag) → saidFlag a ≡ flagSays k (configured m) → saidFlag b ≡ flagSays k (configured m) → a ≡ b
 one-style-flag m k a b p q = one-flag a b (p ∙ sym q)
 
-pub one-unmark-flag : (m : StyleConfigMap) (k : List ℕ) (a b : GotFlag) → saidFlag a ≡ unmarkSays k (meaning m) → saidFlag b ≡ unmarkSays k (meaning m) → a ≡ b
+pub one-unmark-flag : (m : StyleConfigMap) (k : List ℕ) (a b : GotFlag) → saidFlag a ≡ unmarkSays k (configured m) → saidFlag b ≡ unmarkSays k (configured m) → a ≡ b
 one-unmark-flag m k a b p q = one-flag a b (p ∙ sym q)
 
 -- Beside a refusal stands the very table that was handed in
 
-pub refused-same : (m : StyleConfigMap) → Sound m → (k : List ℕ) (s : StyleConfig) (r : Inserted) → Inserts m k s r → refuses k (meaning m) ≡ true → r .map ≡ m
+pub refused-same : (m : StyleConfigMap) → Sound m → (k : List ℕ) (s : StyleConfig) (r : Inserted) → Inserts m k s r → refuses k (configured m) ≡ true → r .map ≡ m
 refused-same m t k s r i e = one-map (r .map) m (i .map .sound) t (rw e at (i .map .means))
 
 -- Names with a colon are never entries: `get` answers the default
@@ -59,31 +59,31 @@ plain-place k d c =
     absurd (omega arith))
     (λ x xs e r h. let l : length xs ≤ place k xs = r (λ i g. h (suc i) (omega arith)) in omega arith)
 
-pub colon-default : (m : StyleConfigMap) → Sound m → (k : List ℕ) → holdsColon k ≡ true → styleFor k (meaning m) ≡ styleIn (m .«default_style»)
+pub colon-default : (m : StyleConfigMap) → Sound m → (k : List ℕ) → holdsColon k ≡ true → styleFor k (configured m) ≡ styleIn (m .«default_style»)
 colon-default m s k c =
-    let l : length (meaning m .entries) ≡ m .count = length-meaning m s in
-    let h : length (meaning m .entries) ≤ place k (meaning m .entries) =
-    plain-place k (namedOf noEntry) c (meaning m .entries) (λ i g. rw (meaning-at m i (omega arith)) (s .tidy i (omega arith) .plain)) in
+    let l : length (configured m .entries) ≡ m .count = length-configured m s in
+    let h : length (configured m .entries) ≤ place k (configured m .entries) =
+    plain-place k (namedOf noEntry) c (configured m .entries) (λ i g. rw (configured-at m i (omega arith)) (s .tidy i (omega arith) .plain)) in
     style-default m s k (omega arith)
 
 -- After an insertion the name has the style, and every other name what it had
 
-pub find-put-same : (k : List ℕ) (s : StyleConfig) (es : List Named) → find k (put k s es) ≡ some s
-unfolding find put
-find-put-same k s =
+pub find-entered-same : (k : List ℕ) (s : StyleConfig) (es : List Named) → find k (entered k s es) ≡ some s
+unfolding find entered
+find-entered-same k s =
     place-by
     k
-    (λ es n. find k (put k s es) ≡ some s)
+    (λ es n. find k (entered k s es) ≡ some s)
     (rw (same-refl k))
     (λ x xs e. rw (e, same-refl k))
     (λ x xs e r. rw (e, e) r)
 
-pub find-put-other : (j k : List ℕ) (s : StyleConfig) → same k j ≡ false → (es : List Named) → find j (put k s es) ≡ find j es
-unfolding find put
-find-put-other j k s n =
+pub find-entered-other : (j k : List ℕ) (s : StyleConfig) → same k j ≡ false → (es : List Named) → find j (entered k s es) ≡ find j es
+unfolding find entered
+find-entered-other j k s n =
     place-by
     k
-    (λ es i. find j (put k s es) ≡ find j es)
+    (λ es i. find j (entered k s es) ≡ find j es)
     (rw n)
     (λ x xs e. rw (e, same-true (x .name) k e, n))
     (λ x xs e r. rw (e, r))

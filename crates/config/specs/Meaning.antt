@@ -18,20 +18,20 @@ use Rattle.config.specs.declared.StyleConfig.{StyleConfig}
 use Rattle.config.specs.declared.StyleConfigMap.{StyleConfigMap}
 
 -- a place that holds no entry
-abbrev pub blank : Entry
-blank = record { name = zeros 32; len = 0; style = record { expand = Before } }
+abbrev pub blankEntry : Entry
+blankEntry = record { name = zeros 32; len = 0; style = record { expand = Before } }
 
 -- the entry of a name: its bytes, then zeros
 abbrev pub entryOf : List ℕ → StyleConfig → Entry
 entryOf k s = record { name = k ++ zeros (32 - length k); len = length k; style = s }
 
 -- the bytes that are its name
-abbrev pub nameOf : Entry → List ℕ
-nameOf e = take (e .len) (e .name)
+abbrev pub nameIn : Entry → List ℕ
+nameIn e = take (e .len) (e .name)
 
 -- its name with its style
 abbrev pub namedOf : Entry → Named
-namedOf e = record { name = nameOf e; style = e .style }
+namedOf e = record { name = nameIn e; style = e .style }
 
 -- the default, where there is one
 abbrev pub styleIn : MaybeStyle → Option StyleConfig
@@ -39,8 +39,8 @@ styleIn (Style s) = some s
 styleIn Nothing = none
 
 -- the names of the first `count` places, in their order, and the default
-abbrev pub meaning : StyleConfigMap → Table
-meaning m = record { entries = map namedOf (take (m .count) (m .entries)); default = styleIn (m .«default_style») }
+abbrev pub configured : StyleConfigMap → Table
+configured m = record { entries = map namedOf (take (m .count) (m .entries)); default = styleIn (m .«default_style») }
 
 -- no place past the last is read: this stands for what would be there
 abbrev pub noEntry : Entry
@@ -64,22 +64,22 @@ pub record Tidy (e : Entry) : Type 0 where
   pub wide : length (e .name) ≡ 32
   pub within : e .len ≤ 32
   pub rest : drop (e .len) (e .name) ≡ zeros (32 - e .len)
-  pub plain : holdsColon (nameOf e) ≡ false
+  pub plain : holdsColon (nameIn e) ≡ false
 
 -- 32 tidy places, the first `count` with a name each, no name twice, and blank ones after them
 pub record Sound (m : StyleConfigMap) : Type 0 where
   pub wide : length (m .entries) ≡ 32
   pub within : m .count ≤ 32
   pub tidy : (i : ℕ) → i < 32 → Tidy (entryAt m i)
-  pub rest : drop (m .count) (m .entries) ≡ replicate (32 - m .count) blank
-  pub names : once (meaning m .entries) ≡ true
+  pub rest : drop (m .count) (m .entries) ≡ replicate (32 - m .count) blankEntry
+  pub names : once (configured m .entries) ≡ true
 
 -- a sound map with this meaning
 pub record Means (t : Table) (m : StyleConfigMap) : Type 0 where
   pub sound : Sound m
-  pub means : meaning m ≡ t
+  pub means : configured m ≡ t
 
 -- what an insertion hands back: 19 or 0, and the table after it
 pub record Inserts (m : StyleConfigMap) (k : List ℕ) (s : StyleConfig) (r : Inserted) : Type 0 where
-  pub refusal : r .refusal ≡ number (refuses k (meaning m))
-  pub map : Means (insert k s (meaning m)) (r .map)
+  pub refusal : r .refusal ≡ number (refuses k (configured m))
+  pub map : Means (insert k s (configured m)) (r .map)

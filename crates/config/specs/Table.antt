@@ -21,8 +21,8 @@ pub record Table : Type 0 where
   pub default : Option StyleConfig
 
 -- no entry and no default
-abbrev pub empty : Table
-empty = record { entries = []; default = none }
+abbrev pub emptyTable : Table
+emptyTable = record { entries = []; default = none }
 
 -- a name among the entries
 unfoldable pub known : List ℕ → List Named → Bool
@@ -40,9 +40,9 @@ place k [] = 0
 place k (x ∷ xs) = cond (same (x .name) k) 0 (suc (place k xs))
 
 -- a known name's style is replaced where it stands; a new name comes last
-unfoldable pub put : List ℕ → StyleConfig → List Named → List Named
-put k s [] = record { name = k; style = s } ∷ []
-put k s (x ∷ xs) = cond (same (x .name) k) (record { name = k; style = s } ∷ xs) (x ∷ put k s xs)
+unfoldable pub entered : List ℕ → StyleConfig → List Named → List Named
+entered k s [] = record { name = k; style = s } ∷ []
+entered k s (x ∷ xs) = cond (same (x .name) k) (record { name = k; style = s } ∷ xs) (x ∷ entered k s xs)
 
 -- each name once
 unfoldable pub once : List Named → Bool
@@ -55,7 +55,7 @@ refuses k t = tooLong k || (holdsColon k || cond (known k (t .entries)) false (l
 
 -- the table after an insertion: as it was where that is refused
 abbrev pub insert : List ℕ → StyleConfig → Table → Table
-insert k s t = cond (refuses k t) t (record { entries = put k s (t .entries); default = t .default })
+insert k s t = cond (refuses k t) t (record { entries = entered k s (t .entries); default = t .default })
 
 -- with another default, or none
 abbrev pub withDefault : Option StyleConfig → Table → Table

@@ -6,10 +6,10 @@ ghost use Prim.Native.Nat.{_-_, _≤_, _<_};
 ghost use lib.ListN.{length};
 ghost use Rattle.richtext.specs.Bytes.{same};
 ghost use Rattle.config.specs.Names.{cut, zeros};
-ghost use Rattle.config.specs.Table.{empty, insert, place, styleFor, withDefault};
+ghost use Rattle.config.specs.Table.{emptyTable, insert, place, styleFor, withDefault};
 ghost use Rattle.config.specs.BuiltIn.{builtIn};
 ghost use Rattle.config.specs.Answers.{said, saidFlag, asked, getSays, flagSays, unmarkSays};
-ghost use Rattle.config.specs.Meaning.{entryOf, nameOf, styleIn, meaning, stored, Tidy, Sound, Means, Inserts};
+ghost use Rattle.config.specs.Meaning.{entryOf, nameIn, styleIn, configured, stored, Tidy, Sound, Means, Inserts};
 use richtext::ExpandType;
 use richtext::TextStyleInfoFlag;
 
@@ -129,7 +129,7 @@ impl Entry {
     // Whether this is the entry of the name.
     fn is_named(self, key: &[u8]) -> bool
         requires { ⌜ Tidy self ⌝ }
-        ensures { λ r. ⌜ r ≡ same (nameOf self) (now (key .entry)) ⌝ }
+        ensures { λ r. ⌜ r ≡ same (nameIn self) (now (key .entry)) ⌝ }
     {
         let name = self.name;
         let len = self.len;
@@ -140,7 +140,7 @@ impl Entry {
 impl StyleConfigMap {
     // No entry and no default.
     pub fn new() -> StyleConfigMap
-        ensures { λ r. ⌜ Means empty r ⌝ }
+        ensures { λ r. ⌜ Means emptyTable r ⌝ }
     {
         StyleConfigMap {
             entries: [Entry {
@@ -201,7 +201,7 @@ impl StyleConfigMap {
     // The table after an insertion, refused or not.
     fn with(self, key: &[u8], expand: ExpandType) -> StyleConfigMap
         requires { ⌜ Sound self ⌝ }
-        ensures { λ r. ⌜ Means (insert (now (key .entry)) (record { expand = expand }) (meaning self)) r ⌝ }
+        ensures { λ r. ⌜ Means (insert (now (key .entry)) (record { expand = expand }) (configured self)) r ⌝ }
     {
         self.insert(key, StyleConfig { expand }).map
     }
@@ -209,7 +209,7 @@ impl StyleConfigMap {
     // The table with this default.
     pub fn set_default(self, style: StyleConfig) -> StyleConfigMap
         requires { ⌜ Sound self ⌝ }
-        ensures { λ r. ⌜ Means (withDefault (some style) (meaning self)) r ⌝ }
+        ensures { λ r. ⌜ Means (withDefault (some style) (configured self)) r ⌝ }
     {
         let entries = self.entries;
         let count = self.count;
@@ -223,7 +223,7 @@ impl StyleConfigMap {
     // The table with no default.
     pub fn clear_default(self) -> StyleConfigMap
         requires { ⌜ Sound self ⌝ }
-        ensures { λ r. ⌜ Means (withDefault none (meaning self)) r ⌝ }
+        ensures { λ r. ⌜ Means (withDefault none (configured self)) r ⌝ }
     {
         let entries = self.entries;
         let count = self.count;
@@ -237,7 +237,7 @@ impl StyleConfigMap {
     // The style of this name, taken whole, or the default.
     pub fn get(self, key: &[u8]) -> Got
         requires { ⌜ Sound self ⌝ }
-        ensures { λ r. ⌜ said r ≡ getSays (now (key .entry)) (meaning self) ⌝ }
+        ensures { λ r. ⌜ said r ≡ getSays (now (key .entry)) (configured self) ⌝ }
     {
         if MAX_NAME < key.len() {
             return Got::Refused;
@@ -251,7 +251,7 @@ impl StyleConfigMap {
     // The flag of a new mark of this name, taken up to its first colon.
     pub fn get_style_flag(self, key: &[u8]) -> GotFlag
         requires { ⌜ Sound self ⌝ }
-        ensures { λ r. ⌜ saidFlag r ≡ flagSays (now (key .entry)) (meaning self) ⌝ }
+        ensures { λ r. ⌜ saidFlag r ≡ flagSays (now (key .entry)) (configured self) ⌝ }
     {
         match self.get_cut(key) {
             Got::Style(style) => {
@@ -266,7 +266,7 @@ impl StyleConfigMap {
     // The flag of a mark that takes this name's style away.
     pub fn get_style_flag_for_unmark(self, key: &[u8]) -> GotFlag
         requires { ⌜ Sound self ⌝ }
-        ensures { λ r. ⌜ saidFlag r ≡ unmarkSays (now (key .entry)) (meaning self) ⌝ }
+        ensures { λ r. ⌜ saidFlag r ≡ unmarkSays (now (key .entry)) (configured self) ⌝ }
     {
         match self.get_cut(key) {
             Got::Style(style) => {
@@ -281,7 +281,7 @@ impl StyleConfigMap {
     // As `get`, for what stands before the first colon; the length is that of the whole name.
     fn get_cut(self, key: &[u8]) -> Got
         requires { ⌜ Sound self ⌝ }
-        ensures { λ r. ⌜ said r ≡ asked (now (key .entry)) (styleFor (cut (now (key .entry))) (meaning self)) ⌝ }
+        ensures { λ r. ⌜ said r ≡ asked (now (key .entry)) (styleFor (cut (now (key .entry))) (configured self)) ⌝ }
     {
         if MAX_NAME < key.len() {
             return Got::Refused;
@@ -296,7 +296,7 @@ impl StyleConfigMap {
     // The style of a name, or the default.
     fn style_for(self, key: &[u8]) -> MaybeStyle
         requires { ⌜ Sound self ⌝ }
-        ensures { λ r. ⌜ styleIn r ≡ styleFor (now (key .entry)) (meaning self) ⌝ }
+        ensures { λ r. ⌜ styleIn r ≡ styleFor (now (key .entry)) (configured self) ⌝ }
     {
         let at = self.place(key);
         let count = self.count;
@@ -311,7 +311,7 @@ impl StyleConfigMap {
     // Where the entry of this name stands, or the count where it is not known.
     fn place(self, key: &[u8]) -> usize
         requires { ⌜ Sound self ⌝ }
-        ensures { λ r. ⌜ r ≡ place (now (key .entry)) (meaning self .entries) ⌝ }
+        ensures { λ r. ⌜ r ≡ place (now (key .entry)) (configured self .entries) ⌝ }
     {
         let count = self.count;
         let mut i = 0;

@@ -25,7 +25,7 @@ use Rattle.richtext.specs.declared.AnchorType.the-variants.{Start, End}
 use Rattle.tank.specs.Rules.{View}
 use Rattle.tank.specs.State.{runsOf, tableOf, viewOf, view, Laid}
 use Rattle.tank.proofs.Counted.{at-inside}
-use Rattle.lists.specs.Anchors.{lacking, before, behind, anchorsOf, boundary, boundaries, lackingBits}
+use Rattle.lists.specs.Anchors.{lacking, marksBefore, marksBehind, anchorsOf, boundary, boundaries, lackingBits}
 
 -- ---- the marks that another set lacks, by bits
 lacking-skip : (m : Mark) (xs ys : List Mark) → Above (idOf m) xs → lacking xs (m ∷ ys) ≡ lacking xs ys
@@ -82,13 +82,13 @@ module _ (touched : Bool) (l : ℕ) (ms : List Mark) (rs : List Run) (sorted : S
   abbrev meant : View
   meant = viewOf touched l ms rs
 
-  before-is : (p : ℕ) → before p meant ≡ pick ms (setBefore rs p)
-  unfolding before
+  before-is : (p : ℕ) → marksBefore p meant ≡ pick ms (setBefore rs p)
+  unfolding marksBefore
   before-is zero = sym (pick-none ms)
   before-is (suc p) = refl
 
-  behind-is : (p : ℕ) → behind p meant ≡ pick ms (setAt rs p)
-  unfolding behind
+  behind-is : (p : ℕ) → marksBehind p meant ≡ pick ms (setAt rs p)
+  unfolding marksBehind
   behind-is p =
       elim (decLt p l) [
         | yes h ↦ rw (lt-ltb p l h)

@@ -18,7 +18,7 @@ use Rattle.lists.specs.declared.anchors.NextAnchor.{NextAnchor}
 use Rattle.lists.specs.declared.anchors.NextAnchor.the-variants.{NoMore, Found}
 use Rattle.tank.specs.State.{view}
 use Rattle.runs.specs.Stretches.{inFront}
-use Rattle.lists.specs.Lists.{listRefusal, unlessRefused, answered}
+use Rattle.lists.specs.Lists.{listRefusal, unlessRefused, filledBeside}
 use Rattle.lists.specs.Anchors.{anchors, anchorsAfter, noAnchor, rest, Stands, Steps}
 
 -- ---- a step, taken apart
@@ -40,18 +40,18 @@ lower-first : (lower room needed : ℕ) → 0 < lower → listRefusal lower room
 unfolding listRefusal
 lower-first lower room needed h = rw (ne-eqb lower 0 (λ e. omega arith))
 
-pub judged-lower : {A : Type 0} (xs : List A) (lower room : ℕ) → 0 < lower → record { number = lower; count = 0 } ≡ answered (listRefusal lower room (length xs)) xs
+pub judged-lower : {A : Type 0} (xs : List A) (lower room : ℕ) → 0 < lower → record { number = lower; count = 0 } ≡ filledBeside (listRefusal lower room (length xs)) xs
 judged-lower xs lower room h = rw (lower-first lower room (length xs) h, ne-eqb lower 0 (λ e. omega arith))
 
 module _ {A : Type 0} (xs : List A) (lower room n : ℕ) (none : lower ≤ 0) (is : n ≡ length xs) where
-  pub judged-short : room < n → record { number = 11; count = 0 } ≡ answered (listRefusal lower room (length xs)) xs
+  pub judged-short : room < n → record { number = 11; count = 0 } ≡ filledBeside (listRefusal lower room (length xs)) xs
   unfolding listRefusal
   judged-short h =
       let z : lower ≡ 0 = omega arith in
       let l : room < length xs = omega arith in
       rw (z, lt-ltb room (length xs) l)
 
-  pub judged-full : n ≤ room → record { number = 0; count = n } ≡ answered (listRefusal lower room (length xs)) xs
+  pub judged-full : n ≤ room → record { number = 0; count = n } ≡ filledBeside (listRefusal lower room (length xs)) xs
   unfolding listRefusal
   judged-full h =
       let z : lower ≡ 0 = omega arith in
@@ -114,7 +114,7 @@ abbrev pub Said-advance : Tank → AnchorCursor → AnchorCursor → Type 0
 Said-advance t c r = Stands t r × (rest t r ≡ drop 1 (rest t c))
 
 abbrev pub Said-judged : Tank → ℕ → ℕ → Listed → Type 0
-Said-judged t lower room r = r ≡ answered (anchorsAfter lower room (view t)) (anchors (view t))
+Said-judged t lower room r = r ≡ filledBeside (anchorsAfter lower room (view t)) (anchors (view t))
 
 -- where the walk stands before turn j of n: at a cursor from which the anchors from the j-th on come
 pub record Standing (t : Tank) (j : ℕ) (c : AnchorCursor) : Type 0 where

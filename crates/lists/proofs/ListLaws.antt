@@ -17,7 +17,7 @@ use Rattle.tank.specs.declared.Tank.{Tank}
 use Rattle.lists.specs.declared.Listed.{Listed}
 use Rattle.tank.specs.Rules.{View}
 use Rattle.tank.specs.State.{runsOf, tableOf, view, Laid}
-use Rattle.lists.specs.Lists.{stretchesOver, rangeList, wholeList, rangeRefusal, listRefusal, unlessRefused, answered, rangeNeeded}
+use Rattle.lists.specs.Lists.{stretchesOver, rangeList, wholeList, rangeRefusal, listRefusal, unlessRefused, filledBeside, rangeNeeded}
 use Rattle.tank.proofs.Counted.{at-inside}
 use Rattle.tank.proofs.Shape.{can-look}
 use Rattle.tank.proofs.Unique.{inside-table}
@@ -102,7 +102,7 @@ no-room (x ∷ xs) e = absurd (omega arith)
 
 -- what is handed over: the answer, and the buffer
 abbrev pub Handed : ℕ → List ℕ → List ℕ → Listed → List ℕ → Type 0
-Handed number xs out r out′ = (r ≡ answered number xs) × (out′ ≡ inFront (unlessRefused number xs) out)
+Handed number xs out r out′ = (r ≡ filledBeside number xs) × (out′ ≡ inFront (unlessRefused number xs) out)
 
 still : (lower room : ℕ) (xs : List ℕ) → length (unlessRefused lower xs) ≡ 0 → listRefusal lower room (length xs) ≡ lower
 unfolding listRefusal
@@ -110,7 +110,7 @@ still zero room xs e = simp (le-ltb room (length xs) (omega arith))
 still (suc lower) room xs e = simp (ne-eqb (suc lower) 0 (λ q. omega arith))
 
 -- nothing is needed: refused before, or an empty list
-pub handed-none : (lower : ℕ) (xs out : List ℕ) (r : Listed) → r ≡ answered lower xs → r .count ≡ 0
+pub handed-none : (lower : ℕ) (xs out : List ℕ) (r : Listed) → r ≡ filledBeside lower xs → r .count ≡ 0
     → Handed (listRefusal lower (length out) (length xs)) xs out r out
 handed-none lower xs out r e z =
     let k : length (unlessRefused lower xs) ≡ 0 = sym (ap (λ (x : Listed). x .count) e) ∙ z in

@@ -10,7 +10,7 @@ use Rattle.runs.specs.Positions.{extended, stretchesAt, asNumbers}
 use Rattle.richtext.specs.declared.AnchorType.the-variants.{Start, End}
 use Rattle.tank.specs.Rules.{View, afterAnnotate}
 use Rattle.lists.specs.Lists.{rangeList, wholeList, rangeRefusal, rangeNeeded}
-use Rattle.lists.specs.Anchors.{before, behind, anchorOf, anchorsOf, boundary, boundaries, anchors}
+use Rattle.lists.specs.Anchors.{marksBefore, marksBehind, anchorOf, anchorsOf, boundary, boundaries, anchors}
 
 abbrev A : Mark
 A = record { key = 1; flags = 128; lamport = 5; peer = 1; value = Null }
@@ -60,14 +60,14 @@ needed = refl
 
 -- ---- anchors
 anchors-2 : anchors case-2 ≡ anchorOf 2 Start A ∷ anchorOf 4 End A ∷ []
-unfolding anchors boundaries boundary before behind anchorsOf afterAnnotate insertMark member only stands numbers
+unfolding anchors boundaries boundary marksBefore marksBehind anchorsOf afterAnnotate insertMark member only stands numbers
 anchors-2 = refl
 
 anchors-5 : anchors case-5 ≡ anchorOf 2 Start A ∷ anchorOf 4 Start C ∷ anchorOf 4 End A ∷ anchorOf 6 End C ∷ []
-unfolding anchors boundaries boundary before behind anchorsOf afterAnnotate insertMark member only stands numbers
+unfolding anchors boundaries boundary marksBefore marksBehind anchorsOf afterAnnotate insertMark member only stands numbers
 anchors-5 = refl
 
 -- one boundary: the end of A before the start of C; a mark on the last position ends there
 anchors-edge : anchors (afterAnnotate 5 10 C case-2) ≡ anchorOf 2 Start A ∷ anchorOf 4 End A ∷ anchorOf 5 Start C ∷ anchorOf 9 End C ∷ []
-unfolding anchors boundaries boundary before behind anchorsOf afterAnnotate insertMark member only stands numbers
+unfolding anchors boundaries boundary marksBefore marksBehind anchorsOf afterAnnotate insertMark member only stands numbers
 anchors-edge = refl

@@ -28,13 +28,13 @@ abbrev pub lacking : List Mark → List Mark → List Mark
 lacking xs ys = only (λ m. not (member (idOf m) ys)) xs
 
 -- a boundary is the place before a position, or the one behind the last. The marks before it: none at 0
-unfoldable pub before : ℕ → View → List Mark
-before zero v = []
-before (suc p) v = v .at p
+unfoldable pub marksBefore : ℕ → View → List Mark
+marksBefore zero v = []
+marksBefore (suc p) v = v .at p
 
 -- the marks behind it: none at the length
-unfoldable pub behind : ℕ → View → List Mark
-behind p v = cond (ltb p (v .length)) (v .at p) []
+unfoldable pub marksBehind : ℕ → View → List Mark
+marksBehind p v = cond (ltb p (v .length)) (v .at p) []
 
 -- the anchor of a mark at a position
 abbrev pub anchorOf : ℕ → AnchorType → Mark → Anchor
@@ -48,7 +48,7 @@ anchorsOf p side (m ∷ ms) = anchorOf p side m ∷ anchorsOf p side ms
 -- at a boundary first the ends, at the last position carrying the mark, then the starts, at the first
 unfoldable pub boundary : ℕ → View → List Anchor
 boundary p v =
-    anchorsOf (p - 1) End (lacking (before p v) (behind p v)) ++ anchorsOf p Start (lacking (behind p v) (before p v))
+    anchorsOf (p - 1) End (lacking (marksBefore p v) (marksBehind p v)) ++ anchorsOf p Start (lacking (marksBehind p v) (marksBefore p v))
 
 -- n boundaries from p on, ascending
 unfoldable pub boundaries : ℕ → ℕ → View → List Anchor

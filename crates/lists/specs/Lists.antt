@@ -55,12 +55,12 @@ abbrev pub unlessRefused : {A : Type 0} → ℕ → List A → List A
 unlessRefused number xs = cond (eqb number 0) xs []
 
 -- a number, and how many places of the buffer are filled beside it
-abbrev pub answered : {A : Type 0} → ℕ → List A → Listed
-answered number xs = record { number = number; count = length (unlessRefused number xs) }
+abbrev pub filledBeside : {A : Type 0} → ℕ → List A → Listed
+filledBeside number xs = record { number = number; count = length (unlessRefused number xs) }
 
 -- the count needed for a range: asked without a buffer, so never 11
 abbrev pub rangeNeeded : ℕ → ℕ → View → Listed
-rangeNeeded a b v = answered (rangeRefusal a b v) (rangeList a b v)
+rangeNeeded a b v = filledBeside (rangeRefusal a b v) (rangeList a b v)
 
 -- the number that a list over a range gives where the buffer has `room` places
 abbrev pub rangeNumber : ℕ → ℕ → ℕ → View → ℕ

@@ -4,7 +4,7 @@ ghost use lib.ListN.{drop, getD, length};
 ghost use Prim.Native.Nat.{_+_, _<_, _≤_};
 ghost use Rattle.styles.specs.Marks.{blank};
 ghost use Rattle.lists.specs.Anchors.{lackingBits, anchorOf, anchors, anchorsAfter, noAnchor, leftAt, rest, Stands, Steps, Follows, Settles};
-ghost use Rattle.lists.specs.Lists.{unlessRefused, answered};
+ghost use Rattle.lists.specs.Lists.{unlessRefused, filledBeside};
 ghost use Rattle.runs.specs.Stretches.{inFront};
 ghost use Rattle.tank.specs.State.{view, Sound};
 use super::Listed;
@@ -193,7 +193,7 @@ fn advance(t: Tank, c: AnchorCursor) -> AnchorCursor
 // What the list answers where `room` records are lent. A lower number, which an earlier test gave, goes first; 0 is none.
 fn judged(t: Tank, lower: u64, room: usize) -> Listed
     requires { ⌜ Sound t ⌝ }
-    ensures { λ r. ⌜ r ≡ answered (anchorsAfter lower room (view t)) (anchors (view t)) ⌝ }
+    ensures { λ r. ⌜ r ≡ filledBeside (anchorsAfter lower room (view t)) (anchors (view t)) ⌝ }
 {
     if 0 < lower {
         return Listed {
@@ -226,7 +226,7 @@ fn turns(t: Tank, lower: u64, room: usize) -> usize
 // The tank's anchors, at the front of `out`. Records past the count stay; a refusal, the lower number among them, writes nothing.
 pub fn iter_anchors(t: Tank, lower: u64, out: &mut [Anchor]) -> Listed
     requires { ⌜ Sound t ⌝ }
-    ensures { λ r. ⌜ (r ≡ answered (anchorsAfter lower (length (now (out .entry))) (view t)) (anchors (view t))) × (now (out .exit) ≡ inFront (unlessRefused (anchorsAfter lower (length (now (out .entry))) (view t)) (anchors (view t))) (now (out .entry))) ⌝ }
+    ensures { λ r. ⌜ (r ≡ filledBeside (anchorsAfter lower (length (now (out .entry))) (view t)) (anchors (view t))) × (now (out .exit) ≡ inFront (unlessRefused (anchorsAfter lower (length (now (out .entry))) (view t)) (anchors (view t))) (now (out .entry))) ⌝ }
 {
     let n = turns(t, lower, out.len());
     let mut c = first_anchor(t);

@@ -3,7 +3,7 @@ pub mod anchors; // anchors.rt: where marks start and end
 
 ghost use mathlib.Core.Path.{_≡_};
 ghost use lib.ListN.{length};
-ghost use Rattle.lists.specs.Lists.{rangeList, wholeList, rangeNeeded, rangeNumber, wholeNumber, unlessRefused, answered};
+ghost use Rattle.lists.specs.Lists.{rangeList, wholeList, rangeNeeded, rangeNumber, wholeNumber, unlessRefused, filledBeside};
 ghost use Rattle.runs.specs.Stretches.{inFront};
 ghost use Rattle.tank.specs.State.{view, Sound};
 use tank::Tank;
@@ -53,7 +53,7 @@ pub fn whole_needed(t: Tank) -> usize
 // Writes the stretches over start .. end to the front of `out`; a refusal writes nothing.
 pub fn list_range(t: Tank, start: u64, end: u64, out: &mut [u64]) -> Listed
     requires { ⌜ Sound t ⌝ }
-    ensures { λ r. ⌜ r ≡ answered (rangeNumber start end (length (now (out .entry))) (view t)) (rangeList start end (view t)) ⌝ }
+    ensures { λ r. ⌜ r ≡ filledBeside (rangeNumber start end (length (now (out .entry))) (view t)) (rangeList start end (view t)) ⌝ }
     ensures { λ r. ⌜ now (out .exit) ≡ inFront (unlessRefused (rangeNumber start end (length (now (out .entry))) (view t)) (rangeList start end (view t))) (now (out .entry)) ⌝ }
 {
     let asked = stretches_needed(t, start, end);
@@ -78,7 +78,7 @@ pub fn list_range(t: Tank, start: u64, end: u64, out: &mut [u64]) -> Listed
 // Writes the stretches of the whole tank to the front of `out`; a refusal writes nothing.
 pub fn list_whole(t: Tank, out: &mut [u64]) -> Listed
     requires { ⌜ Sound t ⌝ }
-    ensures { λ r. ⌜ r ≡ answered (wholeNumber (length (now (out .entry))) (view t)) (wholeList (view t)) ⌝ }
+    ensures { λ r. ⌜ r ≡ filledBeside (wholeNumber (length (now (out .entry))) (view t)) (wholeList (view t)) ⌝ }
     ensures { λ r. ⌜ now (out .exit) ≡ inFront (unlessRefused (wholeNumber (length (now (out .entry))) (view t)) (wholeList (view t))) (now (out .entry)) ⌝ }
 {
     let needed = whole_needed(t);

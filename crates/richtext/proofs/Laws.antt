@@ -6,7 +6,7 @@ use Prim.Native.Nat.{ℕ}
 use lib.Bits.{bitOr}
 use Rattle.richtext.specs.Bytes.{same}
 use Rattle.richtext.specs.Types.{growsBefore, growsAfter, reversed, word, named}
-use Rattle.richtext.specs.Flags.{bit, before, after, typeOf, newByte, deleted}
+use Rattle.richtext.specs.Flags.{bit, expandsBefore, expandsAfter, typeOf, newByte, deletedByte}
 use Rattle.richtext.specs.declared.ExpandType.{ExpandType}
 use Rattle.richtext.specs.declared.ExpandType.the-variants.{Before, After, Both, None}
 use Rattle.richtext.specs.declared.NamedType.the-variants.{Is, NoneOfThese}
@@ -55,7 +55,7 @@ word-named s t =
 -- Bytes
 
 -- the type of a byte by its two bits
-pub type-by : (byte : ℕ) (b a : Bool) → before byte ≡ b → after byte ≡ a → cond b (cond a Both Before) (cond a After None) ≡ typeOf byte
+pub type-by : (byte : ℕ) (b a : Bool) → expandsBefore byte ≡ b → expandsAfter byte ≡ a → cond b (cond a Both Before) (cond a After None) ≡ typeOf byte
 type-by byte b a e f = rw (e, f)
 
 grows-by : (b a : Bool) → let t : ExpandType = cond b (cond a Both Before) (cond a After None) in (growsBefore t ≡ b) × (growsAfter t ≡ a)
@@ -65,8 +65,8 @@ grows-by false true = (refl, refl)
 grows-by false false = (refl, refl)
 
 -- the type says of each side what the byte's bit says
-pub grows-type : (byte : ℕ) → (growsBefore (typeOf byte) ≡ before byte) × (growsAfter (typeOf byte) ≡ after byte)
-grows-type byte = grows-by (before byte) (after byte)
+pub grows-type : (byte : ℕ) → (growsBefore (typeOf byte) ≡ expandsBefore byte) × (growsAfter (typeOf byte) ≡ expandsAfter byte)
+grows-type byte = grows-by (expandsBefore byte) (expandsAfter byte)
 
 -- a new byte means the type that it was made of, and is alive
 pub type-new : (t : ExpandType) → typeOf (newByte t) ≡ t
@@ -90,9 +90,9 @@ new-bits Both b a e f = rw (← e, ← f)
 new-bits None b a e f = rw (← e, ← f)
 
 -- to_delete of a new byte is the new byte of the reversed type
-pub deleted-new : (t : ExpandType) → deleted (newByte t) ≡ newByte (reversed t)
+pub deleted-new : (t : ExpandType) → deletedByte (newByte t) ≡ newByte (reversed t)
 deleted-new t = rw (type-new t)
 
 -- to_delete twice, of any byte, is the new byte of its type
-pub deleted-deleted : (byte : ℕ) → deleted (deleted byte) ≡ newByte (typeOf byte)
+pub deleted-deleted : (byte : ℕ) → deletedByte (deletedByte byte) ≡ newByte (typeOf byte)
 deleted-deleted byte = rw (deleted-new (reversed (typeOf byte)), reversed-reversed (typeOf byte))

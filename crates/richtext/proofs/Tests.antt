@@ -4,7 +4,7 @@ use mathlib.Core.Bool.{true, false}
 use mathlib.Core.List.{[], _∷_}
 use Rattle.richtext.specs.Bytes.{same}
 use Rattle.richtext.specs.Types.{named}
-use Rattle.richtext.specs.Flags.{typeOf, beforeAt, deleted}
+use Rattle.richtext.specs.Flags.{typeOf, beforeAt, deletedByte}
 use Rattle.richtext.specs.declared.AnchorType.the-variants.{Start, End}
 use Rattle.richtext.specs.declared.ExpandType.the-variants.{Before, Both, None}
 use Rattle.richtext.specs.declared.NamedType.the-variants.{NoneOfThese}
@@ -20,13 +20,13 @@ type-0x7b : typeOf 123 ≡ Before
 type-0x7b = refl
 
 -- to_delete of 0x04, of 0x41 and of 0x06
-deleted-0x04 : deleted 4 ≡ 132
+deleted-0x04 : deletedByte 4 ≡ 132
 deleted-0x04 = refl
 
-deleted-0x41 : deleted 65 ≡ 134
+deleted-0x41 : deletedByte 65 ≡ 134
 deleted-0x41 = refl
 
-deleted-0x06 : deleted 6 ≡ 128
+deleted-0x06 : deletedByte 6 ≡ 128
 deleted-0x06 = refl
 
 -- at an anchor of a style that grows after alone

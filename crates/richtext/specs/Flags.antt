@@ -14,16 +14,16 @@ abbrev pub bit : ℕ → ℕ → Bool
 bit weight byte = eqb (byte / weight % 2) 1
 
 -- bit 0x02: the style grows before
-abbrev pub before : ℕ → Bool
-before byte = bit 2 byte
+abbrev pub expandsBefore : ℕ → Bool
+expandsBefore byte = bit 2 byte
 
 -- bit 0x04: the style grows after
-abbrev pub after : ℕ → Bool
-after byte = bit 4 byte
+abbrev pub expandsAfter : ℕ → Bool
+expandsAfter byte = bit 4 byte
 
 -- the type is read from these two bits alone, so any byte has one
 abbrev pub typeOf : ℕ → ExpandType
-typeOf byte = cond (before byte) (cond (after byte) Both Before) (cond (after byte) After None)
+typeOf byte = cond (expandsBefore byte) (cond (expandsAfter byte) Both Before) (cond (expandsAfter byte) After None)
 
 -- a new style's byte is alive, 0x80, with the bits of its type
 abbrev pub newByte : ExpandType → ℕ
@@ -34,12 +34,12 @@ newByte Both = 134
 
 -- text goes before a start anchor exactly when bit 0x02 is clear, before an end anchor exactly when 0x04 is set
 abbrev pub beforeAt : AnchorType → ℕ → Bool
-beforeAt Start byte = not (before byte)
-beforeAt End byte = after byte
+beforeAt Start byte = not (expandsBefore byte)
+beforeAt End byte = expandsAfter byte
 
 -- the byte that takes a style away is a new one, of the reversed type
-abbrev pub deleted : ℕ → ℕ
-deleted byte = newByte (reversed (typeOf byte))
+abbrev pub deletedByte : ℕ → ℕ
+deletedByte byte = newByte (reversed (typeOf byte))
 
 -- the flag that carries a byte
 abbrev pub flagOf : ℕ → TextStyleInfoFlag

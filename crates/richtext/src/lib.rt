@@ -1,7 +1,7 @@
 // How a style grows when text is inserted beside it, and the flag byte that a style carries.
 ghost use mathlib.Core.Path.{_≡_};
 ghost use Rattle.richtext.specs.Bytes.{same};
-ghost use Rattle.richtext.specs.Flags.{before, after, typeOf, beforeAt, flagOf, newByte, deleted};
+ghost use Rattle.richtext.specs.Flags.{expandsBefore, expandsAfter, typeOf, beforeAt, flagOf, newByte, deletedByte};
 ghost use Rattle.richtext.specs.Types.{growsBefore, growsAfter, reversed, named};
 
 const EXPAND_BEFORE_MASK: u8 = 0b0000_0010;
@@ -146,14 +146,14 @@ impl TextStyleInfoFlag {
 
     // The byte's bit for growing before.
     pub fn expand_before(self) -> bool
-        ensures { λ r. ⌜ r ≡ before (self .«data») ⌝ }
+        ensures { λ r. ⌜ r ≡ expandsBefore (self .«data») ⌝ }
     {
         self.data & EXPAND_BEFORE_MASK != 0
     }
 
     // The byte's bit for growing after.
     pub fn expand_after(self) -> bool
-        ensures { λ r. ⌜ r ≡ after (self .«data») ⌝ }
+        ensures { λ r. ⌜ r ≡ expandsAfter (self .«data») ⌝ }
     {
         self.data & EXPAND_AFTER_MASK != 0
     }
@@ -187,7 +187,7 @@ impl TextStyleInfoFlag {
 
     // The byte of a new mark that takes the style away.
     pub fn to_delete(self) -> TextStyleInfoFlag
-        ensures { λ r. ⌜ r ≡ flagOf (deleted (self .«data»)) ⌝ }
+        ensures { λ r. ⌜ r ≡ flagOf (deletedByte (self .«data»)) ⌝ }
     {
         TextStyleInfoFlag::new(self.expand_type().reverse())
     }

@@ -22,7 +22,7 @@ use Rattle.styles.specs.declared.Winner.{Winner}
 use Rattle.styles.specs.declared.Winner.the-variants.{Nothing, Shows}
 use Rattle.styles.specs.Order.{stands, idOf}
 use Rattle.styles.specs.Marks.{Above, Sorted, member, only, keyIs, valueIs, hasKey, better, winner, shownBy, showsValue}
-use Rattle.styles.specs.Bits.{keepBit, pick, hasBit, bit, maskOf, TopIn}
+use Rattle.styles.specs.Bits.{keepBit, pick, hasBit, asBit, maskOf, TopIn}
 use Rattle.styles.proofs.OrderLaws.{less-flip, same-self}
 use Rattle.styles.proofs.PickLaws.{pick-cons, above-pick, above-at, not-member}
 use Rattle.styles.proofs.BitLaws.{half-shr, half-less}
@@ -54,13 +54,13 @@ member-pick (m ∷ ms) (suc i) d s h k =
     ∙ sym (digit-next s i)
 
 -- ---- a mask picks the marks for which its test holds
-only-keep : (b : ℕ) (a : Bool) (f : Mark → Bool) (m : Mark) (ms : List Mark) → f m ≡ a → b < 2 → keepBit (min b (bit a)) m (only f ms) ≡ only f (keepBit b m ms)
+only-keep : (b : ℕ) (a : Bool) (f : Mark → Bool) (m : Mark) (ms : List Mark) → f m ≡ a → b < 2 → keepBit (min b (asBit a)) m (only f ms) ≡ only f (keepBit b m ms)
 unfolding only
-only-keep zero a f m ms e h = rw (zero-min (bit a))
+only-keep zero a f m ms e h = rw (zero-min (asBit a))
 only-keep (suc b) true f m ms e h = let g : min (suc b) 1 ≡ 1 = omega arith in rw (e, g)
 only-keep (suc b) false f m ms e h = rw (e, min-zero (suc b))
 
-bit-low : (a : Bool) → bit a < 2
+bit-low : (a : Bool) → asBit a < 2
 bit-low true = omega arith
 bit-low false = omega arith
 
@@ -69,14 +69,14 @@ unfolding pick maskOf only
 pick-mask f [] s = refl
 pick-mask f (m ∷ ms) s =
     let l = bit-low (f m) in
-    let e : (maskOf f ms * 2 + bit (f m)) / 2 ≡ maskOf f ms = omega arith in
-    let g : (maskOf f ms * 2 + bit (f m)) % 2 ≡ bit (f m) = omega arith in
-    let a : bitAnd s (maskOf f ms * 2 + bit (f m)) ≡ bitAnd (s / 2) (maskOf f ms) * 2 + min (s % 2) (bit (f m)) =
-    rw (e, g) at (and-step s (maskOf f ms * 2 + bit (f m)))
+    let e : (maskOf f ms * 2 + asBit (f m)) / 2 ≡ maskOf f ms = omega arith in
+    let g : (maskOf f ms * 2 + asBit (f m)) % 2 ≡ asBit (f m) = omega arith in
+    let a : bitAnd s (maskOf f ms * 2 + asBit (f m)) ≡ bitAnd (s / 2) (maskOf f ms) * 2 + min (s % 2) (asBit (f m)) =
+    rw (e, g) at (and-step s (maskOf f ms * 2 + asBit (f m)))
     in
     ap (pick (m ∷ ms)) a
-    ∙ pick-cons m ms (bitAnd (s / 2) (maskOf f ms)) (min (s % 2) (bit (f m))) (omega arith)
-    ∙ ap (keepBit (min (s % 2) (bit (f m))) m) (pick-mask f ms (s / 2))
+    ∙ pick-cons m ms (bitAnd (s / 2) (maskOf f ms)) (min (s % 2) (asBit (f m))) (omega arith)
+    ∙ ap (keepBit (min (s % 2) (asBit (f m))) m) (pick-mask f ms (s / 2))
     ∙ only-keep (s % 2) (f m) f m (pick ms (s / 2)) refl (omega arith)
 
 pub mask-less : (f : Mark → Bool) (t : List Mark) → maskOf f t < 2 ^ length t
@@ -84,7 +84,7 @@ unfolding maskOf
 mask-less f [] = omega arith
 mask-less f (m ∷ ms) = omega (arith, mask-less f ms, bit-low (f m), pow-suc 2 (length ms))
 
-bit-first : (q : ℕ) (a : Bool) → hasBit 0 (q * 2 + bit a) ≡ a
+bit-first : (q : ℕ) (a : Bool) → hasBit 0 (q * 2 + asBit a) ≡ a
 bit-first q true = eq-eqb ((q * 2 + 1) / 2 ^ 0 % 2) 1 (omega arith)
 bit-first q false = ne-eqb ((q * 2 + 0) / 2 ^ 0 % 2) 1 (omega arith)
 
@@ -94,8 +94,8 @@ mask-digit f [] i d h = absurd (omega arith)
 mask-digit f (m ∷ ms) zero d h = bit-first (maskOf f ms) (f m)
 mask-digit f (m ∷ ms) (suc i) d h =
     let l = bit-low (f m) in
-    let e : (maskOf f ms * 2 + bit (f m)) / 2 ≡ maskOf f ms = omega arith in
-    digit-next (maskOf f ms * 2 + bit (f m)) i ∙ (rw e (mask-digit f ms i d (omega arith)))
+    let e : (maskOf f ms * 2 + asBit (f m)) / 2 ≡ maskOf f ms = omega arith in
+    digit-next (maskOf f ms * 2 + asBit (f m)) i ∙ (rw e (mask-digit f ms i d (omega arith)))
 
 -- ---- a key is there, and its winner, by the mask of the key
 winner-skip : (k : ℕ) (a : Bool) (m : Mark) (l : List Mark) (w : Winner) → keyIs k m ≡ a → winner k l ≡ w → cond a (better m w) w ≡ winner k (cond a (m ∷ l) l)
@@ -164,7 +164,7 @@ module _ (t : List Mark) (s key : ℕ) (d : Mark) (sorted : Sorted t) where
       picks ∙ ap (winner key) e ∙ winner-last key (pick (take j t) keyed) (getD t j d) (subst Sorted e (sorted-pick t keyed sorted)) ∙ (rw f)
 
 -- ---- a turn of the loop that makes a mask, from the last mark down
-mask-step : (f : Mark → Bool) (l : List Mark) (i : ℕ) (d : Mark) → i < length l → maskOf f (drop i l) ≡ maskOf f (drop (suc i) l) * 2 + bit (f (getD l i d))
+mask-step : (f : Mark → Bool) (l : List Mark) (i : ℕ) (d : Mark) → i < length l → maskOf f (drop i l) ≡ maskOf f (drop (suc i) l) * 2 + asBit (f (getD l i d))
 unfolding maskOf
 mask-step f l i d h = ap (maskOf f) (drop-cons l i d h)
 
@@ -173,7 +173,7 @@ unfolding maskOf
 mask-end f t n = rw (drop-of-length-le (take n t) {i = n} (omega (arith, length-take n t)))
 
 module _ (f : Mark → Bool) (t : List Mark) (n i : ℕ) (d : Mark) (more : 0 < i) (within : i ≤ n) (few : n ≤ 64) (long : n ≤ length t) where
-  pub mask-turn : maskOf f (drop i (take n t)) * 2 + bit (f (getD t (i - 1) d)) ≡ maskOf f (drop (i - 1) (take n t))
+  pub mask-turn : maskOf f (drop i (take n t)) * 2 + asBit (f (getD t (i - 1) d)) ≡ maskOf f (drop (i - 1) (take n t))
   mask-turn =
       let e : suc (i - 1) ≡ i = omega arith in
       sym (rw (e, getD-take n t (i - 1) d (omega arith)) at (mask-step f (take n t) (i - 1) d (omega (arith, length-take n t))))

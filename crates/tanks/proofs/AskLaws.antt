@@ -8,14 +8,14 @@ use Rattle.tank.specs.State.{view}
 use Rattle.tanks.specs.declared.Tanks.{Tanks}
 use Rattle.tanks.specs.House.{tankAt, held, askNumber}
 use Rattle.tanks.specs.Pool.{noHead, tankIn, tankOf, meaning, Sound}
-use Rattle.tanks.specs.Contracts.{answered}
+use Rattle.tanks.specs.Contracts.{refusedOrGiven}
 use Rattle.tanks.proofs.MeaningLaws.{tank-at, held-is}
 
 module _ {A R : Type 0} (refused : ℕ → R) (given : A → R) (t : ℕ) where
-  pub asked-past : (a : A) → 8 ≤ t → refused 1 ≡ answered refused given (askNumber t) a
+  pub asked-past : (a : A) → 8 ≤ t → refused 1 ≡ refusedOrGiven refused given (askNumber t) a
   asked-past a h = rw (le-leb 8 t h)
 
-  pub asked-in : (a b : A) → t < 8 → a ≡ b → given a ≡ answered refused given (askNumber t) b
+  pub asked-in : (a b : A) → t < 8 → a ≡ b → given a ≡ refusedOrGiven refused given (askNumber t) b
   asked-in a b h e = rw (lt-leb 8 t h) (ap given e)
 
 -- ---- the head says what the tank means; the code's number of the tank is u

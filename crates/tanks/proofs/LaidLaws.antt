@@ -1,4 +1,4 @@
--- The laws of `laid` and `before`.
+-- The laws of `laid` and `runsBelow`.
 use Prim.Native.Nat.{ℕ, zero, suc, _+_, _≤_, _<_}
 use mathlib.Core.Path.{_≡_, refl, ap, _∙_}
 use mathlib.Core.Logic.{_≢_}
@@ -9,7 +9,7 @@ use native.Mathlib.Numerals.{add-one}
 use lib.ListN.{length, getD, set, replicate, length-set, getD-replicate, length-replicate, List·getD-eq-default}
 use lib.Seq.{getD-set-same, getD-set-other, set-comm}
 use Rattle.tanks.specs.declared.Head.{Head}
-use Rattle.tanks.specs.Pool.{noHead, runsIn, laid, before}
+use Rattle.tanks.specs.Pool.{noHead, runsIn, laid, runsBelow}
 
 module _ {A : Type 0} where
   pub length-laid : (p : List A) (at : ℕ) (f : ℕ → A) (n : ℕ) → length (laid p at f n) ≡ length p
@@ -70,37 +70,37 @@ module _ {A : Type 0} where
       ]
 
 -- ---- where tanks begin
-pub before-more : (hs : List Head) (t : ℕ) → before hs (t + 1) ≡ before hs t + runsIn hs t
-unfolding before
-before-more hs t = rw add-one
+pub below-more : (hs : List Head) (t : ℕ) → runsBelow hs (t + 1) ≡ runsBelow hs t + runsIn hs t
+unfolding runsBelow
+below-more hs t = rw add-one
 
-pub before-mono : (hs : List Head) (t u : ℕ) → t ≤ u → before hs t ≤ before hs u
-unfolding before
-before-mono hs t zero h = let e : t ≡ 0 = omega arith in rw e (omega arith)
-before-mono hs t (suc u) h =
+pub below-mono : (hs : List Head) (t u : ℕ) → t ≤ u → runsBelow hs t ≤ runsBelow hs u
+unfolding runsBelow
+below-mono hs t zero h = let e : t ≡ 0 = omega arith in rw e (omega arith)
+below-mono hs t (suc u) h =
     elim (decLe t u) [
-      | yes l ↦ omega (arith, before-mono hs t u l)
+      | yes l ↦ omega (arith, below-mono hs t u l)
       | no l ↦ let e : t ≡ suc u = omega arith in rw e (omega arith)
     ]
 
 -- tank u lies below tank v
-pub before-next : (hs : List Head) (u v : ℕ) → u < v → before hs u + runsIn hs u ≤ before hs v
-before-next hs u v h = omega (arith, before-mono hs (u + 1) v (omega arith), before-more hs u)
+pub below-next : (hs : List Head) (u v : ℕ) → u < v → runsBelow hs u + runsIn hs u ≤ runsBelow hs v
+below-next hs u v h = omega (arith, below-mono hs (u + 1) v (omega arith), below-more hs u)
 
-pub before-same : (hs : List Head) (t : ℕ) (h : Head) (u : ℕ) → u ≤ t → before (set hs t h) u ≡ before hs u
-unfolding before
-before-same hs t h zero l = refl
-before-same hs t h (suc u) l =
-    omega (arith, before-same hs t h u (omega arith), ap (λ (x : Head). x .runs) (getD-set-other hs t u h noHead (λ e. omega arith)))
+pub below-same : (hs : List Head) (t : ℕ) (h : Head) (u : ℕ) → u ≤ t → runsBelow (set hs t h) u ≡ runsBelow hs u
+unfolding runsBelow
+below-same hs t h zero l = refl
+below-same hs t h (suc u) l =
+    omega (arith, below-same hs t h u (omega arith), ap (λ (x : Head). x .runs) (getD-set-other hs t u h noHead (λ e. omega arith)))
 
-pub before-later : (hs : List Head) (t : ℕ) (h : Head) (u : ℕ) → t < length hs → t < u → before (set hs t h) u + runsIn hs t ≡ before hs u + h .runs
-unfolding before
-before-later hs t h zero g l = absurd (omega arith)
-before-later hs t h (suc u) g l =
+pub below-later : (hs : List Head) (t : ℕ) (h : Head) (u : ℕ) → t < length hs → t < u → runsBelow (set hs t h) u + runsIn hs t ≡ runsBelow hs u + h .runs
+unfolding runsBelow
+below-later hs t h zero g l = absurd (omega arith)
+below-later hs t h (suc u) g l =
     elim (decLt t u) [
       | yes k ↦
-          omega (arith, before-later hs t h u g k, ap (λ (x : Head). x .runs) (getD-set-other hs t u h noHead (λ e. omega arith)))
+          omega (arith, below-later hs t h u g k, ap (λ (x : Head). x .runs) (getD-set-other hs t u h noHead (λ e. omega arith)))
       | no k ↦
           let e : u ≡ t = omega arith in
-          rw e (omega (arith, before-same hs t h t (omega arith), ap (λ (x : Head). x .runs) (getD-set-same hs t h noHead g)))
+          rw e (omega (arith, below-same hs t h t (omega arith), ap (λ (x : Head). x .runs) (getD-set-same hs t h noHead g)))
     ]

@@ -17,10 +17,10 @@ use Rattle.tanks.specs.declared.Head.{Head}
 use Rattle.tanks.specs.declared.Tanks.{Tanks}
 use Rattle.tanks.specs.Settings.{limitOf, claims, heldAfter, judgement}
 use Rattle.tanks.specs.House.{held, first, withTank}
-use Rattle.tanks.specs.Pool.{noHead, runsIn, before, tankIn, tankOf, headOf, tableIn, meaning, Sound}
+use Rattle.tanks.specs.Pool.{noHead, runsIn, runsBelow, tankIn, tankOf, headOf, tableIn, meaning, Sound}
 use Rattle.tanks.proofs.Put.{puts}
 use Rattle.tanks.proofs.PutLaws.{put-length, put-blank, put-same, put-other}
-use Rattle.tanks.proofs.SettingLaws.{claims-cong, before-claims, judge-within, judge-sum, second-zero}
+use Rattle.tanks.proofs.SettingLaws.{claims-cong, below-claims, judge-within, judge-sum, second-zero}
 
 -- what holds at t and at every other place holds everywhere
 pub at-each : (P : ℕ → Type 0) (t u : ℕ) → P t → (u ≢ t → P u) → P u
@@ -85,9 +85,9 @@ module _ (s : Tanks) (t : ℕ) (x : Tank) (ok : Sound s) (t8 : t < 8) (formed : 
         claims-cong (s .settings) (runsIn next) (heldAfter (runsIn (s .heads)) t (x .runs)) 8 (λ u _. runs-next u),
       )
 
-  pub room : before (set (s .heads) t (headOf x)) 8 ≤ 512
+  pub room : runsBelow (set (s .heads) t (headOf x)) 8 ≤ 512
   unfolding next
-  room = omega (arith, sum-next, before-claims (s .settings) next 8)
+  room = omega (arith, sum-next, below-claims (s .settings) next 8)
 
   pub put-sound : Sound (puts s t x)
   unfolding puts next

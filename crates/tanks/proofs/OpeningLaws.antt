@@ -18,7 +18,7 @@ use Rattle.tanks.specs.declared.Run as pool
 use Rattle.tanks.specs.declared.Table.{Table}
 use Rattle.tanks.specs.Settings.{accepted, fit, shares, claims}
 use Rattle.tanks.specs.House.{smallest, openNumber, opening}
-use Rattle.tanks.specs.Pool.{noHead, noRun, noTable, runsIn, laid, before, tankIn, tankOf, headOf, tableIn, meaning, Sound, freshly}
+use Rattle.tanks.specs.Pool.{noHead, noRun, noTable, runsIn, laid, runsBelow, tankIn, tankOf, headOf, tableIn, meaning, Sound, freshly}
 use Rattle.tanks.specs.Contracts.{Opens}
 use Rattle.tanks.proofs.LaidLaws.{length-laid, laid-front, laid-out, blank-at}
 use Rattle.tanks.proofs.PutLaws.{tank-eq}
@@ -39,10 +39,10 @@ runs-one : (u : ℕ) → u < 8 → runsIn eight u ≡ 1
 unfolding eight
 runs-one u h = ap (λ (x : Head). x .runs) (getD-replicate 8 u (headOf fresh) noHead h)
 
-before-one : (u : ℕ) → u ≤ 8 → before eight u ≡ u
-unfolding before
-before-one zero h = refl
-before-one (suc u) h = omega (arith, before-one u (omega arith), runs-one u (omega arith))
+below-one : (u : ℕ) → u ≤ 8 → runsBelow eight u ≡ u
+unfolding runsBelow
+below-one zero h = refl
+below-one (suc u) h = omega (arith, below-one u (omega arith), runs-one u (omega arith))
 
 -- in form, and it means a fresh tank
 fresh-is : state.Sound fresh × (view fresh ≡ freshView)
@@ -50,10 +50,10 @@ unfolding Spare
 fresh-is = tank.fresh-sound (replicate 514 0) (replicate 514 0) (λ i h. (blank-at 514 i 0, blank-at 514 i 0)) refl refl (replicate 64 blank) refl (λ i. blank-at 64 i blank)
 
 module _ (st : List Setting) where
-  run-fresh : (u : ℕ) → u < 8 → getD (freshly st .pool) (before eight u + 0) noRun ≡ record { len = T; set = 0 }
+  run-fresh : (u : ℕ) → u < 8 → getD (freshly st .pool) (runsBelow eight u + 0) noRun ≡ record { len = T; set = 0 }
   unfolding freshly
   run-fresh u h =
-      let e : before eight u + 0 ≡ u = omega (arith, before-one u (omega arith)) in
+      let e : runsBelow eight u + 0 ≡ u = omega (arith, below-one u (omega arith)) in
       rw e (laid-front (replicate 512 noRun) (λ _. record { len = T; set = 0 }) 8 u noRun (omega arith) h)
 
   pub tank-fresh : (u : ℕ) → u < 8 → tankOf (freshly st) u ≡ fresh
@@ -91,7 +91,7 @@ module _ (st : List Setting) where
       limits = λ u h. omega (arith, runs-one u h, accepted-at st ok u h);
       sum = omega (arith, claims-one 8 (omega arith), accepted-sum st ok);
       each = λ u h. subst Formed (sym (tank-fresh u h)) (fresh-is .0 .formed);
-      spare = λ k h. laid-out (replicate 512 noRun) 0 (λ _. record { len = T; set = 0 }) 8 k noRun (λ j g e. omega (arith, before-one 8 (omega arith))) ∙ blank-at 512 k noRun;
+      spare = λ k h. laid-out (replicate 512 noRun) 0 (λ _. record { len = T; set = 0 }) 8 k noRun (λ j g e. omega (arith, below-one 8 (omega arith))) ∙ blank-at 512 k noRun;
     }
 
     pub opens : Opens st (record { number = 0; tanks = freshly st })

@@ -15,10 +15,10 @@ use Rattle.tanks.specs.declared.Table.{Table}
 use Rattle.tanks.specs.declared.Tanks.{Tanks}
 use Rattle.runs.specs.Runs.{Spare}
 use Rattle.tank.specs.State.{Formed}
-use Rattle.tanks.specs.Pool.{noRun, noHead, noTable, runsIn, laid, before, tankIn, tankOf, headOf, tableIn, Sound}
+use Rattle.tanks.specs.Pool.{noRun, noHead, noTable, runsIn, laid, runsBelow, tankIn, tankOf, headOf, tableIn, Sound}
 use Rattle.tanks.proofs.Put.{runOf, runFrom, puts}
 use Rattle.tanks.proofs.SettingLaws.{sound-held}
-use Rattle.tanks.proofs.LaidLaws.{length-laid, laid-out, laid-in, laid-front, laid-cong, blank-at, before-next, before-same, before-later}
+use Rattle.tanks.proofs.LaidLaws.{length-laid, laid-out, laid-in, laid-front, laid-cong, blank-at, below-next, below-same, below-later}
 
 -- two tanks with equal fields are equal
 pub tank-eq : (x y : Tank) → x .touched ≡ y .touched → x .length ≡ y .length → x .runs ≡ y .runs → x .marks ≡ y .marks → x .lens ≡ y .lens → x .sets ≡ y .sets → x .table ≡ y .table → x ≡ y
@@ -59,27 +59,27 @@ module _ (pool : List Run) (at n left : ℕ) (x : Tank) (l : length pool ≡ 512
       ]
 
 -- the tanks
-module _ (s : Tanks) (t : ℕ) (x : Tank) (ok : Sound s) (t8 : t < 8) (formed : Formed x) (room : before (set (s .heads) t (headOf x)) 8 ≤ 512) where
+module _ (s : Tanks) (t : ℕ) (x : Tank) (ok : Sound s) (t8 : t < 8) (formed : Formed x) (room : runsBelow (set (s .heads) t (headOf x)) 8 ≤ 512) where
   h8 : length (s .heads) ≡ 8
   h8 = ok .heads-8
 
   at : ℕ
-  at = before (s .heads) t
+  at = runsBelow (s .heads) t
 
   n : ℕ
   n = runsIn (s .heads) t
 
   left : ℕ
   unfolding at n
-  left = before (s .heads) 8 - (before (s .heads) t + runsIn (s .heads) t)
+  left = runsBelow (s .heads) 8 - (runsBelow (s .heads) t + runsIn (s .heads) t)
 
-  all-before : at + n + left ≡ before (s .heads) 8
+  all-before : at + n + left ≡ runsBelow (s .heads) 8
   unfolding at n left
-  all-before = omega (arith, before-next (s .heads) t 8 t8)
+  all-before = omega (arith, below-next (s .heads) t 8 t8)
 
-  all-after : at + x .runs + left ≡ before (set (s .heads) t (headOf x)) 8
+  all-after : at + x .runs + left ≡ runsBelow (set (s .heads) t (headOf x)) 8
   unfolding at n left
-  all-after = omega (arith, before-later (s .heads) t (headOf x) 8 (omega (arith, h8)) t8, before-next (s .heads) t 8 t8)
+  all-after = omega (arith, below-later (s .heads) t (headOf x) 8 (omega (arith, h8)) t8, below-next (s .heads) t 8 t8)
 
   most : at + n + left ≤ 512
   most = omega (arith, all-before, sound-held s ok)
@@ -94,35 +94,35 @@ module _ (s : Tanks) (t : ℕ) (x : Tank) (ok : Sound s) (t8 : t < 8) (formed : 
   unfolding puts
   put-length = length-laid (s .pool) _ _ _ ∙ ok .pool-512
 
-  pub put-blank : (k : ℕ) → before (puts s t x .heads) 8 ≤ k → getD (puts s t x .pool) k noRun ≡ noRun
+  pub put-blank : (k : ℕ) → runsBelow (puts s t x .heads) 8 ≤ k → getD (puts s t x .pool) k noRun ≡ noRun
   unfolding puts at n left
   put-blank k h =
       pool-blank (s .pool) at n left x (ok .pool-512) most fits (λ j g. ok .spare j (omega (arith, all-before))) k (omega (arith, all-after))
 
   -- the runs of the tank put
-  put-run : (k : ℕ) → k < x .runs → getD (puts s t x .pool) (before (puts s t x .heads) t + k) noRun ≡ runOf (x .lens) (x .sets) k
+  put-run : (k : ℕ) → k < x .runs → getD (puts s t x .pool) (runsBelow (puts s t x .heads) t + k) noRun ≡ runOf (x .lens) (x .sets) k
   unfolding puts at n left
   put-run k h =
-      rw (before-same (s .heads) t (headOf x) t (omega arith))
+      rw (below-same (s .heads) t (headOf x) t (omega arith))
       (pool-mid (s .pool) at n left x (ok .pool-512) most fits k h)
 
   -- the runs of another tank
   moved : (u : ℕ) → u ≢ t → u < 8 → (k : ℕ) → k < runsIn (s .heads) u
-      → getD (puts s t x .pool) (before (puts s t x .heads) u + k) noRun ≡ getD (s .pool) (before (s .heads) u + k) noRun
+      → getD (puts s t x .pool) (runsBelow (puts s t x .heads) u + k) noRun ≡ getD (s .pool) (runsBelow (s .heads) u + k) noRun
   unfolding puts at n left
   moved u ne u8 k h =
       elim (decLt u t) [
         | yes l ↦
-            rw (before-same (s .heads) t (headOf x) u (omega arith))
-            (pool-low (s .pool) at n left x (ok .pool-512) most fits (before (s .heads) u + k) (omega (arith, before-next (s .heads) u t l)))
+            rw (below-same (s .heads) t (headOf x) u (omega arith))
+            (pool-low (s .pool) at n left x (ok .pool-512) most fits (runsBelow (s .heads) u + k) (omega (arith, below-next (s .heads) u t l)))
         | no l ↦
-            let f : before (s .heads) t + runsIn (s .heads) t ≤ before (s .heads) u = before-next (s .heads) t u (omega arith) in
-            let m : before (s .heads) u + runsIn (s .heads) u ≤ before (s .heads) 8 = before-next (s .heads) u 8 u8 in
-            let j : before (set (s .heads) t (headOf x)) u + k ≡ before (s .heads) t + x .runs + (before (s .heads) u + k - (before (s .heads) t + runsIn (s .heads) t)) =
-            omega (arith, before-later (s .heads) t (headOf x) u (omega (arith, h8)) (omega arith)) in
-            let i : before (s .heads) t + runsIn (s .heads) t + (before (s .heads) u + k - (before (s .heads) t + runsIn (s .heads) t)) ≡ before (s .heads) u + k = omega arith in
+            let f : runsBelow (s .heads) t + runsIn (s .heads) t ≤ runsBelow (s .heads) u = below-next (s .heads) t u (omega arith) in
+            let m : runsBelow (s .heads) u + runsIn (s .heads) u ≤ runsBelow (s .heads) 8 = below-next (s .heads) u 8 u8 in
+            let j : runsBelow (set (s .heads) t (headOf x)) u + k ≡ runsBelow (s .heads) t + x .runs + (runsBelow (s .heads) u + k - (runsBelow (s .heads) t + runsIn (s .heads) t)) =
+            omega (arith, below-later (s .heads) t (headOf x) u (omega (arith, h8)) (omega arith)) in
+            let i : runsBelow (s .heads) t + runsIn (s .heads) t + (runsBelow (s .heads) u + k - (runsBelow (s .heads) t + runsIn (s .heads) t)) ≡ runsBelow (s .heads) u + k = omega arith in
             rw j
-            (pool-high (s .pool) at n left x (ok .pool-512) most fits (before (s .heads) u + k - (before (s .heads) t + runsIn (s .heads) t)) (omega arith)
+            (pool-high (s .pool) at n left x (ok .pool-512) most fits (runsBelow (s .heads) u + k - (runsBelow (s .heads) t + runsIn (s .heads) t)) (omega arith)
             ∙ ap (λ (z : ℕ). getD (s .pool) z noRun) i)
       ]
 
@@ -146,8 +146,8 @@ module _ (s : Tanks) (t : ℕ) (x : Tank) (ok : Sound s) (t8 : t < 8) (formed : 
       (ap (λ (h : Head). h .length) head-same)
       r
       (ap (λ (h : Head). h .marks) head-same)
-      (rw r (array (x .lens) (λ k. getD (puts s t x .pool) (before (puts s t x .heads) t + k) noRun .len) (formed .laid .lens-514) few (λ k h. ap (λ (r : Run). r .len) (put-run k h)) (λ k h. formed .laid .spare k h .0)))
-      (rw r (array (x .sets) (λ k. getD (puts s t x .pool) (before (puts s t x .heads) t + k) noRun .set) (formed .laid .sets-514) few (λ k h. ap (λ (r : Run). r .set) (put-run k h)) (λ k h. formed .laid .spare k h .1)))
+      (rw r (array (x .lens) (λ k. getD (puts s t x .pool) (runsBelow (puts s t x .heads) t + k) noRun .len) (formed .laid .lens-514) few (λ k h. ap (λ (r : Run). r .len) (put-run k h)) (λ k h. formed .laid .spare k h .0)))
+      (rw r (array (x .sets) (λ k. getD (puts s t x .pool) (runsBelow (puts s t x .heads) t + k) noRun .set) (formed .laid .sets-514) few (λ k h. ap (λ (r : Run). r .set) (put-run k h)) (λ k h. formed .laid .spare k h .1)))
       (ap (λ (m : Table). m .marks) (getD-set-same (s .tables) t (tableIn x) noTable (omega (arith, ok .tables-8))))
 
   pub put-other : (u : ℕ) → u ≢ t → u < 8 → tankOf (puts s t x) u ≡ tankOf s u

@@ -13,11 +13,11 @@ use Rattle.tanks.specs.declared.Setting.{Setting}
 use Rattle.tanks.specs.declared.Head.{Head}
 use Rattle.tanks.specs.declared.Tanks.{Tanks}
 use Rattle.tanks.specs.House.{first}
-use Rattle.tanks.specs.Pool.{tankIn, runsIn, before, tankOf, Sound}
+use Rattle.tanks.specs.Pool.{tankIn, runsIn, runsBelow, tankOf, Sound}
 use Rattle.tanks.specs.Settings.{noSetting, shareOf, limitOf, fits, fit, shares, accepted, claims, heldAfter, judgement}
 use Rattle.tank.specs.declared.Tank.{Tank}
 use Rattle.tanks.specs.Contracts.{Taken, Judged, Small}
-use Rattle.tanks.proofs.LaidLaws.{before-next}
+use Rattle.tanks.proofs.LaidLaws.{below-next}
 
 pub both : (a b : Bool) → a && b ≡ true → (a ≡ true) × (b ≡ true)
 both true b h = (refl, h)
@@ -91,10 +91,10 @@ unfolding claims
 claims-cong st f g zero h = refl
 claims-cong st f g (suc n) h = rw (claims-cong st f g n (λ u l. h u (omega arith)), h n (omega arith))
 
-pub before-claims : (st : List Setting) (hs : List Head) (n : ℕ) → before hs n ≤ claims st (runsIn hs) n
-unfolding before claims
-before-claims st hs zero = omega arith
-before-claims st hs (suc n) = omega (arith, before-claims st hs n)
+pub below-claims : (st : List Setting) (hs : List Head) (n : ℕ) → runsBelow hs n ≤ claims st (runsIn hs) n
+unfolding runsBelow claims
+below-claims st hs zero = omega arith
+below-claims st hs (suc n) = omega (arith, below-claims st hs n)
 
 pub cond-le : (b : Bool) (x y k : ℕ) → x ≤ k → y ≤ k → cond b x y ≤ k
 cond-le true x y k h g = h
@@ -119,11 +119,11 @@ judged-small st hs t n h j l = record {
 }
 
 module _ (s : Tanks) (ok : Sound s) where
-  pub sound-held : before (s .heads) 8 ≤ 512
-  sound-held = omega (arith, ok .sum, before-claims (s .settings) (s .heads) 8)
+  pub sound-held : runsBelow (s .heads) 8 ≤ 512
+  sound-held = omega (arith, ok .sum, below-claims (s .settings) (s .heads) 8)
 
-  pub sound-place : (t : ℕ) → t < 8 → before (s .heads) t + runsIn (s .heads) t ≤ 512
-  sound-place t h = omega (arith, sound-held, before-next (s .heads) t 8 h)
+  pub sound-place : (t : ℕ) → t < 8 → runsBelow (s .heads) t + runsIn (s .heads) t ≤ 512
+  sound-place t h = omega (arith, sound-held, below-next (s .heads) t 8 h)
 
   few : (t : ℕ) → t < 8 → tankOf s t .runs ≤ 512
   unfolding tankOf tankIn

@@ -19,7 +19,7 @@ use Rattle.tanks.specs.Settings.{judgement}
 use Rattle.tanks.specs.House.{first}
 use Rattle.tanks.specs.Pool.{noRun, runsIn, laid, headOf, tableIn, spotsOf, Sound}
 use Rattle.tanks.proofs.Put.{runOf, runFrom, puts}
-use Rattle.tanks.proofs.LaidLaws.{laid-out, laid-more, laid-back, laid-cong, before-next, before-later}
+use Rattle.tanks.proofs.LaidLaws.{laid-out, laid-more, laid-back, laid-cong, below-next, below-later}
 use Rattle.tanks.proofs.SettingLaws.{sound-held, second-zero}
 use Rattle.tanks.proofs.MeaningLaws.{room}
 
@@ -119,8 +119,8 @@ module _ (s : Tanks) (t number : ℕ) (x : Tank) (ok : Sound s) (t8 : t < 8) (fo
       rw e
       (
       let r = room s t x ok t8 formed (second-zero number _ z) in
-      let l = before-later (s .heads) t (headOf x) 8 (omega (arith, ok .heads-8)) t8 in
-      let b = before-next (s .heads) t 8 t8 in
+      let l = below-later (s .heads) t (headOf x) 8 (omega (arith, ok .heads-8)) t8 in
+      let b = below-next (s .heads) t 8 t8 in
       let h = sound-held s ok in
       record {
         same = refl;

@@ -21,7 +21,7 @@ use Rattle.tanks.specs.declared.Edited.{Edited}
 use Rattle.tanks.specs.declared.Inserted.{Inserted}
 use Rattle.tanks.specs.declared.Removed.{Removed}
 use Rattle.tanks.specs.House.{House, setInserted, firstRemoved}
-use Rattle.tanks.specs.Pool.{noHead, noRun, noTable, runsIn, before, tankIn, tankOf, meaning, Sound}
+use Rattle.tanks.specs.Pool.{noHead, noRun, noTable, runsIn, runsBelow, tankIn, tankOf, meaning, Sound}
 use Rattle.tanks.specs.Contracts.{Opens, CalledAt}
 use Rattle.tanks.proofs.LaidLaws.{laid-front}
 use Rattle.tanks.proofs.SettingLaws.{sound-place}
@@ -43,15 +43,15 @@ record Place (hs : List Head) (n k : ℕ) : Type 0 where
   at : ℕ
   below : tank < n
   inside : at < runsIn hs tank
-  is : k ≡ before hs tank + at
+  is : k ≡ runsBelow hs tank + at
 
-place : (hs : List Head) (n k : ℕ) → k < before hs n → Place hs n k
-unfolding before
+place : (hs : List Head) (n k : ℕ) → k < runsBelow hs n → Place hs n k
+unfolding runsBelow
 place hs zero k h = absurd (omega arith)
 place hs (suc n) k h =
-    elim (decLt k (before hs n)) [
+    elim (decLt k (runsBelow hs n)) [
       | yes l ↦ let p = place hs n k l in record { tank = p .tank; at = p .at; below = omega (arith, p .below); inside = p .inside; is = p .is }
-      | no l ↦ record { tank = n; at = k - before hs n; below = omega arith; inside = omega arith; is = omega arith }
+      | no l ↦ record { tank = n; at = k - runsBelow hs n; below = omega arith; inside = omega arith; is = omega arith }
     ]
 
 module _ (a b : Tanks) (sa : Sound a) (sb : Sound b) (same : (u : ℕ) → u < 8 → tankOf a u ≡ tankOf b u) where
@@ -68,30 +68,30 @@ module _ (a b : Tanks) (sa : Sound a) (sb : Sound b) (same : (u : ℕ) → u < 8
       (ap (λ (x : Tank). x .marks) e))
 
   run-same : (u : ℕ) → u < 8 → (j : ℕ) → j < runsIn (a .heads) u
-      → getD (a .pool) (before (a .heads) u + j) noRun ≡ getD (b .pool) (before (b .heads) u + j) noRun
+      → getD (a .pool) (runsBelow (a .heads) u + j) noRun ≡ getD (b .pool) (runsBelow (b .heads) u + j) noRun
   unfolding tankOf tankIn
   run-same u h j g =
       let r : runsIn (a .heads) u ≡ runsIn (b .heads) u = ap (λ (x : List Head). runsIn x u) heads-same in
       let m : runsIn (a .heads) u ≤ 514 = omega (arith, sound-place a sa u h) in
-      run-eq (getD (a .pool) (before (a .heads) u + j) noRun) (getD (b .pool) (before (b .heads) u + j) noRun)
-      (sym (laid-front (replicate 514 0) (λ k. getD (a .pool) (before (a .heads) u + k) noRun .len) (runsIn (a .heads) u) j 0 m g)
+      run-eq (getD (a .pool) (runsBelow (a .heads) u + j) noRun) (getD (b .pool) (runsBelow (b .heads) u + j) noRun)
+      (sym (laid-front (replicate 514 0) (λ k. getD (a .pool) (runsBelow (a .heads) u + k) noRun .len) (runsIn (a .heads) u) j 0 m g)
       ∙ ap (λ (x : Tank). getD (x .lens) j 0) (same u h)
-      ∙ laid-front (replicate 514 0) (λ k. getD (b .pool) (before (b .heads) u + k) noRun .len) (runsIn (b .heads) u) j 0 (omega arith) (omega arith))
-      (sym (laid-front (replicate 514 0) (λ k. getD (a .pool) (before (a .heads) u + k) noRun .set) (runsIn (a .heads) u) j 0 m g)
+      ∙ laid-front (replicate 514 0) (λ k. getD (b .pool) (runsBelow (b .heads) u + k) noRun .len) (runsIn (b .heads) u) j 0 (omega arith) (omega arith))
+      (sym (laid-front (replicate 514 0) (λ k. getD (a .pool) (runsBelow (a .heads) u + k) noRun .set) (runsIn (a .heads) u) j 0 m g)
       ∙ ap (λ (x : Tank). getD (x .sets) j 0) (same u h)
-      ∙ laid-front (replicate 514 0) (λ k. getD (b .pool) (before (b .heads) u + k) noRun .set) (runsIn (b .heads) u) j 0 (omega arith) (omega arith))
+      ∙ laid-front (replicate 514 0) (λ k. getD (b .pool) (runsBelow (b .heads) u + k) noRun .set) (runsIn (b .heads) u) j 0 (omega arith) (omega arith))
 
   pool-same : a .pool ≡ b .pool
   pool-same =
       ext-getD noRun (a .pool) (b .pool) (sa .pool-512 ∙ sym (sb .pool-512))
-      (λ k _. elim (decLt k (before (a .heads) 8)) [
+      (λ k _. elim (decLt k (runsBelow (a .heads) 8)) [
         | yes l ↦
             let p = place (a .heads) 8 k l in
-            let q : before (a .heads) (p .tank) ≡ before (b .heads) (p .tank) = ap (λ (x : List Head). before x (p .tank)) heads-same in
-            let i : before (b .heads) (p .tank) + p .at ≡ k = omega (arith, p .is) in
+            let q : runsBelow (a .heads) (p .tank) ≡ runsBelow (b .heads) (p .tank) = ap (λ (x : List Head). runsBelow x (p .tank)) heads-same in
+            let i : runsBelow (b .heads) (p .tank) + p .at ≡ k = omega (arith, p .is) in
             ap (λ (z : ℕ). getD (a .pool) z noRun) (p .is) ∙ run-same (p .tank) (p .below) (p .at) (p .inside) ∙ ap (λ (z : ℕ). getD (b .pool) z noRun) i
         | no l ↦
-            let q : before (a .heads) 8 ≡ before (b .heads) 8 = ap (λ (x : List Head). before x 8) heads-same in
+            let q : runsBelow (a .heads) 8 ≡ runsBelow (b .heads) 8 = ap (λ (x : List Head). runsBelow x 8) heads-same in
             sa .spare k (omega arith) ∙ sym (sb .spare k (omega arith))
       ])
 

@@ -36,16 +36,16 @@ pub record CalledAt (s : Tanks) (t : ℕ) (e : Edit) (number : ℕ) (next : Tank
   pub sound : Sound next
 
 -- document 01's number and value for each case of an answer: 0 and a value, or a refusal's number with nothing beside it
-abbrev pub answered : {A R : Type 0} → (ℕ → R) → (A → R) → ℕ → A → R
-answered refused given number value = cond (eqb number 0) (given value) (refused number)
+abbrev pub refusedOrGiven : {A R : Type 0} → (ℕ → R) → (A → R) → ℕ → A → R
+refusedOrGiven refused given number value = cond (eqb number 0) (given value) (refused number)
 
 -- a count, as an answer
 abbrev pub counts : ℕ → ℕ → Count
-counts = answered Count.Refused Count.Counts
+counts = refusedOrGiven Count.Refused Count.Counts
 
 -- yes or no, as an answer
 abbrev pub says : ℕ → Bool → YesNo
-says = answered YesNo.Refused YesNo.Says
+says = refusedOrGiven YesNo.Refused YesNo.Says
 
 -- ---- Inner functions
 -- a tank taken out

@@ -40,9 +40,9 @@ laid p at f zero = p
 laid p at f (suc n) = set (laid p at f n) (at + n) (f n)
 
 -- how many runs the tanks below t hold: where tank t's begin
-unfoldable pub before : List Head → ℕ → ℕ
-before hs zero = 0
-before hs (suc t) = before hs t + runsIn hs t
+unfoldable pub runsBelow : List Head → ℕ → ℕ
+runsBelow hs zero = 0
+runsBelow hs (suc t) = runsBelow hs t + runsIn hs t
 
 -- tank t on its own: its head, its runs' lengths and sets with zeros behind them, and its marks
 unfoldable pub tankIn : List Head → List Run → Table → ℕ → Tank
@@ -51,8 +51,8 @@ tankIn hs pool table t = record {
   length = getD hs t noHead .length;
   runs = runsIn hs t;
   marks = getD hs t noHead .marks;
-  lens = laid (replicate 514 0) 0 (λ k. getD pool (before hs t + k) noRun .len) (runsIn hs t);
-  sets = laid (replicate 514 0) 0 (λ k. getD pool (before hs t + k) noRun .set) (runsIn hs t);
+  lens = laid (replicate 514 0) 0 (λ k. getD pool (runsBelow hs t + k) noRun .len) (runsIn hs t);
+  sets = laid (replicate 514 0) 0 (λ k. getD pool (runsBelow hs t + k) noRun .set) (runsIn hs t);
   table = table .marks;
 }
 
@@ -61,12 +61,12 @@ unfoldable pub tankOf : Tanks → ℕ → Tank
 tankOf s t = tankIn (s .heads) (s .pool) (getD (s .tables) t noTable) t
 
 -- the tanks' numbers
-abbrev pub numbers : List ℕ
-numbers = 0 ∷ 1 ∷ 2 ∷ 3 ∷ 4 ∷ 5 ∷ 6 ∷ 7 ∷ []
+abbrev pub tankNumbers : List ℕ
+tankNumbers = 0 ∷ 1 ∷ 2 ∷ 3 ∷ 4 ∷ 5 ∷ 6 ∷ 7 ∷ []
 
 -- what a state means: its settings, and each tank by its positions
 unfoldable pub meaning : Tanks → House
-meaning s = record { settings = s .settings; tanks = map (λ t. view (tankOf s t)) numbers }
+meaning s = record { settings = s .settings; tanks = map (λ t. view (tankOf s t)) tankNumbers }
 
 -- what holds of every state: settings that keep the rule, tanks in form within their limits, the sum within 512, blanks behind the last run
 pub record Sound (s : Tanks) : Type 0 where
@@ -78,7 +78,7 @@ pub record Sound (s : Tanks) : Type 0 where
   pub limits : (t : ℕ) → t < 8 → runsIn (s .heads) t ≤ limitOf (s .settings) t
   pub sum : claims (s .settings) (runsIn (s .heads)) 8 ≤ 512
   pub each : (t : ℕ) → t < 8 → Formed (tankOf s t)
-  pub spare : (k : ℕ) → before (s .heads) 8 ≤ k → getD (s .pool) k noRun ≡ noRun
+  pub spare : (k : ℕ) → runsBelow (s .heads) 8 ≤ k → getD (s .pool) k noRun ≡ noRun
 
 -- ---- A tank put back
 -- a tank's head
@@ -93,11 +93,11 @@ tableIn x = record { marks = x .table }
 -- touches; whether those behind it move up
 abbrev pub spotsOf : List Head → ℕ → ℕ → Spots
 spotsOf hs t m = record {
-  at = before hs t;
-  from = before hs t + runsIn hs t;
-  full = m + (before hs 8 - (before hs t + runsIn hs t));
-  count = max m (runsIn hs t) + (before hs 8 - (before hs t + runsIn hs t));
-  grows = ltb (before hs t + runsIn hs t) (before hs t + m);
+  at = runsBelow hs t;
+  from = runsBelow hs t + runsIn hs t;
+  full = m + (runsBelow hs 8 - (runsBelow hs t + runsIn hs t));
+  count = max m (runsIn hs t) + (runsBelow hs 8 - (runsBelow hs t + runsIn hs t));
+  grows = ltb (runsBelow hs t + runsIn hs t) (runsBelow hs t + m);
 }
 
 -- ---- Opening

@@ -2,7 +2,7 @@
 ghost use mathlib.Core.Path.{_≡_};
 ghost use mathlib.Core.Bool.{cond};
 ghost use Prim.Native.Nat.{_+_, _-_, _≤_, _<_, max};
-ghost use Rattle.tanks.specs.Pool.{before, tankIn, headOf, tableIn, spotsOf};
+ghost use Rattle.tanks.specs.Pool.{runsBelow, tankIn, headOf, tableIn, spotsOf};
 use super::Head;
 use super::Run;
 use super::Spots;
@@ -11,8 +11,8 @@ use tank::Tank;
 
 // Where tank t's runs begin; for 8, where the last tank's end.
 pub fn start(heads: [Head; 8], t: usize) -> usize
-    requires { ⌜ (t ≤ 8) × (before heads 8 ≤ 512) ⌝ }
-    ensures { λ r. ⌜ r ≡ before heads t ⌝ }
+    requires { ⌜ (t ≤ 8) × (runsBelow heads 8 ≤ 512) ⌝ }
+    ensures { λ r. ⌜ r ≡ runsBelow heads t ⌝ }
 {
     let mut at = 0;
     let mut u = 0;
@@ -31,7 +31,7 @@ fn larger(a: usize, b: usize) -> usize
 
 // What the pool has from tank t's place on, were the tank to hold m runs.
 pub fn spots(heads: [Head; 8], t: usize, m: usize) -> Spots
-    requires { ⌜ (t < 8) × (m ≤ 514) × (before heads 8 ≤ 512) ⌝ }
+    requires { ⌜ (t < 8) × (m ≤ 514) × (runsBelow heads 8 ≤ 512) ⌝ }
     ensures { λ r. ⌜ r ≡ spotsOf heads t m ⌝ }
 {
     let at = start(heads, t);
@@ -58,7 +58,7 @@ pub fn turn(back: bool, k: usize, count: usize) -> usize
 
 // Tank t on its own.
 pub fn taken(heads: [Head; 8], pool: [Run; 512], table: Table, t: usize) -> Tank
-    requires { ⌜ (t < 8) × (before heads 8 ≤ 512) ⌝ }
+    requires { ⌜ (t < 8) × (runsBelow heads 8 ≤ 512) ⌝ }
     ensures { λ r. ⌜ r ≡ tankIn heads pool table t ⌝ }
 {
     let at = start(heads, t);

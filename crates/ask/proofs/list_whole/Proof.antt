@@ -3,7 +3,7 @@ use mathlib.Core.Path.{refl}
 use lib.ListN.{length}
 use borrow.Author.Needs.{needs}
 use Rattle.runs.specs.Stretches.{inFront}
-use Rattle.lists.specs.Lists.{wholeList, wholeNumber, unlessRefused, answered}
+use Rattle.lists.specs.Lists.{wholeList, wholeNumber, unlessRefused, filledBeside}
 use Rattle.ask.specs.Asks.{noList}
 use Rattle.ask.proofs.AskLaws.{past, inside}
 use Rattle.ask.proofs.list_whole.Statement.{statement}
@@ -14,7 +14,7 @@ use Rattle.ask.proofs.list_whole.Lts as lts
 returns : tie.Need-returns
 returns c =
     let s = c .before .before .before in (
-      past (s .args .s) (s .args .tank) noList (λ v. answered (wholeNumber (length (s .args .out .now)) v) (wholeList v)) (c .before .if1 .taken) (c .no-list .ensures),
+      past (s .args .s) (s .args .tank) noList (λ v. filledBeside (wholeNumber (length (s .args .out .now)) v) (wholeList v)) (c .before .if1 .taken) (c .no-list .ensures),
       past (s .args .s) (s .args .tank) (s .args .out .now) (λ v. inFront (unlessRefused (wholeNumber (length (s .args .out .now)) v) (wholeList v)) (s .args .out .now)) (c .before .if1 .taken) refl,
     )
 
@@ -25,7 +25,7 @@ returns-2 c =
     let n = k .before in
     let e = n .before in
     let s = e .before .before in (
-      inside (s .args .s) (s .args .tank) noList (λ v. answered (wholeNumber (length (s .args .out .now)) v) (wholeList v)) (n .narrow .result) (e .if1 .left) (n .narrow .ensures) (k .take .ensures)
+      inside (s .args .s) (s .args .tank) noList (λ v. filledBeside (wholeNumber (length (s .args .out .now)) v) (wholeList v)) (n .narrow .result) (e .if1 .left) (n .narrow .ensures) (k .take .ensures)
           (w .list-whole .ensures .0),
       inside (s .args .s) (s .args .tank) (s .args .out .now) (λ v. inFront (unlessRefused (wholeNumber (length (s .args .out .now)) v) (wholeList v)) (s .args .out .now)) (n .narrow .result) (e .if1 .left) (n .narrow .ensures) (k .take .ensures)
           (w .list-whole .ensures .1),

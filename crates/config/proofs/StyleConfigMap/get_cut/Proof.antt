@@ -8,7 +8,7 @@ use lib.Seq.{length-take-le}
 use borrow.Author.Needs.{needs}
 use Rattle.config.specs.Names.{cut}
 use Rattle.config.specs.Table.{styleFor}
-use Rattle.config.specs.Meaning.{styleIn, meaning}
+use Rattle.config.specs.Meaning.{styleIn, configured}
 use Rattle.config.proofs.NameLaws.{cut-le, take-cut}
 use Rattle.config.proofs.AnswerLaws.{asked-long, asked-found}
 use Rattle.config.proofs.StyleConfigMap.get_cut.Statement.{statement}
@@ -18,7 +18,7 @@ returns : tie.Need-returns
 returns c =
     let start = c .before .before in
     let k = start .args .key .now in
-    asked-long k (styleFor (cut k) (meaning (start .args .self))) (c .if1 .taken)
+    asked-long k (styleFor (cut k) (configured (start .args .self))) (c .if1 .taken)
 
 first-colon-requires : tie.Need-first-colon-requires
 first-colon-requires c κs = search needs
@@ -39,25 +39,25 @@ enum-told c = search needs
 
 -- what is looked up is the part before the first colon
 found : (c : tie.After-style-for) → let start = c .before .before .before .before .before in
-    styleIn (c .style-for .result) ≡ styleFor (cut (start .args .key .now)) (meaning (start .args .self))
+    styleIn (c .style-for .result) ≡ styleFor (cut (start .args .key .now)) (configured (start .args .self))
 found c =
     let start = c .before .before .before .before .before in
     let k = start .args .key .now in
     let e : take (c .before .before .first-colon .result) k ≡ cut k = rw (c .before .before .first-colon .ensures) (take-cut k) in
-    c .style-for .ensures ∙ ap (λ (x : List ℕ). styleFor x (meaning (start .args .self))) e
+    c .style-for .ensures ∙ ap (λ (x : List ℕ). styleFor x (configured (start .args .self))) e
 
 returns-2 : tie.Need-returns-2
 returns-2 c =
     let start = c .before .before .before .before .before .before .before .before in
     let k = start .args .key .now in
-    asked-found k (styleFor (cut k) (meaning (start .args .self))) (c .before .before .before .before .before .before .if1 .left) _
+    asked-found k (styleFor (cut k) (configured (start .args .self))) (c .before .before .before .before .before .before .if1 .left) _
     (sym (ap styleIn (c .before .style .given .1)) ∙ found (c .before .before .before))
 
 returns-3 : tie.Need-returns-3
 returns-3 c =
     let start = c .before .before .before .before .before .before .before in
     let k = start .args .key .now in
-    asked-found k (styleFor (cut k) (meaning (start .args .self))) (c .before .before .before .before .before .if1 .left) _
+    asked-found k (styleFor (cut k) (configured (start .args .self))) (c .before .before .before .before .before .if1 .left) _
     (sym (ap styleIn (c .enum-told .given .1)) ∙ found (c .before .before))
 
 pub get-cut-spec : {M : Type 1} → statement M

@@ -4,7 +4,7 @@ use borrow.Author.Needs.{needs}
 use Rattle.config.specs.Names.{cut}
 use Rattle.config.specs.Table.{styleFor}
 use Rattle.config.specs.Answers.{said, markFlag}
-use Rattle.config.specs.Meaning.{meaning}
+use Rattle.config.specs.Meaning.{configured}
 use Rattle.config.proofs.AnswerLaws.{asked-map}
 use Rattle.config.proofs.StyleConfigMap.get_style_flag.Statement.{statement}
 use Rattle.config.proofs.StyleConfigMap.get_style_flag.Tie as tie
@@ -29,21 +29,21 @@ returns c =
     let start = c .before .before .before .before .before .before in
     let k = start .args .key .now in
     let said-style = sym (ap said (c .before .before .style .given .1)) ∙ c .before .before .before .before .get-cut .ensures in
-    rw (c .new .ensures) (asked-map markFlag k (styleFor (cut k) (meaning (start .args .self))) _ said-style)
+    rw (c .new .ensures) (asked-map markFlag k (styleFor (cut k) (configured (start .args .self))) _ said-style)
 
 returns-2 : tie.Need-returns-2
 returns-2 c =
     let start = c .before .before .before .before in
     let k = start .args .key .now in
     let said-style = sym (ap said (c .enum-told .given .1)) ∙ c .before .before .get-cut .ensures in
-    asked-map markFlag k (styleFor (cut k) (meaning (start .args .self))) _ said-style
+    asked-map markFlag k (styleFor (cut k) (configured (start .args .self))) _ said-style
 
 returns-3 : tie.Need-returns-3
 returns-3 c =
     let start = c .before .before .before .before in
     let k = start .args .key .now in
     let said-style = sym (ap said (c .enum-told2 .given .1)) ∙ c .before .before .get-cut .ensures in
-    asked-map markFlag k (styleFor (cut k) (meaning (start .args .self))) _ said-style
+    asked-map markFlag k (styleFor (cut k) (configured (start .args .self))) _ said-style
 
 pub get-style-flag-spec : {M : Type 1} → statement M
 get-style-flag-spec =

@@ -4,7 +4,7 @@ use mathlib.Core.Bool.{false}
 use native.Mathlib.Omega.{arith}
 use borrow.Author.Needs.{needs}
 use Rattle.config.specs.Names.{holdsColon}
-use Rattle.config.specs.Meaning.{meaning}
+use Rattle.config.specs.Meaning.{configured}
 use Rattle.config.proofs.NameLaws.{colon-cut}
 use Rattle.config.proofs.TableLaws.{refuses-long, refuses-colon}
 use Rattle.config.proofs.MapLaws.{accepted, full, refused}
@@ -15,7 +15,7 @@ returns : tie.Need-returns
 returns c =
     let start = c .before .before in
     refused (start .args .self) (start .pre) (start .args .key .now) (start .args .value)
-    (refuses-long (start .args .key .now) (meaning (start .args .self)) (c .if1 .taken))
+    (refuses-long (start .args .key .now) (configured (start .args .self)) (c .if1 .taken))
 
 first-colon-requires : tie.Need-first-colon-requires
 first-colon-requires c κs = search needs
@@ -24,7 +24,7 @@ returns-2 : tie.Need-returns-2
 returns-2 c =
     let start = c .before .before .before .before in
     refused (start .args .self) (start .pre) (start .args .key .now) (start .args .value)
-    (refuses-colon (start .args .key .now) (meaning (start .args .self)) (colon-cut (start .args .key .now) .0 (omega arith)))
+    (refuses-colon (start .args .key .now) (configured (start .args .self)) (colon-cut (start .args .key .now) .0 (omega arith)))
 
 -- past the second test the name holds no colon
 plain : (c : tie.Else2) → holdsColon (c .before .before .before .before .args .key .now) ≡ false

@@ -6,13 +6,13 @@ use native.Mathlib.Omega.{arith}
 use lib.ListN.{drop}
 use borrow.Author.Needs.{needs}
 use Rattle.config.specs.Table.{place}
-use Rattle.config.specs.Meaning.{meaning}
+use Rattle.config.specs.Meaning.{configured}
 use Rattle.config.proofs.MapLaws.{place-pass, place-stop, place-over}
 use Rattle.config.proofs.StyleConfigMap.place.Statement.{statement}
 use Rattle.config.proofs.StyleConfigMap.place.Tie as tie
 
 abbrev Inv-loop : tie.InvT-loop
-Inv-loop key self count i₀ i = (i ≤ self .count) × (i + place key (drop i (meaning self .entries)) ≡ place key (meaning self .entries))
+Inv-loop key self count i₀ i = (i ≤ self .count) × (i + place key (drop i (configured self .entries)) ≡ place key (configured self .entries))
 
 abbrev μ-loop : tie.MeasureT-loop
 μ-loop key self count i₀ i = self .count - i

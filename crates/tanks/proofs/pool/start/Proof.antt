@@ -3,21 +3,21 @@ use borrow.Author.Needs.{needs}
 use native.Mathlib.Omega.{arith}
 use Prim.Native.Nat.{_-_, _≤_}
 use mathlib.Core.Path.{_≡_, refl}
-use Rattle.tanks.specs.Pool.{before}
-use Rattle.tanks.proofs.LaidLaws.{before-more, before-next}
+use Rattle.tanks.specs.Pool.{runsBelow}
+use Rattle.tanks.proofs.LaidLaws.{below-more, below-next}
 use Rattle.tanks.proofs.pool.start.Statement.{statement}
 use Rattle.tanks.proofs.pool.start.Tie as tie
 use Rattle.tanks.proofs.pool.start.Reads as reads
 use Rattle.tanks.proofs.pool.start.Lts as lts
 
 abbrev Inv-loop : tie.InvT-loop
-Inv-loop t heads at₀ u₀ at u = (u ≤ t) × (at ≡ before heads u)
+Inv-loop t heads at₀ u₀ at u = (u ≤ t) × (at ≡ runsBelow heads u)
 
 abbrev μ-loop : tie.MeasureT-loop
 μ-loop t heads at₀ u₀ at u = t - u
 
 loop-holds : tie.Need-loop-holds Inv-loop μ-loop
-unfolding before
+unfolding runsBelow
 loop-holds c = (omega arith, refl)
 
 mul-at : tie.Need-mul-at Inv-loop μ-loop
@@ -27,7 +27,7 @@ element-copy-out-at : tie.Need-element-copy-out-at Inv-loop μ-loop
 element-copy-out-at c = search needs
 
 add-at : tie.Need-add-at Inv-loop μ-loop
-add-at c = omega (arith, before-next (c .before .before .args .t1) (c .before .loop .u) 8 (omega arith))
+add-at c = omega (arith, below-next (c .before .before .args .t1) (c .before .loop .u) 8 (omega arith))
 
 add-u : tie.Need-add-u Inv-loop μ-loop
 add-u c = search needs
@@ -36,7 +36,7 @@ loop-less : tie.Need-loop-less Inv-loop μ-loop
 loop-less c = search needs
 
 loop-again : tie.Need-loop-again Inv-loop μ-loop
-loop-again c = omega (arith, before-more (c .before .before .args .t1) (c .before .loop .u))
+loop-again c = omega (arith, below-more (c .before .before .args .t1) (c .before .loop .u))
 
 returns : tie.Need-returns Inv-loop μ-loop
 returns c = let e : c .before .loop .u ≡ c .before .before .args .t = omega arith in rw (← e) (c .before .loop .inv .1)

@@ -4,8 +4,8 @@ use native.Mathlib.Omega.{arith}
 use Prim.Native.Nat.{_+_, _-_, _≤_}
 use mathlib.Core.Path.{_≡_, refl, _∙_}
 use lib.ListN.{getD, set, replicate}
-use Rattle.tanks.specs.Pool.{noRun, runsIn, laid, before, tankIn}
-use Rattle.tanks.proofs.LaidLaws.{laid-more-front, before-next}
+use Rattle.tanks.specs.Pool.{noRun, runsIn, laid, runsBelow, tankIn}
+use Rattle.tanks.proofs.LaidLaws.{laid-more-front, below-next}
 use Rattle.tanks.proofs.PutLaws.{tank-eq}
 use Rattle.tanks.proofs.pool.taken.Statement.{statement}
 use Rattle.tanks.proofs.pool.taken.Tie as tie
@@ -36,7 +36,7 @@ loop-holds : tie.Need-loop-holds Inv-loop μ-loop
 unfolding laid
 loop-holds c =
     let a = c .before .before .before in
-    (omega arith, omega (arith, c .before .before .start .ensures, before-next (a .args .t1) (a .args .t) 8 (a .pre .0), a .pre .1), refl, refl)
+    (omega arith, omega (arith, c .before .before .start .ensures, below-next (a .args .t1) (a .args .t) 8 (a .pre .0), a .pre .1), refl, refl)
 
 add-r : tie.Need-add-r Inv-loop μ-loop
 add-r c = search needs

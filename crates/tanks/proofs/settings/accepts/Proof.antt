@@ -7,7 +7,7 @@ use mathlib.Core.Bool.{true}
 use lib.ListN.{getD}
 use borrow.Author.Tests.{not-true, not-false}
 use Rattle.tanks.specs.Settings.{noSetting, fits, fit, shares}
-use Rattle.tanks.specs.Pool.{before}
+use Rattle.tanks.specs.Pool.{runsBelow}
 use Rattle.tanks.proofs.SettingLaws.{fits-facts, fit-grown, accepts-not, accepts-last, shares-more}
 use Rattle.tanks.proofs.settings.accepts.Statement.{statement}
 use Rattle.tanks.proofs.settings.accepts.Tie as tie

@@ -6,7 +6,7 @@ use mathlib.Core.Path.{_≡_, refl, ap, _∙_}
 use mathlib.Core.Bool.{cond}
 use lib.Dec.{eqb}
 use Rattle.tanks.specs.Settings.{shareOf, claims, heldAfter}
-use Rattle.tanks.specs.Pool.{runsIn, before}
+use Rattle.tanks.specs.Pool.{runsIn, runsBelow}
 use Rattle.tanks.proofs.SettingLaws.{claims-more, small-more}
 use Rattle.tanks.proofs.settings.claimed.Statement.{statement}
 use Rattle.tanks.proofs.settings.claimed.Tie as tie

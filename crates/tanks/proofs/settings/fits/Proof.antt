@@ -1,6 +1,6 @@
 -- `fits` meets its contract: its three tests are the rule's, in the rule's order.
 use borrow.Author.Tests.{le-leb, lt-leb}
-use Rattle.tanks.specs.Pool.{before}
+use Rattle.tanks.specs.Pool.{runsBelow}
 use Rattle.tanks.proofs.SettingLaws.{fits-last}
 use Rattle.tanks.proofs.settings.fits.Statement.{statement}
 use Rattle.tanks.proofs.settings.fits.Tie as tie
