@@ -14,7 +14,7 @@ use Rattle.tanks.specs.declared.Performed.{Performed}
 use Rattle.tanks.specs.declared.Tanks.{Tanks}
 use Rattle.tanks.specs.House.{tankAt, refusalAt, setInserted, firstRemoved}
 use Rattle.tanks.specs.Pool.{tankOf, meaning}
-use Rattle.tanks.specs.Contracts.{CalledAt, Taken, setBeside, firstBeside, setAnswer, firstAnswer, PerformedAs, DoneAt}
+use Rattle.tanks.specs.Contracts.{CalledAt, Taken, setBeside, firstBeside, PerformedAs, DoneAt}
 use Rattle.tanks.proofs.SettingLaws.{first-zero}
 use Rattle.tanks.proofs.MeaningLaws.{tank-at}
 use Rattle.tanks.proofs.CallLaws.{refusal-in}
@@ -46,25 +46,25 @@ module _ (s : Tanks) (t : ℕ) where
   first-refused id last h = rw (ne-eqb (refusalAt (meaning s) t (removing id last)) 0 (λ z. omega arith))
 
   -- the same for every edit
-  set-beside : (e : Edit) (x : Tank) (u : ℕ) → t < 8 → u ≡ t → Taken s u x → refusalAt (meaning s) t e ≡ 0 → setBeside e (view x) ≡ setAnswer (meaning s) t e
+  set-beside : (e : Edit) (x : Tank) (u : ℕ) → t < 8 → u ≡ t → Taken s u x → refusalAt (meaning s) t e ≡ 0 → setBeside (λ pos len. insertedSet pos len (view x)) e ≡ setBeside (setInserted (meaning s) t) e
   set-beside (annotating a b m) x u h same taken z = refl
   set-beside (inserting pos len) x u h same taken z = set-done pos len x u h same taken z
   set-beside (deleting a b) x u h same taken z = refl
   set-beside (removing id last) x u h same taken z = refl
 
-  first-beside : (e : Edit) (x : Tank) (u : ℕ) → t < 8 → u ≡ t → Taken s u x → refusalAt (meaning s) t e ≡ 0 → firstBeside e (view x) ≡ firstAnswer (meaning s) t e
+  first-beside : (e : Edit) (x : Tank) (u : ℕ) → t < 8 → u ≡ t → Taken s u x → refusalAt (meaning s) t e ≡ 0 → firstBeside (λ id last. removedFirst id last (view x)) e ≡ firstBeside (firstRemoved (meaning s) t) e
   first-beside (annotating a b m) x u h same taken z = refl
   first-beside (inserting pos len) x u h same taken z = refl
   first-beside (deleting a b) x u h same taken z = refl
   first-beside (removing id last) x u h same taken z = first-done id last x u h same taken z
 
-  no-set : (e : Edit) → 0 < refusalAt (meaning s) t e → [] ≡ setAnswer (meaning s) t e
+  no-set : (e : Edit) → 0 < refusalAt (meaning s) t e → [] ≡ setBeside (setInserted (meaning s) t) e
   no-set (annotating a b m) h = refl
   no-set (inserting pos len) h = set-refused pos len h
   no-set (deleting a b) h = refl
   no-set (removing id last) h = refl
 
-  no-first : (e : Edit) → 0 < refusalAt (meaning s) t e → 0 ≡ firstAnswer (meaning s) t e
+  no-first : (e : Edit) → 0 < refusalAt (meaning s) t e → 0 ≡ firstBeside (firstRemoved (meaning s) t) e
   no-first (annotating a b m) h = refl
   no-first (inserting pos len) h = refl
   no-first (deleting a b) h = refl

@@ -15,7 +15,7 @@ use Rattle.tanks.specs.House.{House, tankAt, held, first, refusalAt, wit
 use Rattle.tanks.specs.Pool.{runsIn, tankOf, meaning, Sound}
 use Rattle.tanks.specs.Contracts.{CalledAt, Taken}
 use Rattle.tanks.proofs.SettingLaws.{first-zero}
-use Rattle.tanks.proofs.MeaningLaws.{tank-at, judged-is, Settled}
+use Rattle.tanks.proofs.MeaningLaws.{tank-at, judged-is, Tail}
 
 -- where the test holds the two agree, so they agree under it
 pub cond-when : {A : Type 0} (b : Bool) (x y z : A) → (b ≡ true → x ≡ y) → cond b x z ≡ cond b y z
@@ -47,7 +47,7 @@ after-done h t e z = rw z
 pub done-is : (e : Edit) (v : View) → refusal e v ≡ 0 → afterCall e v ≡ after e v
 done-is e v z = rw z
 
-module _ (s : Tanks) (t : ℕ) (e : Edit) (number : ℕ) (x : Tank) (v : ℕ) (next : Tanks) (ok : Sound s) (t8 : t < 8) (called : Called e (tankOf s t) number x) (settled : Settled s t number x v next) where
+module _ (s : Tanks) (t : ℕ) (e : Edit) (number : ℕ) (x : Tank) (v : ℕ) (next : Tanks) (ok : Sound s) (t8 : t < 8) (called : Called e (tankOf s t) number x) (tail : Tail s t number x v next) where
   is-view : tankAt (meaning s) t ≡ view (tankOf s t)
   is-view = tank-at s t freshView t8
 
@@ -68,7 +68,7 @@ module _ (s : Tanks) (t : ℕ) (e : Edit) (number : ℕ) (x : Tank) (v : ℕ) (n
   is-number : v ≡ refusalAt (meaning s) t e
   unfolding meaning
   is-number =
-      settled .verdict-is
+      tail .verdict-is
       ∙ first-when number _ _ is-judged
       ∙ ap (λ (n : ℕ). first n (judgement (s .settings) (held (meaning s)) t (runsHeld (after e (tankAt (meaning s) t))))) is-refusal
       ∙ sym (refusal-in (meaning s) t e t8)
@@ -76,20 +76,20 @@ module _ (s : Tanks) (t : ℕ) (e : Edit) (number : ℕ) (x : Tank) (v : ℕ) (n
   is-state : meaning next ≡ afterAt (meaning s) t e
   unfolding afterAt
   is-state =
-      settled .is
-      ∙ cond-when (eqb v 0) _ _ (meaning s) (λ b. ap (withTank (meaning s) t) (is-after (first-zero number _ (sym (settled .verdict-is) ∙ eqb-true v 0 b))))
+      tail .is
+      ∙ cond-when (eqb v 0) _ _ (meaning s) (λ b. ap (withTank (meaning s) t) (is-after (first-zero number _ (sym (tail .verdict-is) ∙ eqb-true v 0 b))))
       ∙ ap (λ (n : ℕ). cond (eqb n 0) (withTank (meaning s) t (after e (tankAt (meaning s) t))) (meaning s)) is-number
 
   pub called-at : CalledAt s t e v next
-  called-at = record { number-is = is-number; is = is-state; sound = settled .sound }
+  called-at = record { number-is = is-number; is = is-state; sound = tail .sound }
 
 -- the tank taken out, its own call, the tail
 pub called-by : (s : Tanks) (tank t : ℕ) (e : Edit) (x : Tank) (number : ℕ) (y : Tank) (v : ℕ) (next : Tanks) → Sound s → tank < 8 → t ≡ tank
-    → Taken s t x → Called e x number y → Settled s t number y v next → CalledAt s tank e v next
-called-by s tank t e x number y v next ok h same taken called settled =
+    → Taken s t x → Called e x number y → Tail s t number y v next → CalledAt s tank e v next
+called-by s tank t e x number y v next ok h same taken called tail =
     called-at s tank e number y v next ok h
     (subst (λ z. Called e z number y) (taken .is ∙ ap (tankOf s) same) called)
-    (subst (λ u. Settled s u number y v next) same settled)
+    (subst (λ u. Tail s u number y v next) same tail)
 
 -- 1: the very same state
 pub called-past : (s : Tanks) (t : ℕ) (e : Edit) → Sound s → 8 ≤ t → CalledAt s t e 1 s

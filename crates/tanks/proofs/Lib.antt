@@ -3,7 +3,7 @@ pub mod SettingLaws
 pub mod Put
 pub mod PutLaws
 pub mod MeaningLaws
-pub mod SettleLaws
+pub mod WriteLaws
 pub mod CallLaws
 pub mod AnswerLaws
 pub mod AskLaws

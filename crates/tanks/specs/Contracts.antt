@@ -4,10 +4,11 @@ use mathlib.Core.Path.{_≡_}
 use mathlib.Core.Bool.{Bool, true, cond}
 use mathlib.Core.List.{List, []}
 use lib.Dec.{eqb}
+use Rattle.styles.specs.declared.Identity.{Identity}
 use Rattle.styles.specs.declared.Mark.{Mark}
 use Rattle.styles.specs.Answers.{stylesOf}
 use Rattle.tank.specs.declared.Tank.{Tank}
-use Rattle.tank.specs.Rules.{View, Edit, annotating, inserting, deleting, removing, insertedSet, removedFirst}
+use Rattle.tank.specs.Rules.{Edit, annotating, inserting, deleting, removing, insertedSet, removedFirst}
 use Rattle.tank.specs.State as state
 use Rattle.tanks.specs.declared.Setting.{Setting}
 use Rattle.tanks.specs.declared.Head.{Head}
@@ -19,7 +20,7 @@ use Rattle.tanks.specs.declared.Done.{Done}
 use Rattle.tanks.specs.declared.Count.{Count}
 use Rattle.tanks.specs.declared.YesNo.{YesNo}
 use Rattle.tanks.specs.Settings.{accepted, shareOf, limitOf}
-use Rattle.tanks.specs.House.{House, openNumber, opening, refusalAt, afterAt, setInserted, firstRemoved}
+use Rattle.tanks.specs.House.{openNumber, opening, refusalAt, afterAt, setInserted, firstRemoved}
 use Rattle.tanks.specs.Pool.{runsIn, tankOf, meaning, Sound}
 
 -- ---- Public functions
@@ -71,42 +72,28 @@ editOf (code.Edit.Insert pos len) = inserting pos len
 editOf (code.Edit.Delete start end) = deleting start end
 editOf (code.Edit.Remove id last) = removing id last
 
--- what stands beside the number of one tank's own call: the set of an insertion; empty beside any other edit
-abbrev pub setBeside : Edit → View → List Mark
-setBeside (annotating a b m) v = []
-setBeside (inserting pos len) v = insertedSet pos len v
-setBeside (deleting a b) v = []
-setBeside (removing id last) v = []
+-- what stands beside the number of an edit: the set that an insertion gives; empty beside any other edit
+abbrev pub setBeside : (ℕ → ℕ → List Mark) → Edit → List Mark
+setBeside gives (annotating a b m) = []
+setBeside gives (inserting pos len) = gives pos len
+setBeside gives (deleting a b) = []
+setBeside gives (removing id last) = []
 
--- and the first position of a removal; 0 beside any other edit
-abbrev pub firstBeside : Edit → View → ℕ
-firstBeside (annotating a b m) v = 0
-firstBeside (inserting pos len) v = 0
-firstBeside (deleting a b) v = 0
-firstBeside (removing id last) v = removedFirst id last v
-
--- what stands beside the number of a call on tank t of the eight: the set of an insertion; empty beside any other edit
-abbrev pub setAnswer : House → ℕ → Edit → List Mark
-setAnswer h t (annotating a b m) = []
-setAnswer h t (inserting pos len) = setInserted h t pos len
-setAnswer h t (deleting a b) = []
-setAnswer h t (removing id last) = []
-
--- and the first position of a removal; 0 beside any other edit
-abbrev pub firstAnswer : House → ℕ → Edit → ℕ
-firstAnswer h t (annotating a b m) = 0
-firstAnswer h t (inserting pos len) = 0
-firstAnswer h t (deleting a b) = 0
-firstAnswer h t (removing id last) = firstRemoved h t id last
+-- and the first position that a removal gives; 0 beside any other edit
+abbrev pub firstBeside : (Identity → ℕ → ℕ) → Edit → ℕ
+firstBeside gives (annotating a b m) = 0
+firstBeside gives (inserting pos len) = 0
+firstBeside gives (deleting a b) = 0
+firstBeside gives (removing id last) = gives id last
 
 -- what an edit of a tank taken out hands back
 pub record PerformedAs (e : Edit) (x : Tank) (r : Performed) : Type 0 where
   pub called : state.Called e x (r .number) (r .tank)
-  pub styles-are : r .styles ≡ stylesOf (setBeside e (state.view x))
-  pub first-is : r .first ≡ firstBeside e (state.view x)
+  pub styles-are : r .styles ≡ stylesOf (setBeside (λ pos len. insertedSet pos len (state.view x)) e)
+  pub first-is : r .first ≡ firstBeside (λ id last. removedFirst id last (state.view x)) e
 
 -- what an edit of tank t hands back
 pub record DoneAt (s : Tanks) (t : ℕ) (e : Edit) (r : Done) : Type 0 where
   pub called : CalledAt s t e (r .number) (r .tanks)
-  pub styles-are : r .styles ≡ stylesOf (setAnswer (meaning s) t e)
-  pub first-is : r .first ≡ firstAnswer (meaning s) t e
+  pub styles-are : r .styles ≡ stylesOf (setBeside (setInserted (meaning s) t) e)
+  pub first-is : r .first ≡ firstBeside (firstRemoved (meaning s) t) e

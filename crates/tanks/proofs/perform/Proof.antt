@@ -5,7 +5,7 @@ use mathlib.Core.Path.{_≡_, refl}
 use mathlib.Core.List.{[]}
 use Rattle.styles.specs.Answers.{stylesOf}
 use Rattle.tank.specs.declared.Tank.{Tank}
-use Rattle.tank.specs.Rules.{Edit}
+use Rattle.tank.specs.Rules.{Edit, insertedSet, removedFirst}
 use Rattle.tank.specs.State.{view, Called}
 use Rattle.tanks.specs.declared.Performed.{Performed}
 use Rattle.tanks.specs.Contracts.{setBeside, firstBeside, PerformedAs}
@@ -21,7 +21,8 @@ use Rattle.tank.proofs.Tank.remove_style_scanning_backward.Reads as remove-styl
 use Rattle.tanks.proofs.plain.Reads as plain-reads
 
 -- an edit that answers its number alone
-as-plain : (e : Edit) (x : Tank) (n : ℕ) (y : Tank) (r : Performed) → Called e x n y → setBeside e (view x) ≡ [] → firstBeside e (view x) ≡ 0
+as-plain : (e : Edit) (x : Tank) (n : ℕ) (y : Tank) (r : Performed) → Called e x n y
+    → setBeside (λ pos len. insertedSet pos len (view x)) e ≡ [] → firstBeside (λ id last. removedFirst id last (view x)) e ≡ 0
     → (r .number ≡ n) × (r .styles ≡ stylesOf []) × (r .first ≡ 0) × (r .tank ≡ y) → PerformedAs e x r
 as-plain e x n y r called none zero h = record { called = rw (h .0, h .3) called; styles-are = rw none (h .1); first-is = rw zero (h .2) }
 

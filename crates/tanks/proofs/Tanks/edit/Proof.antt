@@ -9,10 +9,10 @@ use Rattle.tanks.specs.Pool.{runsIn, laid, tankOf}
 use Rattle.tanks.proofs.Put.{runFrom}
 use Rattle.tanks.specs.Contracts.{Taken, editOf}
 use Rattle.tanks.proofs.SettingLaws.{sound-held, sound-judged, taken}
-use Rattle.tanks.proofs.MeaningLaws.{settled-refused, settled-done}
+use Rattle.tanks.proofs.MeaningLaws.{tail-refused, tail-done}
 use Rattle.tanks.proofs.CallLaws.{called-by, called-past}
 use Rattle.tanks.proofs.AnswerLaws.{done-refused, done-by}
-use Rattle.tanks.proofs.SettleLaws.{withPool, part, lowest, run-step, read-kept, part-all, run-own, run-behind, run-blank, Inside, inside, put-at-last}
+use Rattle.tanks.proofs.WriteLaws.{withPool, part, lowest, run-step, read-kept, part-all, run-own, run-behind, run-blank, Inside, inside, put-at-last}
 use Rattle.tanks.proofs.Tanks.edit.Statement.{statement}
 use Rattle.tanks.proofs.Tanks.edit.Tie as tie
 use Rattle.tanks.proofs.Tanks.edit.Reads as reads
@@ -109,7 +109,7 @@ returns-2 c =
     let p = v .before .before .before .before in
     let k =
     called-by (a .args .t1) (a .args .tank) _ (editOf (a .args .call)) _ _ _ _ _ (a .pre) (v .before .before .before .before .before .before .before .before .before .before .if1 .left) (v .before .before .before .before .before .before .before .before .before .narrow .ensures)
-    (own (p .before)) (p .perform .ensures .called) (settled-refused (a .args .t1) _ _ _ _ (a .pre) (judged v) (c .before .if2 .taken)) in
+    (own (p .before)) (p .perform .ensures .called) (tail-refused (a .args .t1) _ _ _ _ (a .pre) (judged v) (c .before .if2 .taken)) in
     done-refused (a .args .t1) (a .args .tank) (editOf (a .args .call)) _ _ k (c .before .if2 .taken) (c .refused2 .ensures)
 
 spots-requires : tie.Need-spots-requires Inv-loop μ-loop
@@ -258,7 +258,7 @@ returns-3 c =
     let k =
     called-by (a .args .t1) (a .args .tank) _ (editOf (a .args .call)) _ _ _ _ _ (a .pre) (n .before .if1 .left) (n .narrow .ensures)
     (own (p .before)) (p .perform .ensures .called)
-    (settled-done (a .args .t1) _ _ _ (a .pre) (tank-8 n) (p .perform .ensures .called .formed) (accepted (r .before))) in
+    (tail-done (a .args .t1) _ _ _ (a .pre) (tank-8 n) (p .perform .ensures .called .formed) (accepted (r .before))) in
     rw (put-at-last (a .args .t1) (l .self) (n .narrow .result) x q _ _ (r .spots .ensures) (c .before .before .head-of .ensures) (c .before .table-in .ensures) g)
     (done-by (a .args .t1) (a .args .tank) (editOf (a .args .call)) _ _ (p .perform .result) _ (n .before .if1 .left) (n .narrow .ensures) (own (p .before)) (p .perform .ensures) k)
 
