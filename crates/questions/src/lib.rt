@@ -3,10 +3,9 @@ ghost use mathlib.Core.Path.{_≡_};
 ghost use mathlib.Core.Bool.{false};
 ghost use mathlib.Core.List.{[]};
 ghost use Prim.Native.Nat.{_≤_, _<_, _^_};
-ghost use lib.ListN.{length};
 ghost use Rattle.styles.specs.Bits.{pick};
 ghost use Rattle.runs.specs.Runs.{setAt};
-ghost use Rattle.tank.specs.Rules.{runsHeld, carried, forInsert};
+ghost use Rattle.tank.specs.Rules.{runsHeld, forInsert};
 ghost use Rattle.tank.specs.State.{runsOf, tableOf, view, Formed};
 ghost use Rattle.questions.specs.Questions.{toldOf, shownOf, askedOf, setOf, sharedOf};
 ghost use Rattle.questions.specs.Questions.{valueAt, stylesAt, styleAt, stylesForInsert, styleForInsert, rangeContainsKey, rangeHasKeyValue, stylesOfRange};
@@ -150,14 +149,6 @@ pub fn runs(t: Tank) -> usize
     ensures { λ r. ⌜ r ≡ runsHeld (view t) ⌝ }
 {
     t.runs
-}
-
-// How many marks it carries.
-pub fn marks(t: Tank) -> usize
-    requires { ⌜ Formed t ⌝ }
-    ensures { λ r. ⌜ r ≡ length (carried (view t)) ⌝ }
-{
-    t.marks
 }
 
 // The value shown for a key at a position.
