@@ -8,7 +8,7 @@ use native.Mathlib.Numerals.{add-one, sub-one}
 use lib.ListN.{length, getD, set}
 use lib.Seq.{getD-set-same, getD-set-other}
 use borrow.Author.Tests.{lt-ltb, le-ltb, eq-eqb, ne-eqb}
-use Rattle.runs.specs.Runs.{Run, run, runs, total, setAt, Other, Canon, joinRun, pushRun, clip, copyRuns, sums, Found, Spare}
+use Rattle.runs.specs.Runs.{Run, run, runs, total, setAt, Other, Canon, joinRun, pushRun, clip, copyRuns, sums, Found}
 
 -- ---- the three forms of a push
 pub push-none : (rs : List Run) (l s : ℕ) → l ≡ 0 → pushRun rs l s ≡ rs
@@ -242,18 +242,6 @@ module _ (lens sets : List ℕ) (n l s : ℕ) where
       let c = runs-set-len lens (set sets n s) n n l (omega arith) in
       let d = runs-set-set lens sets n n s (omega arith) in
       rw (add-one, push-new (runs lens sets n) l s nz o) (cc)
-
--- ---- what they do to the places that hold no run
-pub spare-join : (lens sets : List ℕ) (n i v : ℕ) → i < n → Spare lens sets n → Spare (set lens i v) sets n
-unfolding Spare
-spare-join lens sets n i v h p j g = (getD-set-other lens i j v 0 (omega arith) ∙ p j g .0, p j g .1)
-
-pub spare-new : (lens sets : List ℕ) (n l s : ℕ) → Spare lens sets n → Spare (set lens n l) (set sets n s) (n + 1)
-unfolding Spare
-spare-new lens sets n l s p j g = (
-  getD-set-other lens n j l 0 (omega arith) ∙ p j (omega arith) .0,
-  getD-set-other sets n j s 0 (omega arith) ∙ p j (omega arith) .1,
-)
 
 -- ---- the runs of one entry more
 module _ (lens sets : List ℕ) where

@@ -8,7 +8,7 @@ use lib.Count.{ones, onesIn}
 use lib.ListN.{getD}
 use Rattle.styles.specs.Bits.{openBit}
 use Rattle.runs.specs.declared.scan.Test.the-variants.{Meets, Misses, Hides, Differs}
-use Rattle.runs.specs.Runs.{Run, run, runs, total, setAt, Other, Canon, pushRun, joinRun, clip, copyRuns, changing, adding, sums, Found, Spare, mapRuns}
+use Rattle.runs.specs.Runs.{Run, run, runs, total, setAt, Other, Canon, pushRun, joinRun, clip, copyRuns, changing, adding, sums, Found, SameBehind, Spare, mapRuns}
 use Rattle.runs.specs.Edits.{part, altered, deleted, inserted}
 use Rattle.runs.specs.Gather.{gather, Renumbered}
 use Rattle.runs.specs.Positions.{anyAt, allAt, stretchTo, starts, stretches, stretch, extended, stretchesAt, asNumbers}
@@ -65,6 +65,10 @@ found-12 = record { within = omega arith; starts = refl; reached = omega arith; 
 found-15 : Found (10 ∷ 5 ∷ []) 2 15 2 15
 unfolding sums
 found-15 = record { within = omega arith; starts = refl; reached = omega arith; inside = λ h. absurd (omega arith) }
+
+-- a longer first run leaves place 1 as it was
+behind-1 : SameBehind 1 (4 ∷ 9 ∷ []) (7 ∷ 8 ∷ []) (5 ∷ 9 ∷ []) (7 ∷ 8 ∷ [])
+behind-1 = record { lens-stay = refl; sets-stay = refl }
 
 -- from place 1 on there is nothing
 spare-1 : Spare (4 ∷ 0 ∷ []) (7 ∷ 0 ∷ []) 1

@@ -4,7 +4,7 @@ use Prim.Native.Nat.{ℕ, zero, suc, _+_, _-_, _≤_, _<_, _^_, min, max}
 use mathlib.Core.Path.{_≡_}
 use mathlib.Core.Bool.{cond}
 use mathlib.Core.List.{List, [], _∷_}
-use lib.ListN.{length, getD}
+use lib.ListN.{length, getD, drop}
 use lib.Dec.{ltb, eqb}
 use lib.Bits.{bitOr, bitAnd}
 
@@ -92,6 +92,11 @@ pub record Found (lens : List ℕ) (n pos i start : ℕ) : Type 0 where
   pub inside : i < n → pos < start + getD lens i 0
 
 -- ---- Two parallel lists: what is behind the runs, and what calls ask
+-- the places from n on are as they were
+pub record SameBehind (n : ℕ) (lens sets lens′ sets′ : List ℕ) : Type 0 where
+  pub lens-stay : drop n lens′ ≡ drop n lens
+  pub sets-stay : drop n sets′ ≡ drop n sets
+
 -- the places from n on hold nothing but zeros
 unfoldable pub Spare : List ℕ → List ℕ → ℕ → Type 0
 Spare lens sets n = (i : ℕ) → n ≤ i → (getD lens i 0 ≡ 0) × (getD sets i 0 ≡ 0)

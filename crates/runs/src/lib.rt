@@ -10,13 +10,13 @@ ghost use mathlib.Core.Path.{_≡_};
 ghost use Prim.Native.Nat.{_+_, _-_, _<_, _≤_, _^_, min, max};
 ghost use lib.ListN.{length};
 ghost use Rattle.runs.specs.Edits.{altered, deleted, inserted, CanEdit};
-ghost use Rattle.runs.specs.Runs.{runs, setAt, pushRun, copyRuns, CanPush, CanCopy, sums, Found, Spare, changing};
+ghost use Rattle.runs.specs.Runs.{runs, setAt, pushRun, copyRuns, CanPush, CanCopy, sums, Found, SameBehind, changing};
 
 // `len` positions more with the set `set`, after the runs of the first `n` entries. Returns how many runs there are then.
 pub fn push(lens: &mut [u64], sets: &mut [u64], n: usize, len: u64, set: u64) -> usize
     requires { ⌜ CanPush (now lens) (now sets) n len set ⌝ }
     ensures { λ r. ⌜ runs (now (lens .exit)) (now (sets .exit)) r ≡ pushRun (runs (now (lens .entry)) (now (sets .entry)) n) len set ⌝ }
-    ensures { λ r. ⌜ (Spare (now (lens .entry)) (now (sets .entry)) n → Spare (now (lens .exit)) (now (sets .exit)) r) ⌝ }
+    ensures { λ r. ⌜ SameBehind r (now (lens .entry)) (now (sets .entry)) (now (lens .exit)) (now (sets .exit)) ⌝ }
 {
     if len == 0 {
         return n;
@@ -78,7 +78,7 @@ pub fn copy(
 ) -> usize
     requires { ⌜ CanCopy (changing bits drop) (now olens) (now osets) n (now lens) (now sets) m from to ⌝ }
     ensures { λ r. ⌜ runs (now (olens .exit)) (now (osets .exit)) r ≡ copyRuns (changing bits drop) (runs (now (olens .entry)) (now (osets .entry)) n) from to (runs (now (lens .entry)) (now (sets .entry)) m) ⌝ }
-    ensures { λ r. ⌜ (Spare (now (olens .entry)) (now (osets .entry)) n → Spare (now (olens .exit)) (now (osets .exit)) r) ⌝ }
+    ensures { λ r. ⌜ SameBehind r (now (olens .entry)) (now (osets .entry)) (now (olens .exit)) (now (osets .exit)) ⌝ }
 {
     let mut k = 0;
     let mut start: u64 = 0;
@@ -139,7 +139,7 @@ pub fn alter(
 ) -> usize
     requires { ⌜ CanEdit (altered (runs (now lens) (now sets) m) a b (changing bits drop)) (now olens) (now osets) (now lens) (now sets) m all ⌝ }
     ensures { λ r. ⌜ runs (now (olens .exit)) (now (osets .exit)) r ≡ altered (runs (now (lens .entry)) (now (sets .entry)) m) a b (changing bits drop) ⌝ }
-    ensures { λ r. ⌜ (Spare (now (olens .entry)) (now (osets .entry)) 0 → Spare (now (olens .exit)) (now (osets .exit)) r) ⌝ }
+    ensures { λ r. ⌜ SameBehind r (now (olens .entry)) (now (osets .entry)) (now (olens .exit)) (now (osets .exit)) ⌝ }
 {
     let n = copy(olens, osets, 0, lens, sets, m, 0, a, 0, 0);
     let k = copy(olens, osets, n, lens, sets, m, a, b, bits, drop);
@@ -159,7 +159,7 @@ pub fn delete(
 ) -> usize
     requires { ⌜ CanEdit (deleted (runs (now lens) (now sets) m) a b) (now olens) (now osets) (now lens) (now sets) m all ⌝ }
     ensures { λ r. ⌜ runs (now (olens .exit)) (now (osets .exit)) r ≡ deleted (runs (now (lens .entry)) (now (sets .entry)) m) a b ⌝ }
-    ensures { λ r. ⌜ (Spare (now (olens .entry)) (now (osets .entry)) 0 → Spare (now (olens .exit)) (now (osets .exit)) r) ⌝ }
+    ensures { λ r. ⌜ SameBehind r (now (olens .entry)) (now (osets .entry)) (now (olens .exit)) (now (osets .exit)) ⌝ }
 {
     let n = copy(olens, osets, 0, lens, sets, m, 0, a, 0, 0);
     copy(olens, osets, n, lens, sets, m, b, all, 0, 0)
@@ -179,7 +179,7 @@ pub fn insert(
 ) -> usize
     requires { ⌜ CanEdit (inserted (runs (now lens) (now sets) m) pos len set) (now olens) (now osets) (now lens) (now sets) m all ⌝ }
     ensures { λ r. ⌜ runs (now (olens .exit)) (now (osets .exit)) r ≡ inserted (runs (now (lens .entry)) (now (sets .entry)) m) pos len set ⌝ }
-    ensures { λ r. ⌜ (Spare (now (olens .entry)) (now (osets .entry)) 0 → Spare (now (olens .exit)) (now (osets .exit)) r) ⌝ }
+    ensures { λ r. ⌜ SameBehind r (now (olens .entry)) (now (osets .entry)) (now (olens .exit)) (now (osets .exit)) ⌝ }
 {
     let n = copy(olens, osets, 0, lens, sets, m, 0, pos, 0, 0);
     let k = push(olens, osets, n, len, set);

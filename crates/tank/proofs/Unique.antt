@@ -1,5 +1,5 @@
 -- One meaning, one tank: runs held and marks carried are the meaning's, and two tanks in form with one view are equal.
-use Prim.Native.Nat.{ℕ, zero, suc, _-_, _<_, _^_}
+use Prim.Native.Nat.{ℕ, _-_, _<_, _^_}
 use mathlib.Core.Path.{_≡_, sym, ap, _∙_}
 use mathlib.Core.List.{List}
 use native.Mathlib.Omega.{arith}
@@ -10,9 +10,10 @@ use Rattle.styles.specs.Marks.{blank}
 use Rattle.styles.specs.Bits.{pick}
 use Rattle.styles.proofs.UnionLaws.{pick-all}
 use Rattle.styles.proofs.CountLaws.{pick-inj}
-use Rattle.runs.specs.Runs.{Run, run, runs, setAt, Spare}
+use Rattle.runs.specs.Runs.{runs, setAt, Spare}
 use Rattle.runs.specs.Gather.{gather}
 use Rattle.runs.proofs.Laws.{unique, length-runs}
+use Rattle.runs.proofs.BehindLaws.{entries}
 use Rattle.tank.specs.declared.Tank.{Tank}
 use Rattle.tank.specs.Rules.{alike, carried, gathered, runsHeld, View}
 use Rattle.runs.specs.Positions.{stretches}
@@ -45,20 +46,7 @@ marks-carried {t} f =
     ∙ ap (pick (tableOf t)) (f .whole ∙ ap (λ n. 2 ^ n - 1) (sym (table-length l)))
     ∙ pick-all (tableOf t)
 
--- ---- equal runs, equal entries
-entries : (lens sets lens′ sets′ : List ℕ) (n : ℕ) → runs lens sets n ≡ runs lens′ sets′ n → (i : ℕ) → i < n
-    → (getD lens i 0 ≡ getD lens′ i 0) × (getD sets i 0 ≡ getD sets′ i 0)
-unfolding runs
-entries lens sets lens′ sets′ zero e i h = absurd (omega arith)
-entries lens sets lens′ sets′ (suc n) e i h =
-    elim (decLt i n) [
-      | yes k ↦ let r : runs lens sets n ≡ runs lens′ sets′ n = cc in entries lens sets lens′ sets′ n r i k
-      | no k ↦
-          let g : i ≡ n = omega arith in
-          let r : run (getD lens n 0) (getD sets n 0) ≡ run (getD lens′ n 0) (getD sets′ n 0) = cc in
-          rw g (ap (λ (x : Run). x .len) r, ap (λ (x : Run). x .set) r)
-    ]
-
+-- ---- one view, one tank
 module _ {t u : Tank} (f : Formed t) (g : Formed u) (e : view t ≡ view u) where
   same-length : t .length ≡ u .length
   unfolding view

@@ -5,6 +5,7 @@ use borrow.Author.Needs.{needs}
 use Rattle.runs.specs.Runs.{runs, changing, adding, copyRuns}
 use Rattle.runs.specs.Edits.{part, altered}
 use Rattle.runs.proofs.EditLaws.{inside-self, inside-copy, can-copy}
+use Rattle.runs.proofs.BehindLaws.{count-copy, behind-on}
 use Rattle.runs.proofs.alter.Statement.{statement}
 use Rattle.runs.proofs.alter.Tie as tie
 use Rattle.runs.proofs.alter.Reads as reads
@@ -58,7 +59,12 @@ returns c =
     let z = c .before .before .before .before in
     let y = z .before .before .before .before .before .before .before in
     let s = y .before .before .before .before .before .before .before .before .before .before .before .before .before .before in
-    (rw (second y, s .pre .all-is) at (z .copy3 .ensures .0), λ p. z .copy3 .ensures .1 (y .copy2 .ensures .1 (y .before .before .before .before .before .before .before .copy .ensures .1 p)))
+    let x = y .before .before .before .before .before .before .before in
+    let k = count-copy _ _ _ _ _ _ _ _ _ _ (y .copy2 .ensures .0) in
+    let l = count-copy _ _ _ _ _ _ _ _ _ _ (z .copy3 .ensures .0) in (
+      rw (second y, s .pre .all-is) at (z .copy3 .ensures .0),
+      behind-on _ _ l (behind-on _ _ k (x .copy .ensures .1) (y .copy2 .ensures .1)) (z .copy3 .ensures .1),
+    )
 
 pub alter-spec : {M : Type 1} → statement M
 alter-spec = tie.close (tie.spec copy-requires copy-requires-2 copy-requires-3 same-length same-length-2 returns)

@@ -5,8 +5,9 @@ use mathlib.Core.List.{List}
 use native.Mathlib.Omega.{arith}
 use borrow.Author.Needs.{needs}
 use lib.ListN.{length, getD}
-use Rattle.runs.specs.Runs.{runs, total, pushRun, copyRuns, changing, clip, Spare, CanPush, CanCopy}
+use Rattle.runs.specs.Runs.{runs, total, pushRun, copyRuns, changing, clip, SameBehind, CanPush, CanCopy}
 use Rattle.runs.proofs.Laws.{total-more, total-mono, copy-more, copy-grows, copy-holds, total-push, push-room}
+use Rattle.runs.proofs.BehindLaws.{behind-none, count-push, behind-on}
 use Rattle.runs.proofs.copy.Statement.{statement}
 use Rattle.runs.proofs.copy.Tie as tie
 
@@ -16,7 +17,7 @@ record Copied (olens₀ osets₀ : List ℕ) (n : ℕ) (lens sets : List ℕ) (m
   done : runs olens osets at ≡ copyRuns (changing bits drop) (runs olens₀ osets₀ n) from to (runs lens sets k)
   kept : length olens ≡ length olens₀
   kept′ : length osets ≡ length osets₀
-  spare : Spare olens₀ osets₀ n → Spare olens osets at
+  behind : SameBehind at olens₀ osets₀ olens osets
 
 -- a turn: what the calls ask, and the invariant after it
 module _ {olens₀ osets₀ : List ℕ} {n : ℕ} {lens sets : List ℕ} {m from to bits drop : ℕ} {olens osets : List ℕ} {k start at : ℕ}
@@ -49,16 +50,16 @@ module _ {olens₀ osets₀ : List ℕ} {n : ℕ} {lens sets : List ℕ} {m from
 
   turn : (olens′ osets′ : List ℕ) (at′ : ℕ)
       → runs olens′ osets′ at′ ≡ pushRun (runs olens osets at) (clip from to start (getD lens k 0)) (changing bits drop (getD sets k 0))
-      → length olens′ ≡ length olens → length osets′ ≡ length osets → (Spare olens osets at → Spare olens′ osets′ at′)
+      → length olens′ ≡ length olens → length osets′ ≡ length osets → SameBehind at′ olens osets olens′ osets′
       → Copied olens₀ osets₀ n lens sets m from to bits drop olens′ osets′ (k + 1) (start + getD lens k 0) at′
-  turn olens′ osets′ at′ e l l′ sp =
+  turn olens′ osets′ at′ e l l′ b =
       record {
         within = omega arith;
         begun = omega (arith, total-more lens sets k);
         done = e ∙ turn-push;
         kept = omega arith;
         kept′ = omega arith;
-        spare = λ p. sp (inv .spare p);
+        behind = behind-on at at′ (count-push olens osets olens′ osets′ at at′ _ _ e) (inv .behind) b;
       }
 
 abbrev Inv-loop : tie.InvT-loop
@@ -70,7 +71,7 @@ abbrev μ-loop : tie.MeasureT-loop
 
 loop-holds : tie.Need-loop-holds Inv-loop μ-loop
 unfolding runs total copyRuns
-loop-holds c = record { within = omega arith; begun = refl; done = refl; kept = refl; kept′ = refl; spare = λ p. p }
+loop-holds c = record { within = omega arith; begun = refl; done = refl; kept = refl; kept′ = refl; behind = behind-none _ _ _ }
 
 add-end : tie.Need-add-end Inv-loop μ-loop
 add-end c = omega (arith, turn-end (c .before .before .before .before .before .before .before .pre) (c .before .before .loop .inv) (c .before .loop-test .taken))
@@ -100,7 +101,7 @@ loop-again c =
 returns : tie.Need-returns Inv-loop μ-loop
 returns c =
     let e : c .before .loop .k ≡ c .before .before .before .before .before .before .args .m = omega arith in
-    (rw (← e) (c .before .loop .inv .done), c .before .loop .inv .spare)
+    (rw (← e) (c .before .loop .inv .done), c .before .loop .inv .behind)
 
 pub copy-spec : {M : Type 1} → statement M
 copy-spec =

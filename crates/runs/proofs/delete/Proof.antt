@@ -5,6 +5,7 @@ use borrow.Author.Needs.{needs}
 use Rattle.runs.specs.Runs.{runs, adding}
 use Rattle.runs.specs.Edits.{part, deleted}
 use Rattle.runs.proofs.EditLaws.{inside-self, inside-copy, can-copy}
+use Rattle.runs.proofs.BehindLaws.{count-copy, behind-on}
 use Rattle.runs.proofs.delete.Statement.{statement}
 use Rattle.runs.proofs.delete.Tie as tie
 use Rattle.runs.proofs.delete.Reads as reads
@@ -44,7 +45,8 @@ returns c =
     let y = c .before .before .before .before in
     let x = y .before .before .before .before .before .before .before in
     let s = x .before .before .before .before .before .before .before in
-    (rw (first x, s .pre .all-is) at (y .copy2 .ensures .0), λ p. y .copy2 .ensures .1 (x .copy .ensures .1 p))
+    let k = count-copy _ _ _ _ _ _ _ _ _ _ (y .copy2 .ensures .0) in
+    (rw (first x, s .pre .all-is) at (y .copy2 .ensures .0), behind-on _ _ k (x .copy .ensures .1) (y .copy2 .ensures .1))
 
 pub delete-spec : {M : Type 1} → statement M
 delete-spec = tie.close (tie.spec copy-requires copy-requires-2 same-length same-length-2 returns)

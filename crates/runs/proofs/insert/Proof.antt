@@ -5,6 +5,7 @@ use borrow.Author.Needs.{needs}
 use Rattle.runs.specs.Runs.{runs, adding, pushRun}
 use Rattle.runs.specs.Edits.{part, inserted}
 use Rattle.runs.proofs.EditLaws.{inside-self, inside-copy, inside-push, can-copy, can-push}
+use Rattle.runs.proofs.BehindLaws.{count-push, count-copy, behind-on}
 use Rattle.runs.proofs.insert.Statement.{statement}
 use Rattle.runs.proofs.insert.Tie as tie
 use Rattle.runs.proofs.insert.Reads as reads
@@ -59,7 +60,12 @@ returns c =
     let z = c .before .before .before .before in
     let y = z .before .before .before .before .before .before .before in
     let s = y .before .before .before .before .before .before .before .before .before .before .before .before .before .before in
-    (rw (second y, s .pre .all-is) at (z .copy2 .ensures .0), λ p. z .copy2 .ensures .1 (y .push .ensures .1 (y .before .before .before .before .before .before .before .copy .ensures .1 p)))
+    let x = y .before .before .before .before .before .before .before in
+    let k = count-push _ _ _ _ _ _ _ _ (y .push .ensures .0) in
+    let l = count-copy _ _ _ _ _ _ _ _ _ _ (z .copy2 .ensures .0) in (
+      rw (second y, s .pre .all-is) at (z .copy2 .ensures .0),
+      behind-on _ _ l (behind-on _ _ k (x .copy .ensures .1) (y .push .ensures .1)) (z .copy2 .ensures .1),
+    )
 
 pub insert-spec : {M : Type 1} → statement M
 insert-spec = tie.close (tie.spec copy-requires push-requires copy-requires-2 same-length same-length-2 returns)

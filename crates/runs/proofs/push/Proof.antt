@@ -6,12 +6,13 @@ use native.Mathlib.Omega.{arith}
 use borrow.Author.Needs.{needs}
 use lib.ListN.{length}
 use Rattle.runs.specs.Runs.{runs, Other}
-use Rattle.runs.proofs.Laws.{push-none, last-le, other-runs, new-room, store-join, store-new, spare-join, spare-new}
+use Rattle.runs.proofs.Laws.{push-none, last-le, other-runs, new-room, store-join, store-new}
+use Rattle.runs.proofs.BehindLaws.{behind-none, behind-join, behind-new}
 use Rattle.runs.proofs.push.Statement.{statement}
 use Rattle.runs.proofs.push.Tie as tie
 
 returns : tie.Need-returns
-returns c = (sym (push-none _ _ _ (c .if1 .taken)), λ p. p)
+returns c = (sym (push-none _ _ _ (c .if1 .taken)), behind-none _ _ _)
 
 add-lens : tie.Need-add-lens
 add-lens c =
@@ -22,7 +23,7 @@ returns-2 : tie.Need-returns-2
 returns-2 c =
     let a = c .before .before .before .before .before .args in (
       store-join (a .lens .now) (a .sets .now) (a .n) (a .len) (a .set) (omega arith) (omega arith) (search needs) (c .before .if3 .taken),
-      spare-join (a .lens .now) (a .sets .now) (a .n) _ _ (omega arith),
+      behind-join (a .lens .now) (a .sets .now) (a .n) _ _ (omega arith),
     )
 
 -- where nothing is joined the last run has another set, and there is room for one more
@@ -40,7 +41,7 @@ returns-3 : tie.Need-returns-3
 returns-3 c =
     let a = c .before .before .args in (
       store-new (a .lens .now) (a .sets .now) (a .n) (a .len) (a .set) (room c) (omega (arith, room c)) (c .before .if1 .left) (other c),
-      spare-new (a .lens .now) (a .sets .now) (a .n) (a .len) (a .set),
+      behind-new (a .lens .now) (a .sets .now) (a .n) (a .len) (a .set),
     )
 
 pub push-spec : {M : Type 1} → statement M

@@ -2,6 +2,7 @@
 use mathlib.Core.Path.{refl}
 use native.Mathlib.Omega.{arith}
 use borrow.Author.Needs.{needs}
+use Rattle.runs.proofs.BehindLaws.{spare-behind}
 use Rattle.tank.proofs.Shape.{all-spare}
 use Rattle.tank.proofs.StripLaws.{strip-can, strip-done}
 use Rattle.tank.proofs.steps.strip.Statement.{statement}
@@ -26,7 +27,7 @@ returns c =
     let w = d .before .before .before .before .before in
     let s = w .before .before .before .before in
     strip-done (s .args .start) (s .args .end) (s .args .i) (s .pre) _ _ _ (rw (w .with-bit .ensures) at (d .alter .ensures .0))
-    (d .alter .ensures .1 (all-spare 514)) (d .alter .kept .0) (d .alter .kept .1 .0)
+    (spare-behind (all-spare 514) (d .alter .ensures .1)) (d .alter .kept .0) (d .alter .kept .1 .0)
 
 pub strip-spec : {M : Type 1} → statement M
 strip-spec =

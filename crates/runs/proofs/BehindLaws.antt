@@ -1,0 +1,100 @@
+-- The places behind the runs stay as they were, so that all of what a push, a copy and an edit hand back is determined.
+use Prim.Native.Nat.{ℕ, zero, suc, _+_, _-_, _≤_, _<_}
+use mathlib.Core.Path.{_≡_, refl, sym, ap, _∙_}
+use mathlib.Core.List.{List}
+use native.Mathlib.Omega.{arith}
+use native.Mathlib.Decide.{decLt}
+use lib.ListN.{length, getD, set, drop}
+use lib.Seq.{ext-getD, drop-set-lt, drop-drop, getD-drop}
+use Rattle.runs.specs.Runs.{Run, run, runs, pushRun, copyRuns, SameBehind, Spare}
+use Rattle.runs.proofs.Laws.{length-runs, push-longer}
+use Rattle.runs.proofs.EditLaws.{copy-longer}
+
+-- ---- nothing stored, and the stores of a push
+pub behind-none : (lens sets : List ℕ) (n : ℕ) → SameBehind n lens sets lens sets
+behind-none lens sets n = record { lens-stay = refl; sets-stay = refl }
+
+pub behind-join : (lens sets : List ℕ) (n i v : ℕ) → i < n → SameBehind n lens sets (set lens i v) sets
+behind-join lens sets n i v h = record { lens-stay = drop-set-lt n lens i v h; sets-stay = refl }
+
+pub behind-new : (lens sets : List ℕ) (n l s : ℕ) → SameBehind (n + 1) lens sets (set lens n l) (set sets n s)
+behind-new lens sets n l s = record { lens-stay = drop-set-lt (n + 1) lens n l (omega arith); sets-stay = drop-set-lt (n + 1) sets n s (omega arith) }
+
+-- ---- one call after another: the count never falls
+pub count-push : (lens sets lens′ sets′ : List ℕ) (n m l s : ℕ) → runs lens′ sets′ m ≡ pushRun (runs lens sets n) l s → n ≤ m
+count-push lens sets lens′ sets′ n m l s e =
+    omega (arith, ap length e, length-runs lens sets n, length-runs lens′ sets′ m, push-longer (runs lens sets n) l s)
+
+pub count-copy : (f : ℕ → ℕ) (lens sets lens′ sets′ : List ℕ) (n m from to : ℕ) (rs : List Run)
+    → runs lens′ sets′ m ≡ copyRuns f (runs lens sets n) from to rs → n ≤ m
+count-copy f lens sets lens′ sets′ n m from to rs e =
+    omega (arith, ap length e, length-runs lens sets n, length-runs lens′ sets′ m, copy-longer f (runs lens sets n) from to rs)
+
+drop-on : (n m : ℕ) (xs ys : List ℕ) → n ≤ m → drop n ys ≡ drop n xs → drop m ys ≡ drop m xs
+drop-on n m xs ys h e =
+    let g : n + (m - n) ≡ m = omega arith in
+    ap (λ (k : ℕ). drop k ys) (sym g)
+    ∙ sym (drop-drop (m - n) n ys)
+    ∙ ap (drop (m - n)) e
+    ∙ drop-drop (m - n) n xs
+    ∙ ap (λ (k : ℕ). drop k xs) g
+
+pub behind-on : {lens sets lens′ sets′ lens″ sets″ : List ℕ} (n m : ℕ) → n ≤ m
+    → SameBehind n lens sets lens′ sets′ → SameBehind m lens′ sets′ lens″ sets″ → SameBehind m lens sets lens″ sets″
+behind-on {lens} {sets} {lens′} {sets′} n m h a b =
+    record { lens-stay = b .lens-stay ∙ drop-on n m lens lens′ h (a .lens-stay); sets-stay = b .sets-stay ∙ drop-on n m sets sets′ h (a .sets-stay) }
+
+-- ---- place by place
+drop-at : (n i : ℕ) (xs ys : List ℕ) → n ≤ i → drop n ys ≡ drop n xs → getD ys i 0 ≡ getD xs i 0
+drop-at n i xs ys h e =
+    let g : n + (i - n) ≡ i = omega arith in
+    ap (λ (k : ℕ). getD ys k 0) (sym g)
+    ∙ sym (getD-drop n ys (i - n) 0)
+    ∙ ap (λ (l : List ℕ). getD l (i - n) 0) e
+    ∙ getD-drop n xs (i - n) 0
+    ∙ ap (λ (k : ℕ). getD xs k 0) g
+
+-- blank places stay blank
+pub spare-behind : {lens sets lens′ sets′ : List ℕ} {n : ℕ} → Spare lens sets 0 → SameBehind n lens sets lens′ sets′ → Spare lens′ sets′ n
+unfolding Spare
+spare-behind {lens} {sets} {lens′} {sets′} {n} p e i h =
+    (drop-at n i lens lens′ h (e .lens-stay) ∙ p i (omega arith) .0, drop-at n i sets sets′ h (e .sets-stay) ∙ p i (omega arith) .1)
+
+-- equal runs, equal entries
+pub entries : (lens sets lens′ sets′ : List ℕ) (n : ℕ) → runs lens sets n ≡ runs lens′ sets′ n → (i : ℕ) → i < n
+    → (getD lens i 0 ≡ getD lens′ i 0) × (getD sets i 0 ≡ getD sets′ i 0)
+unfolding runs
+entries lens sets lens′ sets′ zero e i h = absurd (omega arith)
+entries lens sets lens′ sets′ (suc n) e i h =
+    elim (decLt i n) [
+      | yes k ↦ let r : runs lens sets n ≡ runs lens′ sets′ n = cc in entries lens sets lens′ sets′ n r i k
+      | no k ↦
+          let g : i ≡ n = omega arith in
+          let r : run (getD lens n 0) (getD sets n 0) ≡ run (getD lens′ n 0) (getD sets′ n 0) = cc in
+          rw g (ap (λ (x : Run). x .len) r, ap (λ (x : Run). x .set) r)
+    ]
+
+-- ---- two results with the same runs, of a call that was lent `lens` and `sets`, are one: the count, and both lists whole
+module _ (lens sets lens′ sets′ lens″ sets″ : List ℕ) (n m : ℕ) (rs : List Run)
+    (a : runs lens′ sets′ n ≡ rs) (b : runs lens″ sets″ m ≡ rs)
+    (p : SameBehind n lens sets lens′ sets′) (q : SameBehind m lens sets lens″ sets″) where
+  pub one-count : n ≡ m
+  one-count = sym (length-runs lens′ sets′ n) ∙ ap length (a ∙ sym b) ∙ length-runs lens″ sets″ m
+
+  same-entry : (i : ℕ) → (getD lens′ i 0 ≡ getD lens″ i 0) × (getD sets′ i 0 ≡ getD sets″ i 0)
+  same-entry i =
+      elim (decLt i n) [
+        | yes h ↦ entries lens′ sets′ lens″ sets″ n (a ∙ sym b ∙ ap (runs lens″ sets″) (sym one-count)) i h
+        | no h ↦
+            let k : m ≤ i = omega (arith, one-count) in (
+              drop-at n i lens lens′ (omega arith) (p .lens-stay) ∙ sym (drop-at m i lens lens″ k (q .lens-stay)),
+              drop-at n i sets sets′ (omega arith) (p .sets-stay) ∙ sym (drop-at m i sets sets″ k (q .sets-stay)),
+            )
+      ]
+
+  -- a lent slice keeps its length
+  pub one-lens : length lens′ ≡ length lens → length lens″ ≡ length lens → lens′ ≡ lens″
+  one-lens l k = ext-getD 0 lens′ lens″ (l ∙ sym k) (λ i _. same-entry i .0)
+
+  pub one-sets : length sets′ ≡ length sets → length sets″ ≡ length sets → sets′ ≡ sets″
+  one-sets l k = ext-getD 0 sets′ sets″ (l ∙ sym k) (λ i _. same-entry i .1)
