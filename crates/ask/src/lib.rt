@@ -238,8 +238,8 @@ pub fn iter(s: Tanks, tank: u64, out: &mut [u64]) -> &mut [u64]
     requires { ⌜ Sound s ⌝ }
     ensures { λ r. ⌜ now r ≡ askAt (meaning s) tank [] (λ v. unlessRefused (wholeNumber (length (now (out .entry))) v) (wholeList v)) ⌝ }
 {
-    let listed = list_whole(s, tank, out);
-    let n = listed.count;
+    let whole = list_whole(s, tank, out);
+    let n = whole.count;
     &mut out[..n]
 }
 

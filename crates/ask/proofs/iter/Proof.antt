@@ -9,17 +9,17 @@ use Rattle.ask.proofs.iter.Tie as tie
 use Rattle.ask.proofs.iter.Reads as reads
 use Rattle.ask.proofs.iter.Lts as lts
 
-slice-aggregate-result : tie.Need-slice-aggregate-result
-slice-aggregate-result c =
-    let w = c .before .before .before in
-    let s = w .before .before .before in
-    asked-count (meaning (s .args .s)) (s .args .tank) (λ v. wholeNumber (length (s .args .out .now)) v) wholeList (s .args .out .now) _ _ (w .list-whole .ensures)
-
 returns : tie.Need-returns
 returns c =
     let w = c .before .before .before in
     let s = w .before .before .before in
     asked-part (meaning (s .args .s)) (s .args .tank) (λ v. wholeNumber (length (s .args .out .now)) v) wholeList (s .args .out .now) _ _ (w .list-whole .ensures)
+
+slice-aggregate-result : tie.Need-slice-aggregate-result
+slice-aggregate-result c =
+    let w = c .before .before .before in
+    let s = w .before .before .before in
+    asked-count (meaning (s .args .s)) (s .args .tank) (λ v. wholeNumber (length (s .args .out .now)) v) wholeList (s .args .out .now) _ _ (w .list-whole .ensures)
 
 pub iter-spec : {M : Type 1} → statement M
 iter-spec = tie.close (tie.spec (λ c κs. search needs) slice-aggregate-result returns)

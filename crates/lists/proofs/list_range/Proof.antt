@@ -24,14 +24,6 @@ returns-2 c =
     handed-short (rangeRefusal (s .args .start) (s .args .end) v) (rangeList (s .args .start) (s .args .end) v) (s .args .out .now) (n .0)
     (omega (arith, n .2))
 
-list-range-requires : tie.Need-list-range-requires
-unfolding view
-list-range-requires c κs =
-    let s = c .before .before .before .before .before .before .before .before .before .before .before in
-    let a = c .before .before .before .before .before .before .before .before .before .stretches-needed in
-    let n = needed-some (s .args .start) (s .args .end) (view (s .args .t)) (a .result) (a .ensures) (c .before .before .before .before .before .before .before .if1 .left) in
-    can-range (s .pre .formed .laid) (s .args .start) (s .args .end) (s .args .out .now) (n .1) (omega (arith, n .2))
-
 returns-3 : tie.Need-returns-3
 unfolding view
 returns-3 c =
@@ -44,6 +36,14 @@ returns-3 c =
     let n = needed-some (s .args .start) (s .args .end) v (a .result) (a .ensures) (d .if1 .left) in
     handed-full (rangeRefusal (s .args .start) (s .args .end) v) (rangeList (s .args .start) (s .args .end) v) _ (s .args .out .now) _ _ (n .0)
     (range-is (s .pre .formed .laid) (s .args .start) (s .args .end) (n .1)) (omega (arith, n .2, e .if2 .left)) (w .ensures .0) (w .ensures .1)
+
+list-range-requires : tie.Need-list-range-requires
+unfolding view
+list-range-requires c κs =
+    let s = c .before .before .before .before .before .before .before .before .before .before .before in
+    let a = c .before .before .before .before .before .before .before .before .before .stretches-needed in
+    let n = needed-some (s .args .start) (s .args .end) (view (s .args .t)) (a .result) (a .ensures) (c .before .before .before .before .before .before .before .if1 .left) in
+    can-range (s .pre .formed .laid) (s .args .start) (s .args .end) (s .args .out .now) (n .1) (omega (arith, n .2))
 
 pub list-range-spec : {M : Type 1} → statement M
 list-range-spec =
