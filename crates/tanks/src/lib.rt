@@ -95,7 +95,7 @@ pub struct Removed {
 }
 
 // An edit of one tank.
-enum Edit {
+pub enum Edit {
     Annotate(u64, u64, Mark),
     Insert(u64, u64),
     Delete(u64, u64),
@@ -103,11 +103,11 @@ enum Edit {
 }
 
 // What an edit hands back, whichever it is: the set of an insertion, the first position of a removal.
-struct Done {
-    number: u64,
-    styles: Styles,
-    first: u64,
-    tanks: Tanks,
+pub struct Done {
+    pub number: u64,
+    pub styles: Styles,
+    pub first: u64,
+    pub tanks: Tanks,
 }
 
 // The same of a tank taken out.
@@ -244,7 +244,7 @@ impl Tanks {
     // One edit of one tank: it is taken out, edited by its own rules, judged, and put back. The runs of the tanks behind it move, from the
     // front or from the back, so that none is written over before it has moved. All edits are this one function, and thin above it, so
     // that the state is copied in and out once.
-    fn edit(mut self, tank: u64, call: Edit) -> Done
+    pub fn edit(mut self, tank: u64, call: Edit) -> Done
         requires { ⌜ Sound self ⌝ }
         ensures { λ r. ⌜ DoneAt self tank (editOf call) r ⌝ }
     {

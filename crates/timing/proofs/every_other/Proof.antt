@@ -1,33 +1,29 @@
--- The measure is how many runs are left of 503; the state stays sound.
+-- After j turns so many steps are made.
 use borrow.Author.Needs.{needs}
-use Prim.Native.Nat.{_-_, _≤_}
-use Rattle.tanks.specs.Pool.{Sound}
+use Prim.Native.Nat.{_/_, _-_, _≤_}
+use Rattle.tanks.specs.Pool.{meaning}
+use Rattle.timing.specs.Contracts.{Sized}
+use Rattle.timing.specs.Work.{otherRun}
+use Rattle.timing.proofs.Laws.{Stepped, stepped-none, stepped-next, stepped-all}
 use Rattle.timing.proofs.every_other.Statement.{statement}
 use Rattle.timing.proofs.every_other.Tie as tie
-use Rattle.timing.proofs.every_other.Reads as reads
-use Rattle.timing.proofs.annotated.Reads as annotated-reads
-use Rattle.timing.proofs.mark.Reads as mark-reads
 
 abbrev Inv-loop : tie.InvT-loop
-Inv-loop runs b u₀ i₀ u i = (3 ≤ runs) × (runs ≤ 503) × (b ≤ 63) × (i ≤ 503) × Sound u
+Inv-loop runs b u₀ j₀ u j = Sized runs × (b ≤ 63) × Stepped (otherRun runs b) (meaning u₀) j (runs / 2) u
 
 abbrev μ-loop : tie.MeasureT-loop
-μ-loop runs b u₀ i₀ u i = 503 - i
+μ-loop runs b u₀ j₀ u j = 503 - j
+
+loop-again : tie.Need-loop-again Inv-loop μ-loop
+loop-again c = (
+  search needs,
+  search needs,
+  stepped-next (c .before .before .before .loop .inv .2) (search needs) (rw (c .before .mark .ensures) at (c .annotated .ensures)),
+)
 
 pub every-other-spec : {M : Type 1} → statement M
 every-other-spec =
     tie.close
-    (tie.spec
-    Inv-loop
-    μ-loop
-    (λ c. search needs)
-    (λ c. search needs)
-    (λ c. search needs)
-    (λ c. search needs)
-    (λ c. search needs)
-    (λ c κs. search needs)
-    (λ c κs. search needs)
-    (λ c. search needs)
-    (λ c. search needs)
-    (λ c. search needs)
-    (λ c. search needs))
+    (tie.spec Inv-loop μ-loop (λ c. search (needs, stepped-none)) (λ c. search needs) (λ c. search needs) (λ c. search needs) (λ c. search needs)
+    (λ c κs. search needs) (λ c κs. search needs) (λ c. search needs) (λ c. search needs) loop-again
+    (λ c. stepped-all (c .before .loop .inv .2) (search needs)))

@@ -1,32 +1,28 @@
--- The measure is how many marks are left of 63; the state stays sound.
+-- After b turns so many steps are made.
 use borrow.Author.Needs.{needs}
-use Prim.Native.Nat.{_-_, _≤_}
-use Rattle.tanks.specs.Pool.{Sound}
+use Prim.Native.Nat.{_/_, _-_, _≤_}
+use Rattle.tanks.specs.Pool.{meaning}
+use Rattle.timing.specs.Contracts.{Sized}
+use Rattle.timing.specs.Work.{onAll}
+use Rattle.timing.proofs.Laws.{Stepped, stepped-none, stepped-next, stepped-all}
 use Rattle.timing.proofs.lower.Statement.{statement}
 use Rattle.timing.proofs.lower.Tie as tie
-use Rattle.timing.proofs.lower.Reads as reads
-use Rattle.timing.proofs.annotated.Reads as annotated-reads
-use Rattle.timing.proofs.mark.Reads as mark-reads
 
 abbrev Inv-loop : tie.InvT-loop
-Inv-loop runs marks u₀ b₀ u b = (3 ≤ runs) × (runs ≤ 503) × (marks ≤ 63) × (b ≤ 63) × Sound u
+Inv-loop runs marks u₀ b₀ u b = Sized runs × (marks ≤ 63) × Stepped (onAll runs) (meaning u₀) b (marks / 2) u
 
 abbrev μ-loop : tie.MeasureT-loop
-μ-loop runs marks u₀ b₀ u b = 63 - b
+μ-loop runs marks u₀ b₀ u b = 503 - b
+
+loop-again : tie.Need-loop-again Inv-loop μ-loop
+loop-again c = (
+  search needs,
+  search needs,
+  stepped-next (c .before .before .before .loop .inv .2) (search needs) (rw (c .before .mark .ensures) at (c .annotated .ensures)),
+)
 
 pub lower-spec : {M : Type 1} → statement M
 lower-spec =
     tie.close
-    (tie.spec
-    Inv-loop
-    μ-loop
-    (λ c. search needs)
-    (λ c. search needs)
-    (λ c. search needs)
-    (λ c. search needs)
-    (λ c κs. search needs)
-    (λ c κs. search needs)
-    (λ c. search needs)
-    (λ c. search needs)
-    (λ c. search needs)
-    (λ c. search needs))
+    (tie.spec Inv-loop μ-loop (λ c. search (needs, stepped-none)) (λ c. search needs) (λ c. search needs) (λ c. search needs) (λ c κs. search needs)
+    (λ c κs. search needs) (λ c. search needs) (λ c. search needs) loop-again (λ c. stepped-all (c .before .loop .inv .2) (search needs)))

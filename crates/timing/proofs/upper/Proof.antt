@@ -1,19 +1,22 @@
--- The measure is how many marks are left of 63; the state stays sound.
+-- After j turns so many steps are made.
 use borrow.Author.Needs.{needs}
-use Prim.Native.Nat.{_-_, _≤_}
-use Rattle.tanks.specs.Pool.{Sound}
+use Prim.Native.Nat.{_/_, _-_, _≤_}
+use Rattle.tanks.specs.Pool.{meaning}
+use Rattle.timing.specs.Contracts.{Sized}
+use Rattle.timing.specs.Work.{upperMark}
+use Rattle.timing.proofs.Laws.{Stepped, stepped-none, stepped-next, stepped-all}
 use Rattle.timing.proofs.upper.Statement.{statement}
 use Rattle.timing.proofs.upper.Tie as tie
-use Rattle.timing.proofs.upper.Reads as reads
-use Rattle.timing.proofs.every_other.Reads as every-other-reads
 
 abbrev Inv-loop : tie.InvT-loop
-Inv-loop runs marks u₀ b₀ u b = (3 ≤ runs) × (runs ≤ 503) × (marks ≤ 63) × (b ≤ 63) × Sound u
+Inv-loop runs marks u₀ j₀ u j = Sized runs × (marks ≤ 63) × Stepped (upperMark runs marks) (meaning u₀) j (marks - marks / 2) u
 
 abbrev μ-loop : tie.MeasureT-loop
-μ-loop runs marks u₀ b₀ u b = 63 - b
+μ-loop runs marks u₀ j₀ u j = 503 - j
 
 pub upper-spec : {M : Type 1} → statement M
 upper-spec =
     tie.close
-    (tie.spec Inv-loop μ-loop (λ c. search needs) (λ c κs. search needs) (λ c. search needs) (λ c. search needs) (λ c. search needs) (λ c. search needs))
+    (tie.spec Inv-loop μ-loop (λ c. search (needs, stepped-none)) (λ c. search needs) (λ c. search needs) (λ c κs. search needs) (λ c. search needs)
+    (λ c. search needs) (λ c. (search needs, search needs, stepped-next (c .before .before .loop .inv .2) (search needs) (c .every-other .ensures)))
+    (λ c. stepped-all (c .before .loop .inv .2) (search needs)))

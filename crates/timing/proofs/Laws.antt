@@ -1,0 +1,60 @@
+-- How far a loop has come: the building, the sum, and the house that the edits leave; and small whole numbers.
+use native.Mathlib.Numerals.{add-one}
+use native.Mathlib.Omega.{arith}
+use Prim.Native.Nat.{ℕ, _+_, _%_, _^_, _≤_, _<_}
+use mathlib.Core.Path.{_≡_, refl}
+use lib.IntN.{pos}
+use mir.Syntax.{w64}
+use mir.Facts.{toZ-pos}
+use mir.Val.{toZ}
+use Rattle.tank.specs.Rules.{Edit}
+use Rattle.tanks.specs.declared.Tanks.{Tanks}
+use Rattle.tanks.specs.House.{House, afterAt}
+use Rattle.tanks.specs.Pool.{meaning, Sound}
+use Rattle.timing.specs.Contracts.{Means}
+use Rattle.timing.specs.Work as rules
+
+-- ---- n of m steps are made
+pub record Stepped (f : ℕ → House → House) (h : House) (n m : ℕ) (u : Tanks) : Type 0 where
+  pub most : n ≤ m
+  pub means : Means (rules.steps f n h) u
+
+pub stepped-none : (f : ℕ → House → House) (m : ℕ) (u : Tanks) → Sound u → Stepped f (meaning u) 0 m u
+unfolding rules.steps
+stepped-none f m u sound = record { most = omega arith; means = record { is = refl; sound = sound } }
+
+pub stepped-next : {f : ℕ → House → House} {h : House} {n m : ℕ} {u v : Tanks} → Stepped f h n m u → n < m → Means (f n (meaning u)) v → Stepped f h (n + 1) m v
+unfolding rules.steps
+stepped-next {f} {h} {n} s l v = record { most = omega arith; means = record { is = rw add-one (rw (v .is, s .means .is)); sound = v .sound } }
+
+pub stepped-all : {f : ℕ → House → House} {h : House} {n m : ℕ} {u : Tanks} → Stepped f h n m u → m ≤ n → Means (rules.steps f m h) u
+stepped-all {f} {h} {n} {m} s l = let e : n ≡ m = omega (arith, s .most, l) in rw (← e) (s .means)
+
+-- ---- n of m turns are added up
+pub record Summed (f : ℕ → ℕ) (n m sum : ℕ) : Type 0 where
+  pub most : n ≤ m
+  pub is : sum ≡ rules.sum f n
+
+pub summed-none : (f : ℕ → ℕ) (m : ℕ) → Summed f 0 m 0
+unfolding rules.sum
+summed-none f m = record { most = omega arith; is = refl }
+
+pub summed-next : {f : ℕ → ℕ} {n m s x r : ℕ} → Summed f n m s → n < m → x ≡ f n → r ≡ (s + x) % 2 ^ 64 → Summed f (n + 1) m r
+unfolding rules.sum
+summed-next s l e w = record { most = omega arith; is = rw add-one (rw (w, s .is, e)) }
+
+pub summed-all : {f : ℕ → ℕ} {n m s : ℕ} → Summed f n m s → m ≤ n → s ≡ rules.sum f m
+summed-all {f} {n} {m} s l = let e : n ≡ m = omega (arith, s .most, l) in rw (← e) (s .is)
+
+-- ---- The house that the last turn leaves
+pub left-none : (edit : ℕ → Edit) (h : House) → h ≡ rules.left edit 0 h
+unfolding rules.left
+left-none edit h = refl
+
+pub left-next : (edit : ℕ → Edit) (n : ℕ) (h : House) → afterAt h 0 (edit n) ≡ rules.left edit (n + 1) h
+unfolding rules.left
+left-next edit n h = rw add-one refl
+
+-- ---- A small number is itself as a signed one
+pub small : (n : ℕ) → n ≤ 64 → toZ w64 n ≡ pos n
+small n h = toZ-pos w64 (omega (arith, h))
