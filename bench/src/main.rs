@@ -1,8 +1,10 @@
-//! Times the original and the tank map on the same work and prints tables.
+//! Times the original and the tank map on the same work, or counts their instructions, and prints
+//! tables.
 //!
-//!     cargo run --release [--features count] [WORK..]
+//!     cargo run --release [--features count] [--counted] [WORK..]
 
 mod count;
+mod counted;
 mod original_side;
 #[cfg(ours)]
 mod ours;
@@ -40,16 +42,20 @@ fn keep_memory() {
 
 fn main() {
     keep_memory();
-    let wanted: Vec<String> = std::env::args().skip(1).collect();
+    let (words, wanted): (Vec<String>, Vec<String>) =
+        std::env::args().skip(1).partition(|word| word.starts_with("--"));
     let chosen = |work: &Work| wanted.is_empty() || wanted.iter().any(|name| name == work.name());
+    let chosen: Vec<Work> = WORK.into_iter().filter(chosen).collect();
     let sides = sides();
     let names: Vec<&str> = sides.iter().map(|side| side.name()).collect();
-    let rows: Vec<table::Row> = WORK
-        .into_iter()
-        .filter(chosen)
-        .flat_map(|work| MARKS.map(|marks| row(&sides, work, marks)))
-        .collect();
-    table::print(&names, &rows);
+    match words.first().map(String::as_str) {
+        None => table::print(&names, &rows(&sides, &chosen)),
+        Some("--counted") => {
+            table::print_counted(&names, &counted::rows(sides.len(), &chosen, &wanted))
+        }
+        Some("--under-callgrind") => counted::count(&sides, &chosen),
+        Some(word) => panic!("{word} is none of the words that there are"),
+    }
 }
 
 #[cfg(ours)]
@@ -63,8 +69,12 @@ fn sides() -> Vec<Box<dyn Side>> {
     vec![Box::new(original_side::OriginalSide)]
 }
 
+fn rows(sides: &[Box<dyn Side>], chosen: &[Work]) -> Vec<table::Row<Timed>> {
+    chosen.iter().flat_map(|&work| MARKS.map(|marks| row(sides, work, marks))).collect()
+}
+
 /// All sides and numbers of runs; the sides must have given the same answers.
-fn row(sides: &[Box<dyn Side>], work: Work, marks: u64) -> table::Row {
+fn row(sides: &[Box<dyn Side>], work: Work, marks: u64) -> table::Row<Timed> {
     let cells: Vec<Vec<Timed>> = sides
         .iter()
         .map(|side| RUNS.map(|runs| measured(side.as_ref(), work, runs, marks)).to_vec())

@@ -5,6 +5,7 @@ use std::sync::OnceLock;
 use std::time::Instant;
 
 use crate::count::{self, Counted, Each};
+use crate::counted;
 use crate::work::Work;
 
 pub trait Side {
@@ -44,7 +45,9 @@ pub struct Clock {
 impl Clock {
     pub fn run(&mut self, piece: impl FnOnce() -> u64) {
         let (before, start) = (count::now(), Instant::now());
+        counted::toggle();
         let sum = piece();
+        counted::toggle();
         let nanoseconds = start.elapsed().as_nanos() as f64;
         self.counted = self.counted + (count::now() - before);
         self.nanoseconds += nanoseconds - reading();
