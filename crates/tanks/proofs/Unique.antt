@@ -20,9 +20,10 @@ use Rattle.tanks.specs.declared.Opened.{Opened}
 use Rattle.tanks.specs.declared.Edited.{Edited}
 use Rattle.tanks.specs.declared.Inserted.{Inserted}
 use Rattle.tanks.specs.declared.Removed.{Removed}
+use Rattle.tanks.specs.declared.Done.{Done}
 use Rattle.tanks.specs.House.{House, setInserted, firstRemoved}
 use Rattle.tanks.specs.Pool.{noHead, noRun, noTable, runsIn, runsBelow, tankIn, tankOf, meaning, Sound}
-use Rattle.tanks.specs.Contracts.{Opens, CalledAt}
+use Rattle.tanks.specs.Contracts.{Opens, CalledAt, DoneAt}
 use Rattle.tanks.proofs.LaidLaws.{laid-front}
 use Rattle.tanks.proofs.SettingLaws.{sound-place}
 use Rattle.tanks.proofs.MeaningLaws.{tank-at}
@@ -142,6 +143,13 @@ pub one-remove : (s : Tanks) (t : ℕ) (id : Identity) (last : ℕ) (r r′ : Re
     → CalledAt s t (removing id last) (r .number) (r .tanks) → r .first ≡ firstRemoved (meaning s) t id last
     → CalledAt s t (removing id last) (r′ .number) (r′ .tanks) → r′ .first ≡ firstRemoved (meaning s) t id last → r ≡ r′
 one-remove s t id last r r′ p a q b = let f = a ∙ sym b in λ i. record { number = one-number p q i; first = f i; tanks = one-next p q i }
+
+-- whichever edit it is
+pub one-done : (s : Tanks) (t : ℕ) (e : Edit) (r r′ : Done) → DoneAt s t e r → DoneAt s t e r′ → r ≡ r′
+one-done s t e r r′ p q =
+    let f = p .styles-are ∙ sym (q .styles-are) in
+    let g = p .first-is ∙ sym (q .first-is) in
+    λ i. record { number = one-number (p .called) (q .called) i; styles = f i; first = g i; tanks = one-next (p .called) (q .called) i }
 
 -- a refused call hands back the very same state
 pub refused-same : (s : Tanks) (t : ℕ) (e : Edit) (n : ℕ) (x : Tanks) → Sound s → CalledAt s t e n x → 0 < n → x ≡ s
