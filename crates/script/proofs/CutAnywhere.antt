@@ -9,8 +9,8 @@ use lib.ListN.{length, take, length-take}
 use lib.Seq.{take-all, take-append-le, take-take}
 use Rattle.script.specs.declared.Event.{Event}
 use Rattle.script.specs.Reading.{lineOf}
-use Rattle.script.specs.Lines.{before, hasEnd, State, grownOf, turnedOf, eventOf, afterOf, bringsOf}
-use Rattle.script.proofs.CutLaws.{before-other, before-none, end-newline, end-other}
+use Rattle.script.specs.Lines.{lineFront, hasEnd, State, grownOf, turnedOf, eventOf, afterOf, bringsOf}
+use Rattle.script.proofs.CutLaws.{front-other, front-none, end-newline, end-other}
 
 no-end-cons : (c : ℕ) (cs : List ℕ) → hasEnd (c ∷ cs) ≡ false → (c ≡ 10 → ⊥) × (hasEnd cs ≡ false)
 no-end-cons c cs e =
@@ -23,13 +23,13 @@ no-end-cons c cs e =
     apart z = let y : _≡_ {A = ℕ} 0 1 = cc in omega arith
 
 -- bytes with no newline among them
-pub before-all : (a : List ℕ) → hasEnd a ≡ false → before a ≡ a
-before-all [] e = before-none
-before-all (c ∷ cs) e = let n = no-end-cons c cs e in before-other c cs (n .0) ∙ ap (λ (t : List ℕ). c ∷ t) (before-all cs (n .1))
+pub front-all : (a : List ℕ) → hasEnd a ≡ false → lineFront a ≡ a
+front-all [] e = front-none
+front-all (c ∷ cs) e = let n = no-end-cons c cs e in front-other c cs (n .0) ∙ ap (λ (t : List ℕ). c ∷ t) (front-all cs (n .1))
 
-pub before-append : (a b : List ℕ) → hasEnd a ≡ false → before (a ++ b) ≡ a ++ before b
-before-append [] b e = refl
-before-append (c ∷ cs) b e = let n = no-end-cons c cs e in before-other c (cs ++ b) (n .0) ∙ ap (λ (t : List ℕ). c ∷ t) (before-append cs b (n .1))
+pub front-append : (a b : List ℕ) → hasEnd a ≡ false → lineFront (a ++ b) ≡ a ++ lineFront b
+front-append [] b e = refl
+front-append (c ∷ cs) b e = let n = no-end-cons c cs e in front-other c (cs ++ b) (n .0) ∙ ap (λ (t : List ℕ). c ∷ t) (front-append cs b (n .1))
 
 pub end-append : (a b : List ℕ) → hasEnd a ≡ false → hasEnd (a ++ b) ≡ hasEnd b
 end-append [] b e = refl
@@ -52,9 +52,9 @@ module _ (s : State) (a b : List ℕ) (none : hasEnd a ≡ false) where
 
   pub grown-append : grownOf (record { held = grownOf s a; call = s .call; newlines = s .newlines }) b ≡ grownOf s (a ++ b)
   grown-append =
-      ap (λ (t : List ℕ). take 65 (take 65 (s .held ++ t) ++ before b)) (before-all a none)
-      ∙ take-kept 65 (s .held ++ a) (before b)
-      ∙ ap (take 65) (append-assoc (s .held) a (before b) ∙ ap (λ (t : List ℕ). s .held ++ t) (sym (before-append a b none)))
+      ap (λ (t : List ℕ). take 65 (take 65 (s .held ++ t) ++ lineFront b)) (front-all a none)
+      ∙ take-kept 65 (s .held ++ a) (lineFront b)
+      ∙ ap (take 65) (append-assoc (s .held) a (lineFront b) ∙ ap (λ (t : List ℕ). s .held ++ t) (sym (front-append a b none)))
 
   after-by : Bool → List ℕ → State
   after-by e t = cond e (turnedOf (s .newlines) (lineOf (s .call) t .progress) (lineOf (s .call) t .call)) (record { held = t; call = s .call; newlines = s .newlines })

@@ -7,23 +7,23 @@ use native.Mathlib.Decide.{decLt, ℕ-discrete}
 use native.Mathlib.Numerals.{add-one}
 use native.Mathlib.Omega.{arith}
 use lib.Dec.{ltb}
-use lib.ListN.{length, getD, take, drop, length-take, length-drop}
-use lib.Seq.{drop-cons, take-all, take-take, take-append-add, length-take-le}
+use lib.ListN.{length, getD, take, drop, length-take, length-drop, length-append}
+use lib.Seq.{drop-cons, take-all, take-take, take-append-add, take-append-seam, length-take-le}
 use borrow.Author.Tests.{eq-eqb, ne-eqb, lt-ltb, le-ltb}
 use Rattle.text.specs.Number.{put}
-use Rattle.text.proofs.Putting.{take-put}
+use Rattle.script.specs.declared.Cut.{Cut}
 use Rattle.script.specs.declared.Line.{Line}
-use Rattle.script.specs.Lines.{before, hasEnd, heldOf, Keeps, Cuts}
+use Rattle.script.specs.Lines.{lineFront, hasEnd, heldOf, Keeps, grownLine, pastLine, cutOf}
 
 -- ---- the bytes in front of a newline
 module _ (c : ℕ) (cs : List ℕ) where
-  pub before-newline : c ≡ 10 → before (c ∷ cs) ≡ []
-  unfolding before
-  before-newline e = rw (eq-eqb c 10 e)
+  pub front-newline : c ≡ 10 → lineFront (c ∷ cs) ≡ []
+  unfolding lineFront
+  front-newline e = rw (eq-eqb c 10 e)
 
-  pub before-other : (c ≡ 10 → ⊥) → before (c ∷ cs) ≡ c ∷ before cs
-  unfolding before
-  before-other e = rw (ne-eqb c 10 e)
+  pub front-other : (c ≡ 10 → ⊥) → lineFront (c ∷ cs) ≡ c ∷ lineFront cs
+  unfolding lineFront
+  front-other e = rw (ne-eqb c 10 e)
 
   pub end-newline : c ≡ 10 → hasEnd (c ∷ cs) ≡ true
   unfolding hasEnd
@@ -33,22 +33,30 @@ module _ (c : ℕ) (cs : List ℕ) where
   unfolding hasEnd
   end-other e = rw (ne-eqb c 10 e)
 
-pub before-none : before [] ≡ []
-unfolding before
-before-none = refl
+pub front-none : lineFront [] ≡ []
+unfolding lineFront
+front-none = refl
 
 -- they are the front of the bytes
-pub before-take : (l : List ℕ) → take (length (before l)) l ≡ before l
-unfolding before
-before-take [] = refl
-before-take (c ∷ cs) =
+pub front-take : (l : List ℕ) → take (length (lineFront l)) l ≡ lineFront l
+unfolding lineFront
+front-take [] = refl
+front-take (c ∷ cs) =
     elim (ℕ-discrete c 10) [
-      | yes e ↦ rw (before-newline c cs e)
-      | no e ↦ rw (before-other c cs e) (ap (λ (t : List ℕ). c ∷ t) (before-take cs))
+      | yes e ↦ rw (front-newline c cs e)
+      | no e ↦ rw (front-other c cs e) (ap (λ (t : List ℕ). c ∷ t) (front-take cs))
     ]
 
-pub before-length : (l : List ℕ) → length (before l) ≤ length l
-before-length l = omega (arith, ap length (before-take l), length-take (length (before l)) l)
+pub front-length : (l : List ℕ) → length (lineFront l) ≤ length l
+front-length l = omega (arith, ap length (front-take l), length-take (length (lineFront l)) l)
+
+-- a part of the bytes that ends where they do
+module _ (l : List ℕ) (from to : ℕ) (e : to ≡ from + length (lineFront (drop from l))) where
+  pub front-part : take (to - from) (drop from l) ≡ lineFront (drop from l)
+  front-part = let d : to - from ≡ length (lineFront (drop from l)) = omega arith in ap (λ (k : ℕ). take k (drop from l)) d ∙ front-take (drop from l)
+
+  pub front-inside : from ≤ length l → to ≤ length l
+  front-inside h = omega (arith, front-length (drop from l), length-drop from l)
 
 by-one : (a b : ℕ) → ltb a b ≡ ltb (suc a) (suc b)
 by-one a b =
@@ -58,28 +66,28 @@ by-one a b =
     ]
 
 -- there is a newline where they are not all
-pub end-by-length : (l : List ℕ) → hasEnd l ≡ ltb (length (before l)) (length l)
-unfolding hasEnd before
+pub end-by-length : (l : List ℕ) → hasEnd l ≡ ltb (length (lineFront l)) (length l)
+unfolding hasEnd lineFront
 end-by-length [] = refl
 end-by-length (c ∷ cs) =
     elim (ℕ-discrete c 10) [
-      | yes e ↦ end-newline c cs e ∙ sym (lt-ltb (length (before (c ∷ cs))) (suc (length cs)) (omega (arith, ap length (before-newline c cs e))))
-      | no e ↦ end-other c cs e ∙ end-by-length cs ∙ by-one (length (before cs)) (length cs) ∙ sym (ap (λ (t : List ℕ). ltb (length t) (suc (length cs))) (before-other c cs e))
+      | yes e ↦ end-newline c cs e ∙ sym (lt-ltb (length (lineFront (c ∷ cs))) (suc (length cs)) (omega (arith, ap length (front-newline c cs e))))
+      | no e ↦ end-other c cs e ∙ end-by-length cs ∙ by-one (length (lineFront cs)) (length cs) ∙ sym (ap (λ (t : List ℕ). ltb (length t) (suc (length cs))) (front-other c cs e))
     ]
 
 -- ---- the search
 module _ (l : List ℕ) (i : ℕ) (h : i < length l) where
-  pub search-stops : getD l i 0 ≡ 10 → length (before (drop i l)) ≡ 0
-  search-stops e = ap (λ (t : List ℕ). length (before t)) (drop-cons l i 0 h) ∙ ap length (before-newline (getD l i 0) (drop (suc i) l) e)
+  pub search-stops : getD l i 0 ≡ 10 → length (lineFront (drop i l)) ≡ 0
+  search-stops e = ap (λ (t : List ℕ). length (lineFront t)) (drop-cons l i 0 h) ∙ ap length (front-newline (getD l i 0) (drop (suc i) l) e)
 
-  pub search-goes-on : (getD l i 0 ≡ 10 → ⊥) → length (before (drop i l)) ≡ suc (length (before (drop (i + 1) l)))
+  pub search-goes-on : (getD l i 0 ≡ 10 → ⊥) → length (lineFront (drop i l)) ≡ suc (length (lineFront (drop (i + 1) l)))
   search-goes-on e =
-      ap (λ (t : List ℕ). length (before t)) (drop-cons l i 0 h)
-      ∙ ap length (before-other (getD l i 0) (drop (suc i) l) e)
-      ∙ ap (λ (k : ℕ). suc (length (before (drop k l)))) (sym (add-one i))
+      ap (λ (t : List ℕ). length (lineFront t)) (drop-cons l i 0 h)
+      ∙ ap length (front-other (getD l i 0) (drop (suc i) l) e)
+      ∙ ap (λ (k : ℕ). suc (length (lineFront (drop k l)))) (sym (add-one i))
 
-pub search-ends : (l : List ℕ) (i : ℕ) → length l ≤ i → length (before (drop i l)) ≡ 0
-search-ends l i h = ap (λ (t : List ℕ). length (before t)) (lib.ListN.drop-of-length-le l h) ∙ ap length before-none
+pub search-ends : (l : List ℕ) (i : ℕ) → length l ≤ i → length (lineFront (drop i l)) ≡ 0
+search-ends l i h = ap (λ (t : List ℕ). length (lineFront t)) (lib.ListN.drop-of-length-le l h) ∙ ap length front-none
 
 -- ---- what is kept
 pub take-min : {A : Type 0} (n m : ℕ) (l : List A) → length l ≤ m → take (min n m) l ≡ take n l
@@ -95,62 +103,68 @@ take-behind n a b h =
     let e : n ≡ length a + (n - length a) = omega arith in
     ap (λ (k : ℕ). take k (a ++ b)) e ∙ take-append-add a b (n - length a)
 
-module _ (text rest : List ℕ) (lc count more : ℕ) (sized : length text ≡ 65) (is-count : count ≡ min lc 65) (is-more : more ≡ min (length (before rest)) (65 - count)) where
+module _ (text rest : List ℕ) (lc count more : ℕ) (sized : length text ≡ 65) (is-count : count ≡ min lc 65) (is-more : more ≡ min (length (lineFront rest)) (65 - count)) where
   kept-front : take count text ≡ take lc text
   kept-front = ap (λ (k : ℕ). take k text) is-count ∙ take-min lc 65 text (omega arith)
 
   length-kept : length (take lc text) ≡ count
   length-kept = ap length (sym kept-front) ∙ length-take-le count text (omega arith)
 
-  piece : take more rest ≡ take (65 - count) (before rest)
+  piece : take more rest ≡ take (65 - count) (lineFront rest)
   piece =
-      sym (take-take more (length (before rest)) rest (omega arith))
-      ∙ ap (take more) (before-take rest)
-      ∙ ap (λ (k : ℕ). take k (before rest)) (is-more ∙ min-swap (length (before rest)) (65 - count))
-      ∙ take-min (65 - count) (length (before rest)) (before rest) (omega arith)
+      sym (take-take more (length (lineFront rest)) rest (omega arith))
+      ∙ ap (take more) (front-take rest)
+      ∙ ap (λ (k : ℕ). take k (lineFront rest)) (is-more ∙ min-swap (length (lineFront rest)) (65 - count))
+      ∙ take-min (65 - count) (length (lineFront rest)) (lineFront rest) (omega arith)
     where
       min-swap : (a b : ℕ) → min a b ≡ min b a
       min-swap a b = omega arith
 
-  length-piece : length (take more rest) ≡ more
-  length-piece = length-take-le more rest (omega (arith, before-length rest))
-
   -- the line takes what it has room for
-  pub held-cut : (out : List ℕ) (n : ℕ) → out ≡ put text count (take more rest) → n ≡ count + length (take more rest) → take n out ≡ take 65 (take lc text ++ before rest)
-  held-cut out n e f =
-      ap₂ take f e
-      ∙ take-put text count (take more rest) (omega (arith, length-piece))
-      ∙ ap₂ (λ (a b : List ℕ). a ++ b) kept-front (piece ∙ ap (λ (k : ℕ). take (65 - k) (before rest)) (sym length-kept))
-      ∙ sym (take-behind 65 (take lc text) (before rest) (omega (arith, length-kept)))
+  joined : take count text ++ take more rest ≡ take 65 (take lc text ++ lineFront rest)
+  joined =
+      ap₂ (λ (a b : List ℕ). a ++ b) kept-front (piece ∙ ap (λ (k : ℕ). take (65 - k) (lineFront rest)) (sym length-kept))
+      ∙ sym (take-behind 65 (take lc text) (lineFront rest) (omega (arith, length-kept)))
+
+  length-joined : count + length (take more rest) ≡ length (take 65 (take lc text ++ lineFront rest))
+  length-joined = omega (arith, ap length joined, length-append (take count text) (take more rest), length-take-le count text (omega arith))
+
+  -- what is kept stands in front, and behind it what stood there
+  pub text-grown : (out : List ℕ) → out ≡ put text count (take more rest)
+      → out ≡ take 65 (take lc text ++ lineFront rest) ++ drop (length (take 65 (take lc text ++ lineFront rest))) text
+  text-grown out e = e ∙ ap₂ (λ (l : List ℕ) (k : ℕ). l ++ drop k text) joined length-joined
 
 -- a cut, from what the code's steps answer
 module _ (bytes : List ℕ) (from : ℕ) (line : Line) (end count more n : ℕ) (out : List ℕ) where
   stop-back : from + more - from ≡ more
   stop-back = omega arith
 
-  module _ (inside : from ≤ length bytes) (keeps : Keeps line count) (is-end : end ≡ from + length (before (drop from bytes))) (is-more : more ≡ min (end - from) (65 - count))
+  module _ (inside : from ≤ length bytes) (keeps : Keeps line count) (is-end : end ≡ from + length (lineFront (drop from bytes))) (is-more : more ≡ min (end - from) (65 - count))
       (is-out : out ≡ put (line .text) count (take (from + more - from) (drop from bytes))) (is-n : n ≡ count + length (take (from + more - from) (drop from bytes))) where
-    pub end-inside : end ≤ length bytes
-    end-inside = omega (arith, before-length (drop from bytes), length-drop from bytes)
+    end-inside : end ≤ length bytes
+    end-inside = front-inside bytes from end is-end inside
 
-    held : take n out ≡ take 65 (heldOf line ++ before (drop from bytes))
-    held =
-        held-cut (line .text) (drop from bytes) (line .count) count more (keeps .sized) (keeps .count) (omega arith) out n
-        (is-out ∙ ap (λ (k : ℕ). put (line .text) count (take k (drop from bytes))) stop-back)
-        (is-n ∙ ap (λ (k : ℕ). count + length (take k (drop from bytes))) stop-back)
+    line-cut : _≡_ {A = Line} (record { text = out; count = n }) (grownLine line (drop from bytes))
+    unfolding grownLine
+    line-cut =
+        let is : more ≡ min (length (lineFront (drop from bytes))) (65 - count) = omega arith in
+        let e = text-grown (line .text) (drop from bytes) (line .count) count more (keeps .sized) (keeps .count) is out (is-out ∙ ap (λ (k : ℕ). put (line .text) count (take k (drop from bytes))) stop-back) in
+        let f = is-n ∙ ap (λ (k : ℕ). count + length (take k (drop from bytes))) stop-back ∙ length-joined (line .text) (drop from bytes) (line .count) count more (keeps .sized) (keeps .count) is in
+        λ i. record { text = e i; count = f i }
 
-    pub cut-whole : end < length bytes → Cuts bytes from line (record { line = record { text = out; count = n }; at = end + 1; whole = true })
+    pub cut-whole : end < length bytes → _≡_ {A = Cut} (record { line = record { text = out; count = n }; at = end + 1; whole = true }) (cutOf bytes from line)
     cut-whole h =
-        record {
-          held = held;
-          whole = sym (end-by-length (drop from bytes) ∙ lt-ltb (length (before (drop from bytes))) (length (drop from bytes)) (omega (arith, length-drop from bytes)));
-          at = omega arith;
-        }
+        let e = sym (end-by-length (drop from bytes) ∙ lt-ltb (length (lineFront (drop from bytes))) (length (drop from bytes)) (omega (arith, length-drop from bytes))) in
+        let f : end + 1 ≡ pastLine bytes from = omega arith in
+        λ i. record { line = line-cut i; at = f i; whole = e i }
 
-    pub cut-open : length bytes ≤ end → Cuts bytes from line (record { line = record { text = out; count = n }; at = end; whole = false })
+    pub cut-open : length bytes ≤ end → _≡_ {A = Cut} (record { line = record { text = out; count = n }; at = end; whole = false }) (cutOf bytes from line)
     cut-open h =
-        record {
-          held = held;
-          whole = sym (end-by-length (drop from bytes) ∙ le-ltb (length (before (drop from bytes))) (length (drop from bytes)) (omega (arith, length-drop from bytes)));
-          at = omega (arith, end-inside);
-        }
+        let e = sym (end-by-length (drop from bytes) ∙ le-ltb (length (lineFront (drop from bytes))) (length (drop from bytes)) (omega (arith, length-drop from bytes))) in
+        let f : end ≡ pastLine bytes from = omega (arith, end-inside) in
+        λ i. record { line = line-cut i; at = f i; whole = e i }
+
+-- what is kept of a line that has grown
+pub held-grown : (l : Line) (rest : List ℕ) → heldOf (grownLine l rest) ≡ take 65 (heldOf l ++ lineFront rest)
+unfolding grownLine
+held-grown l rest = let t = take 65 (heldOf l ++ lineFront rest) in take-append-seam t (drop (length t) (l .text))

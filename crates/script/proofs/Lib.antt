@@ -5,4 +5,5 @@ pub mod CutLaws
 pub mod PutLaws
 pub mod Exact
 pub mod CutAnywhere
+pub mod Unique
 pub mod Tests

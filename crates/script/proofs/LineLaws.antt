@@ -1,26 +1,52 @@
 -- A field's line: what stands behind the field's name is read.
 use mathlib.Core.Path.{_≡_, refl, sym, ap, _∙_}
 use mathlib.Core.Bool.{Bool, true, false, cond}
-use mathlib.Core.List.{List}
-use Prim.Native.Nat.{ℕ, _-_, _≤_}
+use mathlib.Core.List.{List, _++_}
+use Prim.Native.Nat.{ℕ, zero, suc, _+_, _-_, _≤_}
 use native.Mathlib.Omega.{arith}
-use lib.ListN.{length, take, drop, length-drop}
-use lib.Seq.{take-all, length-take-le}
+use lib.ListN.{length, take, drop, replicate, length-drop, length-append}
+use lib.Seq.{take-all, take-append-seam}
+use Rattle.text.specs.Number.{put}
 use Rattle.text.specs.Starts.{startsOf}
 use Rattle.text.proofs.Prefix.{starts-length}
 use Rattle.script.specs.declared.Field.{Field}
 use Rattle.script.specs.declared.Name.{Name}
 use Rattle.script.specs.declared.Start.{Start}
-use Rattle.script.specs.Grammar.{Spells, nameOf}
+use Rattle.script.specs.Grammar.{nameOf, spelledOf, spelling}
 use Rattle.script.specs.Reading.{startOf, afterName}
 
 -- the end of a slice from a place on is what is left of it
 pub rest-part : (k : ℕ) (l : List ℕ) → take (length l - k) (drop k l) ≡ drop k l
 rest-part k l = take-all (length l - k) (drop k l) (simp length-drop (omega arith))
 
--- a name is as long as it says
-pub length-spelled : {n : Name} {t : List ℕ} → Spells n t → n .len ≡ length t
-length-spelled {n} {t} s = sym (length-take-le (n .len) (n .text) (s .inside)) ∙ ap length (s .spelled)
+-- a name spells its bytes, is as long as they are, and is within its places
+module _ {n : Name} (t : List ℕ) (e : n ≡ spelling t) where
+  pub name-spells : spelledOf n ≡ t
+  unfolding spelling
+  name-spells = ap spelledOf e ∙ take-append-seam t (replicate (16 - length t) 0)
+
+  pub name-length : n .len ≡ length t
+  unfolding spelling
+  name-length = ap (λ (m : Name). m .len) e
+
+  pub name-fits : n .len ≤ length (n .text)
+  unfolding spelling
+  name-fits = omega (arith, name-length, ap (λ (m : Name). length (m .text)) e, length-append t (replicate (16 - length t) 0))
+
+-- what is left of equal bytes
+drop-replicate : (n k a : ℕ) → drop k (replicate n a) ≡ replicate (n - k) a
+drop-replicate n zero a = let e : n ≡ n - 0 = omega arith in ap (λ (j : ℕ). replicate j a) e
+drop-replicate zero (suc k) a = let e : 0 ≡ 0 - suc k = omega arith in ap (λ (j : ℕ). replicate j a) e
+drop-replicate (suc n) (suc k) a = let e : n - k ≡ suc n - suc k = omega arith in drop-replicate n k a ∙ ap (λ (j : ℕ). replicate j a) e
+
+-- bytes that are put at the front of sixteen zeros are a name
+pub name-put : (out t : List ℕ) (n : ℕ) → n ≡ 0 + length t → out ≡ put (replicate 16 0) 0 t → _≡_ {A = Name} (record { text = out; len = n }) (spelling t)
+unfolding spelling
+name-put out t n e f =
+    let g : 0 + length t ≡ length t = omega arith in
+    let h : out ≡ t ++ replicate (16 - length t) 0 = f ∙ ap (λ (k : ℕ). t ++ drop k (replicate 16 0)) g ∙ ap (λ (l : List ℕ). t ++ l) (drop-replicate 16 (length t) 0) in
+    let k = e ∙ g in
+    λ i. record { text = h i; len = k i }
 
 started : (b : Bool) (n k : ℕ) → cond b (Start.At n) Start.Nowhere ≡ Start.At k → (b ≡ true) × (n ≡ k)
 started true n k e = (refl, (cc))

@@ -1,16 +1,32 @@
 -- An arm of a table: what it says of a variant it says of the value that is that variant.
-use mathlib.Core.Path.{_≡_, sym, subst}
+use mathlib.Core.Path.{_≡_, sym, ap, _∙_}
+use mathlib.Core.Bool.{true}
+use mathlib.Core.List.{List}
+use Prim.Native.Nat.{ℕ, _≤_}
+use native.Mathlib.Omega.{arith}
+use lib.Dec.{leb}
+use lib.ListN.{length, drop}
+use borrow.Author.Tests.{leb-true}
 use Rattle.script.specs.declared.Op.{Op}
 use Rattle.script.specs.declared.Field.{Field}
 use Rattle.script.specs.declared.Kind.{Kind}
 use Rattle.script.specs.declared.Name.{Name}
-use Rattle.script.specs.Grammar.{Spells, opName, nameOf, kindName}
+use Rattle.script.specs.Grammar.{spelling, opName, nameOf, kindName}
+use Rattle.script.specs.Lines.{lineFront}
+use Rattle.script.specs.Names.{opNames, fieldNames, NameAt}
 
-pub op-arm : {op o : Op} {n : Name} → op ≡ o → Spells n (opName o) → Spells n (opName op)
-op-arm {op} {o} {n} e s = subst (λ (x : Op). Spells n (opName x)) (sym e) s
+-- a name's place in the text of all, by computing
+place-of : {all : List ℕ} {at : ℕ} {s t : List ℕ} → leb at (length all) ≡ true → leb (length s) 16 ≡ true → lineFront (drop at all) ≡ s → t ≡ s → NameAt all at t
+place-of {all} {at} {s} {t} h k e f = record { inside = leb-true at (length all) h; name = e ∙ sym f; short = leb-true (length t) 16 (ap (λ (l : List ℕ). leb (length l) 16) f ∙ k) }
 
-pub field-arm : {f g : Field} {n : Name} → f ≡ g → Spells n (nameOf g) → Spells n (nameOf f)
-field-arm {f} {g} {n} e s = subst (λ (x : Field). Spells n (nameOf x)) (sym e) s
+pub place-fits : {all : List ℕ} {at : ℕ} {t : List ℕ} → NameAt all at t → (at ≤ length all) × (length (lineFront (drop at all)) ≤ 16)
+place-fits n = (n .inside, omega (arith, ap length (n .name), n .short))
 
-pub kind-arm : {k l : Kind} {n : Name} → k ≡ l → Spells n (kindName l) → Spells n (kindName k)
-kind-arm {k} {l} {n} e s = subst (λ (x : Kind). Spells n (kindName x)) (sym e) s
+pub op-place : {op o : Op} {at : ℕ} → op ≡ o → leb at (length opNames) ≡ true → leb (length (opName o)) 16 ≡ true → lineFront (drop at opNames) ≡ opName o → NameAt opNames at (opName op)
+op-place d h k e = place-of h k e (ap opName d)
+
+pub field-place : {f g : Field} {at : ℕ} → f ≡ g → leb at (length fieldNames) ≡ true → leb (length (nameOf g)) 16 ≡ true → lineFront (drop at fieldNames) ≡ nameOf g → NameAt fieldNames at (nameOf f)
+field-place d h k e = place-of h k e (ap nameOf d)
+
+pub kind-arm : {k l : Kind} {n : Name} → k ≡ l → n ≡ spelling (kindName l) → n ≡ spelling (kindName k)
+kind-arm e s = s ∙ sym (ap (λ (x : Kind). spelling (kindName x)) e)

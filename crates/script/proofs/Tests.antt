@@ -15,7 +15,7 @@ use Rattle.script.specs.declared.ReadValue.{ReadValue}
 use Rattle.script.specs.Bytes.{bytes}
 use Rattle.script.specs.Grammar.{opName}
 use Rattle.script.specs.Reading.{numberOf, opNamed, valueOf, freshOf, movedOf, heldLine, lineOf}
-use Rattle.script.specs.Lines.{before, hasEnd, State, afterOf}
+use Rattle.script.specs.Lines.{lineFront, hasEnd, State, afterOf}
 
 -- every op is known by its name
 op-open : opNamed (opName Op.Open) ≡ ReadOp.Op Op.Open
@@ -137,5 +137,5 @@ start = record { held = bytes "op=ru"; call = freshOf Op.Nothing; newlines = 4 }
 
 -- a line whose start came before
 second-half : afterOf start (bytes "ns\ntank=1") ≡ record { held = []; call = freshOf Op.Runs; newlines = 5 }
-unfolding start afterOf before hasEnd lineOf heldLine opNamed sameOf startsOf
+unfolding start afterOf lineFront hasEnd lineOf heldLine opNamed sameOf startsOf
 second-half = refl

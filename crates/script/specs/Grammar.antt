@@ -1,8 +1,6 @@
 -- The ops of a call script, the fields of each in their order, and what each field holds.
 use mathlib.Core.List.{List, [], _∷_, _++_}
-use Prim.Native.Nat.{ℕ, _-_, _^_, _≤_}
-use mathlib.Core.Path.{_≡_}
-use mathlib.Core.Bool.{Bool}
+use Prim.Native.Nat.{ℕ, _-_, _^_}
 use lib.ListN.{length, getD, take, replicate}
 use Rattle.script.specs.declared.Op.{Op}
 use Rattle.script.specs.declared.Progress.{Progress}
@@ -164,7 +162,6 @@ kindName Kind.Decimal = bytes "decimal"
 abbrev pub spelledOf : Name → List ℕ
 spelledOf n = take (n .len) (n .text)
 
--- n is the name that these bytes spell
-pub record Spells (n : Name) (t : List ℕ) : Type 0 where
-  pub spelled : spelledOf n ≡ t
-  pub inside : n .len ≤ length (n .text)
+-- the name that bytes spell: zeros stand in the places behind them
+unfoldable pub spelling : List ℕ → Name
+spelling t = record { text = t ++ replicate (16 - length t) 0; len = length t }

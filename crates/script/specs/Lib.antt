@@ -2,5 +2,6 @@ pub mod Bytes
 pub mod Grammar
 pub mod Reading
 pub mod Lines
+pub mod Names
 pub mod Args
 pub mod Writing

@@ -4,7 +4,7 @@ use mathlib.Core.Bool.{Bool, true, false, cond}
 use mathlib.Core.List.{List, [], _∷_, _++_}
 use Prim.Native.Nat.{ℕ, _+_, _-_, _^_, min}
 use lib.Dec.{eqb}
-use lib.ListN.{length, take, drop}
+use lib.ListN.{length, take, drop, replicate}
 use Rattle.script.specs.declared.Call.{Call}
 use Rattle.script.specs.declared.Cut.{Cut}
 use Rattle.script.specs.declared.Ending.{Ending}
@@ -20,9 +20,9 @@ use Rattle.script.specs.Grammar.{fieldAt, holdsOf}
 use Rattle.script.specs.Reading.{freshOf, lineOf}
 
 -- the bytes in front of the first newline
-unfoldable pub before : List ℕ → List ℕ
-before [] = []
-before (c ∷ cs) = cond (eqb c 10) [] (c ∷ before cs)
+unfoldable pub lineFront : List ℕ → List ℕ
+lineFront [] = []
+lineFront (c ∷ cs) = cond (eqb c 10) [] (c ∷ lineFront cs)
 
 -- there is a newline
 unfoldable pub hasEnd : List ℕ → Bool
@@ -38,11 +38,30 @@ pub record Keeps (l : Line) (n : ℕ) : Type 0 where
   pub count : n ≡ min (l .count) 65
   pub sized : length (l .text) ≡ 65
 
+-- a line of which no byte has come
+abbrev pub emptyLine : Line
+emptyLine = record { text = replicate 65 0; count = 0 }
+
+-- a line's places with these bytes at their front; behind them stays what stood there
+abbrev pub holding : Line → List ℕ → Line
+holding l t = record { text = t ++ drop (length t) (l .text); count = length t }
+
+-- a line with the bytes up to the newline, or all of them, behind what is kept of it
+unfoldable pub grownLine : Line → List ℕ → Line
+unfolding lineFront
+grownLine l rest = holding l (take 65 (heldOf l ++ lineFront rest))
+
+-- the place behind the first newline from a place on, or the end of the bytes
+abbrev pub pastLine : List ℕ → ℕ → ℕ
+pastLine bytes from = min (length bytes) (from + length (lineFront (drop from bytes)) + 1)
+
 -- a line takes the bytes up to its newline, and they are passed with it
-pub record Cuts (bytes : List ℕ) (from : ℕ) (l : Line) (r : Cut) : Type 0 where
-  pub held : heldOf (r .line) ≡ take 65 (heldOf l ++ before (drop from bytes))
-  pub whole : r .whole ≡ hasEnd (drop from bytes)
-  pub at : r .at ≡ min (length bytes) (from + length (before (drop from bytes)) + 1)
+abbrev pub cutOf : List ℕ → ℕ → Line → Cut
+cutOf bytes from l = record { line = grownLine l (drop from bytes); at = pastLine bytes from; whole = hasEnd (drop from bytes) }
+
+-- a reader at the start of a line
+abbrev pub readerAt : Call → ℕ → Reader
+readerAt c n = record { line = emptyLine; call = c; newlines = n }
 
 -- where a reader stands: what is kept of the line, the call, and how many lines were good
 pub record State : Type 0 where
@@ -72,7 +91,7 @@ turnedOf n Progress.Ready c = record { held = []; call = freshOf Op.Nothing; new
 
 -- the line as far as the bytes go
 abbrev pub grownOf : State → List ℕ → List ℕ
-grownOf s rest = take 65 (s .held ++ before rest)
+grownOf s rest = take 65 (s .held ++ lineFront rest)
 
 -- what the line makes of the call
 abbrev pub readOf : State → List ℕ → Read
@@ -80,7 +99,7 @@ readOf s rest = lineOf (s .call) (grownOf s rest)
 
 -- the state after the bytes up to the first newline, or all of them
 unfoldable pub afterOf : State → List ℕ → State
-unfolding before hasEnd lineOf
+unfolding lineFront hasEnd lineOf
 afterOf s rest =
     cond (hasEnd rest)
     (turnedOf (s .newlines) (readOf s rest .progress) (readOf s rest .call))
@@ -88,15 +107,27 @@ afterOf s rest =
 
 -- what they bring: nothing before a newline, else what the line makes of the call
 unfoldable pub bringsOf : State → List ℕ → Event
-unfolding before hasEnd lineOf
+unfolding lineFront hasEnd lineOf
 bringsOf s rest = cond (hasEnd rest) (eventOf (readOf s rest .progress)) Event.Nothing
+
+-- the line after them: an empty one behind a newline
+unfoldable pub lineAfter : Line → List ℕ → Line
+unfolding hasEnd grownLine
+lineAfter l rest = cond (hasEnd rest) emptyLine (grownLine l rest)
+
+-- the call as they leave it, in front of a newline as it was
+unfoldable pub callAfter : State → List ℕ → Call
+unfolding lineFront hasEnd lineOf
+callAfter s rest = cond (hasEnd rest) (readOf s rest .call) (s .call)
 
 -- the bytes from a place on, fed to a reader
 pub record Feeds (r : Reader) (bytes : List ℕ) (from : ℕ) (f : Fed) : Type 0 where
   pub state : stateOf (f .reader) ≡ afterOf (stateOf r) (drop from bytes)
   pub event : f .event ≡ bringsOf (stateOf r) (drop from bytes)
   pub call : f .event ≡ Event.Call → f .call ≡ readOf (stateOf r) (drop from bytes) .call
-  pub at : f .at ≡ min (length bytes) (from + length (before (drop from bytes)) + 1)
+  pub at : f .at ≡ pastLine bytes from
+  pub line : f .reader .line ≡ lineAfter (r .line) (drop from bytes)
+  pub made : f .call ≡ callAfter (stateOf r) (drop from bytes)
 
 -- an input ends well where a line that names an op would come next
 abbrev pub endingBy : Holds → Ending

@@ -1,10 +1,9 @@
 // Bytes, however they are cut, to lines, and lines to calls; a reader stands for what came so far.
 ghost use mathlib.Core.Path.{_≡_};
-ghost use mathlib.Core.List.{[]};
 ghost use Prim.Native.Nat.{_+_, _≤_, _<_, min};
 ghost use lib.ListN.{length, drop};
 ghost use Rattle.script.specs.Reading.{freshOf, lineOf};
-ghost use Rattle.script.specs.Lines.{before, heldOf, Keeps, Cuts, stateOf, countedOf, turnedOf, eventOf, Feeds, endingBy, endingOf};
+ghost use Rattle.script.specs.Lines.{lineFront, heldOf, Keeps, emptyLine, cutOf, readerAt, stateOf, countedOf, turnedOf, eventOf, Feeds, endingBy, endingOf};
 use super::Call;
 use super::Cut;
 use super::Ending;
@@ -28,7 +27,7 @@ fn least(a: usize, b: usize) -> usize
 }
 
 pub fn empty_line() -> Line
-    ensures { λ r. ⌜ heldOf r ≡ [] ⌝ }
+    ensures { λ r. ⌜ r ≡ emptyLine ⌝ }
 {
     Line {
         text: [0; 65],
@@ -44,9 +43,9 @@ fn kept(line: Line) -> usize
 }
 
 // The place of the first newline from a place on, or the end of the bytes.
-fn line_end(bytes: &[u8], from: usize) -> usize
+pub fn line_end(bytes: &[u8], from: usize) -> usize
     requires { ⌜ from ≤ length (now bytes) ⌝ }
-    ensures { λ r. ⌜ r ≡ from + length (before (drop from (now (bytes .entry)))) ⌝ }
+    ensures { λ r. ⌜ r ≡ from + length (lineFront (drop from (now (bytes .entry)))) ⌝ }
 {
     let mut i = from;
     while i < bytes.len() {
@@ -61,7 +60,7 @@ fn line_end(bytes: &[u8], from: usize) -> usize
 // The bytes of a line from a place on, up to its newline or to the end of the bytes.
 pub fn cut_line(bytes: &[u8], from: usize, line: Line) -> Cut
     requires { ⌜ from ≤ length (now bytes) ⌝ }
-    ensures { λ r. ⌜ Cuts (now (bytes .entry)) from line r ⌝ }
+    ensures { λ r. ⌜ r ≡ cutOf (now (bytes .entry)) from line ⌝ }
 {
     let end = line_end(bytes, from);
     let count = kept(line);
@@ -118,7 +117,7 @@ fn event(p: Progress) -> Event
 
 // A reader at the start of a line.
 fn at_line(call: Call, newlines: u64) -> Reader
-    ensures { λ r. ⌜ stateOf r ≡ record { held = []; call = call; newlines = newlines } ⌝ }
+    ensures { λ r. ⌜ r ≡ readerAt call newlines ⌝ }
 {
     let line = empty_line();
     Reader {
@@ -130,14 +129,14 @@ fn at_line(call: Call, newlines: u64) -> Reader
 
 // A reader at the start of an input.
 pub fn begin() -> Reader
-    ensures { λ r. ⌜ stateOf r ≡ record { held = []; call = freshOf Op.Nothing; newlines = 0 } ⌝ }
+    ensures { λ r. ⌜ r ≡ readerAt (freshOf Op.Nothing) 0 ⌝ }
 {
     at_line(idle(), 0)
 }
 
 // A reader after a line's end.
 fn turned(newlines: u64, p: Progress, call: Call) -> Reader
-    ensures { λ r. ⌜ stateOf r ≡ turnedOf newlines p call ⌝ }
+    ensures { λ r. ⌜ (stateOf r ≡ turnedOf newlines p call) × (r .line ≡ emptyLine) ⌝ }
 {
     match p {
         Progress::Bad => at_line(call, newlines),

@@ -1,21 +1,36 @@
 // How ops, fields and kinds are spelled, for reading and for writing.
+//
+// The names of ops stand in one text, a line each, and those of fields in another: a function lays out each text that it
+// has at every call, so that a text of its own in each arm of a table is dear to run and to prove.
 ghost use mathlib.Core.Path.{_≡_};
 ghost use Prim.Native.Nat.{_≤_};
-ghost use lib.ListN.{length};
+ghost use lib.ListN.{length, drop};
 ghost use Rattle.text.specs.Starts.{startsOf, sameOf};
-ghost use Rattle.script.specs.Grammar.{Spells, spelledOf, opName, nameOf, kindName};
+ghost use Rattle.script.specs.Grammar.{spelledOf, spelling, opName, nameOf, kindName};
+ghost use Rattle.script.specs.Lines.{lineFront};
+ghost use Rattle.script.specs.Names.{opNames, fieldNames, NameAt};
 use super::Field;
 use super::Kind;
 use super::Name;
 use super::Op;
+use super::lines::line_end;
 
 fn named(word: &[u8]) -> Name
     requires { ⌜ length (now word) ≤ 16 ⌝ }
-    ensures { λ r. ⌜ Spells r (now (word .entry)) ⌝ }
+    ensures { λ r. ⌜ r ≡ spelling (now (word .entry)) ⌝ }
 {
     let mut text = [0u8; 16];
     let n = text::put(&mut text, 0, word);
     Name { text: text, len: n }
+}
+
+// The name that starts at a place of such a text.
+fn name_at(all: &[u8], from: usize) -> Name
+    requires { ⌜ (from ≤ length (now all)) × (length (lineFront (drop from (now all))) ≤ 16) ⌝ }
+    ensures { λ r. ⌜ r ≡ spelling (lineFront (drop from (now (all .entry)))) ⌝ }
+{
+    let to = line_end(all, from);
+    named(&all[from..to])
 }
 
 // Does a line begin with a name?
@@ -38,77 +53,97 @@ pub fn is_name(t: &[u8], n: Name) -> bool
     text::same(t, &name[..k])
 }
 
-pub fn op_name(op: Op) -> Name
-    ensures { λ r. ⌜ Spells r (opName op) ⌝ }
+// Where an op's name starts in the text of all of them.
+fn op_place(op: Op) -> usize
+    ensures { λ r. ⌜ NameAt opNames r (opName op) ⌝ }
 {
     match op {
-        Op::Nothing => named(b""),
-        Op::Open => named(b"open"),
-        Op::Annotate => named(b"annotate"),
-        Op::Insert => named(b"insert"),
-        Op::Delete => named(b"delete"),
-        Op::Remove => named(b"remove"),
-        Op::Length => named(b"length"),
-        Op::Touched => named(b"touched"),
-        Op::Runs => named(b"runs"),
-        Op::Value => named(b"value"),
-        Op::HasKey => named(b"has_key"),
-        Op::AllValue => named(b"all_value"),
-        Op::Same => named(b"same"),
-        Op::Marks => named(b"marks"),
-        Op::Inherit => named(b"inherit"),
-        Op::Mark => named(b"mark"),
-        Op::Inherited => named(b"inherited"),
-        Op::Stretches => named(b"stretches"),
-        Op::StretchesNeeded => named(b"stretches_needed"),
-        Op::Whole => named(b"whole"),
-        Op::WholeNeeded => named(b"whole_needed"),
-        Op::Anchors => named(b"anchors"),
+        Op::Nothing => 0,
+        Op::Open => 1,
+        Op::Annotate => 6,
+        Op::Insert => 15,
+        Op::Delete => 22,
+        Op::Remove => 29,
+        Op::Length => 36,
+        Op::Touched => 43,
+        Op::Runs => 51,
+        Op::Value => 56,
+        Op::HasKey => 62,
+        Op::AllValue => 70,
+        Op::Same => 80,
+        Op::Marks => 85,
+        Op::Inherit => 91,
+        Op::Mark => 99,
+        Op::Inherited => 104,
+        Op::Stretches => 114,
+        Op::StretchesNeeded => 124,
+        Op::Whole => 141,
+        Op::WholeNeeded => 147,
+        Op::Anchors => 160,
+    }
+}
+
+// How an op is named.
+pub fn op_name(op: Op) -> Name
+    ensures { λ r. ⌜ r ≡ spelling (opName op) ⌝ }
+{
+    let all =
+        b"\nopen\nannotate\ninsert\ndelete\nremove\nlength\ntouched\nruns\nvalue\nhas_key\nall_value\nsame\nmarks\ninherit\nmark\ninherited\nstretches\nstretches_needed\nwhole\nwhole_needed\nanchors";
+    name_at(all, op_place(op))
+}
+
+// Where a field's name starts in the text of all of them.
+fn field_place(f: Field) -> usize
+    ensures { λ r. ⌜ NameAt fieldNames r (nameOf f) ⌝ }
+{
+    match f {
+        Field::Done => 0,
+        Field::OpName => 1,
+        Field::Tank => 5,
+        Field::Start => 11,
+        Field::End => 18,
+        Field::At => 23,
+        Field::Len => 27,
+        Field::Key => 32,
+        Field::Lamport => 37,
+        Field::Peer => 46,
+        Field::Last => 52,
+        Field::Flags => 58,
+        Field::Kind => 65,
+        Field::Value => 71,
+        Field::Rank => 78,
+        Field::Room => 84,
+        Field::Share0 => 90,
+        Field::Limit0 => 98,
+        Field::Share1 => 106,
+        Field::Limit1 => 114,
+        Field::Share2 => 122,
+        Field::Limit2 => 130,
+        Field::Share3 => 138,
+        Field::Limit3 => 146,
+        Field::Share4 => 154,
+        Field::Limit4 => 162,
+        Field::Share5 => 170,
+        Field::Limit5 => 178,
+        Field::Share6 => 186,
+        Field::Limit6 => 194,
+        Field::Share7 => 202,
+        Field::Limit7 => 210,
     }
 }
 
 // How a field's line begins.
 pub fn field_name(f: Field) -> Name
-    ensures { λ r. ⌜ Spells r (nameOf f) ⌝ }
+    ensures { λ r. ⌜ r ≡ spelling (nameOf f) ⌝ }
 {
-    match f {
-        Field::Done => named(b""),
-        Field::OpName => named(b"op="),
-        Field::Tank => named(b"tank="),
-        Field::Start => named(b"start="),
-        Field::End => named(b"end="),
-        Field::At => named(b"at="),
-        Field::Len => named(b"len="),
-        Field::Key => named(b"key="),
-        Field::Lamport => named(b"lamport="),
-        Field::Peer => named(b"peer="),
-        Field::Last => named(b"last="),
-        Field::Flags => named(b"flags="),
-        Field::Kind => named(b"kind="),
-        Field::Value => named(b"value="),
-        Field::Rank => named(b"rank="),
-        Field::Room => named(b"room="),
-        Field::Share0 => named(b"share0="),
-        Field::Limit0 => named(b"limit0="),
-        Field::Share1 => named(b"share1="),
-        Field::Limit1 => named(b"limit1="),
-        Field::Share2 => named(b"share2="),
-        Field::Limit2 => named(b"limit2="),
-        Field::Share3 => named(b"share3="),
-        Field::Limit3 => named(b"limit3="),
-        Field::Share4 => named(b"share4="),
-        Field::Limit4 => named(b"limit4="),
-        Field::Share5 => named(b"share5="),
-        Field::Limit5 => named(b"limit5="),
-        Field::Share6 => named(b"share6="),
-        Field::Limit6 => named(b"limit6="),
-        Field::Share7 => named(b"share7="),
-        Field::Limit7 => named(b"limit7="),
-    }
+    let all =
+        b"\nop=\ntank=\nstart=\nend=\nat=\nlen=\nkey=\nlamport=\npeer=\nlast=\nflags=\nkind=\nvalue=\nrank=\nroom=\nshare0=\nlimit0=\nshare1=\nlimit1=\nshare2=\nlimit2=\nshare3=\nlimit3=\nshare4=\nlimit4=\nshare5=\nlimit5=\nshare6=\nlimit6=\nshare7=\nlimit7=";
+    name_at(all, field_place(f))
 }
 
+// How a kind is named.
 pub fn kind_name(k: Kind) -> Name
-    ensures { λ r. ⌜ Spells r (kindName k) ⌝ }
+    ensures { λ r. ⌜ r ≡ spelling (kindName k) ⌝ }
 {
     match k {
         Kind::Null => named(b"null"),

@@ -2,7 +2,7 @@
 use native.Mathlib.Omega.{arith}
 use lib.ListN.{drop, length-drop}
 use borrow.Author.Needs.{needs}
-use Rattle.script.proofs.CutLaws.{before-length, cut-whole, cut-open}
+use Rattle.script.proofs.CutLaws.{front-length, cut-whole, cut-open}
 use Rattle.script.proofs.lines.cut_line.Statement.{statement}
 use Rattle.script.proofs.lines.cut_line.Tie as tie
 
@@ -10,7 +10,7 @@ part-put-end : tie.Need-part-put-end
 part-put-end c =
     let e = c .before .before .before .before in
     let a = e .before .before .args in
-    omega (arith, e .line-end .ensures, c .before .before .least .ensures, before-length (drop (a .from) (a .bytes .now)), length-drop (a .from) (a .bytes .now))
+    omega (arith, e .line-end .ensures, c .before .before .least .ensures, front-length (drop (a .from) (a .bytes .now)), length-drop (a .from) (a .bytes .now))
 
 returns : tie.Need-returns
 returns c =

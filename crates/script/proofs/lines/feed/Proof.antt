@@ -4,67 +4,73 @@ use mathlib.Core.Bool.{true, false}
 use mathlib.Core.List.{List}
 use Prim.Native.Nat.{ℕ}
 use native.Mathlib.Omega.{arith}
+use lib.ListN.{drop}
 use borrow.Author.Needs.{needs}
-use Rattle.script.specs.declared.Call.{Call}
+use Rattle.script.specs.declared.Cut.{Cut}
 use Rattle.script.specs.declared.Event.{Event}
 use Rattle.script.specs.declared.Read.{Read}
+use Rattle.script.specs.declared.Reader.{Reader}
 use Rattle.script.specs.Reading.{lineOf}
-use Rattle.script.specs.Lines.{hasEnd, State, stateOf, grownOf, readOf, turnedOf, eventOf, afterOf, bringsOf}
+use Rattle.script.specs.Lines.{hasEnd, heldOf, emptyLine, grownLine, cutOf, stateOf, readOf, turnedOf, eventOf, afterOf, bringsOf, lineAfter, callAfter, Feeds}
+use Rattle.script.proofs.CutLaws.{held-grown}
 use Rattle.script.proofs.lines.feed.Statement.{statement}
 use Rattle.script.proofs.lines.feed.Tie as tie
 
-module _ (s : State) (rest held : List ℕ) (is-held : held ≡ grownOf s rest) (r : Read) (is-read : r ≡ lineOf (s .call) held) where
-  is-of : r ≡ readOf s rest
-  is-of = is-read ∙ ap (lineOf (s .call)) is-held
-
-  ended-state : true ≡ hasEnd rest → (t : State) → t ≡ turnedOf (s .newlines) (r .progress) (r .call) → t ≡ afterOf s rest
-  unfolding afterOf
-  ended-state h t e = e ∙ ap (λ (q : Read). turnedOf (s .newlines) (q .progress) (q .call)) is-of ∙ rw (sym h)
-
-  ended-event : true ≡ hasEnd rest → (v : Event) → v ≡ eventOf (r .progress) → v ≡ bringsOf s rest
-  unfolding bringsOf
-  ended-event h v e = e ∙ ap (λ (q : Read). eventOf (q .progress)) is-of ∙ rw (sym h)
-
-  ended-call : r .call ≡ readOf s rest .call
-  ended-call = ap (λ (q : Read). q .call) is-of
-
-module _ (s : State) (rest held : List ℕ) (is-held : held ≡ grownOf s rest) (h : false ≡ hasEnd rest) where
-  open-state : _≡_ {A = State} (record { held = held; call = s .call; newlines = s .newlines }) (afterOf s rest)
-  unfolding afterOf
-  open-state = rw (is-held, sym h)
-
-  open-event : Event.Nothing ≡ bringsOf s rest
-  unfolding bringsOf
-  open-event = rw (sym h)
-
 no-call : Event.Nothing ≡ Event.Call → ⊥
 no-call e = let z : _≡_ {A = ℕ} 0 1 = cc in omega arith
+
+module _ (r : Reader) (bytes : List ℕ) (from : ℕ) (c : Cut) (is-cut : c ≡ cutOf bytes from (r .line)) where
+  held : heldOf (c .line) ≡ heldOf (grownLine (r .line) (drop from bytes))
+  held = ap (λ (x : Cut). heldOf (x .line)) is-cut
+
+  -- the line has ended, and has been read
+  module _ (is-whole : c .whole ≡ true) (read : Read) (is-read : read ≡ lineOf (r .call) (heldOf (c .line))) (next : Reader)
+      (is-next : (stateOf next ≡ turnedOf (r .newlines) (read .progress) (read .call)) × (next .line ≡ emptyLine)) (brings : Event) (is-event : brings ≡ eventOf (read .progress)) where
+    has : true ≡ hasEnd (drop from bytes)
+    has = sym is-whole ∙ ap (λ (x : Cut). x .whole) is-cut
+
+    is-of : read ≡ readOf (stateOf r) (drop from bytes)
+    is-of = is-read ∙ ap (lineOf (r .call)) (held ∙ held-grown (r .line) (drop from bytes))
+
+    feeds-whole : Feeds r bytes from (record { reader = next; event = brings; call = read .call; at = c .at })
+    unfolding afterOf bringsOf lineAfter callAfter
+    feeds-whole =
+        record {
+          state = is-next .0 ∙ ap (λ (q : Read). turnedOf (r .newlines) (q .progress) (q .call)) is-of ∙ rw (sym has);
+          event = is-event ∙ ap (λ (q : Read). eventOf (q .progress)) is-of ∙ rw (sym has);
+          call = λ _. ap (λ (q : Read). q .call) is-of;
+          at = ap (λ (x : Cut). x .at) is-cut;
+          line = is-next .1 ∙ rw (sym has);
+          made = ap (λ (q : Read). q .call) is-of ∙ rw (sym has);
+        }
+
+  -- the line goes on
+  module _ (is-open : c .whole ≡ false) where
+    lacks : false ≡ hasEnd (drop from bytes)
+    lacks = sym is-open ∙ ap (λ (x : Cut). x .whole) is-cut
+
+    feeds-open : Feeds r bytes from (record { reader = record { line = c .line; call = r .call; newlines = r .newlines }; event = Event.Nothing; call = r .call; at = c .at })
+    unfolding afterOf bringsOf lineAfter callAfter
+    feeds-open =
+        record {
+          state = rw (held ∙ held-grown (r .line) (drop from bytes), sym lacks);
+          event = rw (sym lacks);
+          call = λ x. absurd (no-call x);
+          at = ap (λ (x : Cut). x .at) is-cut;
+          line = ap (λ (x : Cut). x .line) is-cut ∙ rw (sym lacks);
+          made = rw (sym lacks);
+        }
 
 returns : tie.Need-returns
 returns c =
     let k = c .before .before .before in
     let t = k .before in
-    let u = t .before .before .cut-line .ensures in
-    let s = stateOf (t .before .before .before .before .before .before .args .r) in
-    let e = sym (t .if1 .taken) ∙ u .whole in
-    record {
-      state = ended-state s _ _ (u .held) _ (k .kept-read .ensures) e _ (c .before .turned .ensures);
-      event = ended-event s _ _ (u .held) _ (k .kept-read .ensures) e _ (c .event .ensures);
-      call = λ _. ended-call s _ _ (u .held) _ (k .kept-read .ensures);
-      at = u .at;
-    }
+    let u = t .before .before in
+    let a = u .before .before .before .before .args in
+    feeds-whole (a .r) (a .bytes .now) (a .from) _ (u .cut-line .ensures) (t .if1 .taken) _ (k .kept-read .ensures) _ (c .before .turned .ensures) _ (c .event .ensures)
 
 returns-2 : tie.Need-returns-2
-returns-2 c =
-    let u = c .before .before .cut-line .ensures in
-    let s = stateOf (c .before .before .before .before .before .before .args .r) in
-    let e = sym (c .if1 .left) ∙ u .whole in
-    record {
-      state = open-state s _ _ (u .held) e;
-      event = open-event s _ _ (u .held) e;
-      call = λ x. absurd (no-call x);
-      at = u .at;
-    }
+returns-2 c = let u = c .before .before in let a = u .before .before .before .before .args in feeds-open (a .r) (a .bytes .now) (a .from) _ (u .cut-line .ensures) (c .if1 .left)
 
 pub feed-spec : {M : Type 1} → statement M
 feed-spec = tie.close (tie.spec (λ c κs. search needs) (λ c κs. search needs) (λ c κs. search needs) (λ c κs. search needs) returns returns-2)

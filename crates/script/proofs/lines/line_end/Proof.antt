@@ -4,13 +4,13 @@ use Prim.Native.Nat.{_+_, _-_, _≤_}
 use native.Mathlib.Omega.{arith}
 use lib.ListN.{length, drop}
 use borrow.Author.Needs.{needs}
-use Rattle.script.specs.Lines.{before}
+use Rattle.script.specs.Lines.{lineFront}
 use Rattle.script.proofs.CutLaws.{search-stops, search-goes-on, search-ends}
 use Rattle.script.proofs.lines.line_end.Statement.{statement}
 use Rattle.script.proofs.lines.line_end.Tie as tie
 
 abbrev Inv-loop : tie.InvT-loop
-Inv-loop bytes from i₀ i = (i ≤ length bytes) × (from + length (before (drop from bytes)) ≡ i + length (before (drop i bytes)))
+Inv-loop bytes from i₀ i = (i ≤ length bytes) × (from + length (lineFront (drop from bytes)) ≡ i + length (lineFront (drop i bytes)))
 
 abbrev μ-loop : tie.MeasureT-loop
 μ-loop bytes from i₀ i = length bytes - i

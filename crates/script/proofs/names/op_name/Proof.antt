@@ -1,98 +1,19 @@
--- Each arm spells its op's name.
+-- The op's name stands at its place in the text of all.
+use mathlib.Core.Path.{ap, _∙_}
 use borrow.Author.Needs.{needs}
-use Rattle.script.proofs.Tables.{op-arm}
+use Rattle.script.specs.Grammar.{spelling}
+use Rattle.script.specs.Names.{opNames}
+use Rattle.script.proofs.Tables.{place-fits}
 use Rattle.script.proofs.names.op_name.Statement.{statement}
 use Rattle.script.proofs.names.op_name.Tie as tie
 
+name-at-requires : tie.Need-name-at-requires
+unfolding opNames
+name-at-requires c κs = place-fits (c .op-place .ensures)
+
+returns : tie.Need-returns
+unfolding opNames
+returns c = c .name-at .ensures ∙ ap spelling (c .before .op-place .ensures .name)
+
 pub op-name-spec : {M : Type 1} → statement M
-op-name-spec =
-    tie.close
-    (tie.spec
-    (λ c. search needs)
-    (λ c. search needs)
-    (λ c κs. search needs)
-    (λ c. search needs)
-    (λ c. search needs)
-    (λ c κs. search needs)
-    (λ c. search needs)
-    (λ c. search needs)
-    (λ c κs. search needs)
-    (λ c. search needs)
-    (λ c. search needs)
-    (λ c κs. search needs)
-    (λ c. search needs)
-    (λ c. search needs)
-    (λ c κs. search needs)
-    (λ c. search needs)
-    (λ c. search needs)
-    (λ c κs. search needs)
-    (λ c. search needs)
-    (λ c. search needs)
-    (λ c κs. search needs)
-    (λ c. search needs)
-    (λ c. search needs)
-    (λ c κs. search needs)
-    (λ c. search needs)
-    (λ c. search needs)
-    (λ c κs. search needs)
-    (λ c. search needs)
-    (λ c. search needs)
-    (λ c κs. search needs)
-    (λ c. search needs)
-    (λ c. search needs)
-    (λ c κs. search needs)
-    (λ c. search needs)
-    (λ c. search needs)
-    (λ c κs. search needs)
-    (λ c. search needs)
-    (λ c. search needs)
-    (λ c κs. search needs)
-    (λ c. search needs)
-    (λ c. search needs)
-    (λ c κs. search needs)
-    (λ c. search needs)
-    (λ c. search needs)
-    (λ c κs. search needs)
-    (λ c. search needs)
-    (λ c. search needs)
-    (λ c κs. search needs)
-    (λ c. search needs)
-    (λ c. search needs)
-    (λ c κs. search needs)
-    (λ c. search needs)
-    (λ c. search needs)
-    (λ c κs. search needs)
-    (λ c. search needs)
-    (λ c. search needs)
-    (λ c κs. search needs)
-    (λ c. search needs)
-    (λ c. search needs)
-    (λ c κs. search needs)
-    (λ c. search needs)
-    (λ c. search needs)
-    (λ c κs. search needs)
-    (λ c. search needs)
-    (λ c. search needs)
-    (λ c κs. search needs)
-    (λ c. op-arm (c .before .before .enum-told .given .1) (c .named .ensures))
-    (λ c. op-arm (c .before .before .enum-told2 .given .1) (c .named2 .ensures))
-    (λ c. op-arm (c .before .before .enum-told3 .given .1) (c .named3 .ensures))
-    (λ c. op-arm (c .before .before .enum-told4 .given .1) (c .named4 .ensures))
-    (λ c. op-arm (c .before .before .enum-told5 .given .1) (c .named5 .ensures))
-    (λ c. op-arm (c .before .before .enum-told6 .given .1) (c .named6 .ensures))
-    (λ c. op-arm (c .before .before .enum-told7 .given .1) (c .named7 .ensures))
-    (λ c. op-arm (c .before .before .enum-told8 .given .1) (c .named8 .ensures))
-    (λ c. op-arm (c .before .before .enum-told9 .given .1) (c .named9 .ensures))
-    (λ c. op-arm (c .before .before .enum-told10 .given .1) (c .named10 .ensures))
-    (λ c. op-arm (c .before .before .enum-told11 .given .1) (c .named11 .ensures))
-    (λ c. op-arm (c .before .before .enum-told12 .given .1) (c .named12 .ensures))
-    (λ c. op-arm (c .before .before .enum-told13 .given .1) (c .named13 .ensures))
-    (λ c. op-arm (c .before .before .enum-told14 .given .1) (c .named14 .ensures))
-    (λ c. op-arm (c .before .before .enum-told15 .given .1) (c .named15 .ensures))
-    (λ c. op-arm (c .before .before .enum-told16 .given .1) (c .named16 .ensures))
-    (λ c. op-arm (c .before .before .enum-told17 .given .1) (c .named17 .ensures))
-    (λ c. op-arm (c .before .before .enum-told18 .given .1) (c .named18 .ensures))
-    (λ c. op-arm (c .before .before .enum-told19 .given .1) (c .named19 .ensures))
-    (λ c. op-arm (c .before .before .enum-told20 .given .1) (c .named20 .ensures))
-    (λ c. op-arm (c .before .before .enum-told21 .given .1) (c .named21 .ensures))
-    (λ c. op-arm (c .before .before .enum-told22 .given .1) (c .named22 .ensures)))
+op-name-spec = tie.close (tie.spec (λ c κs. search needs) name-at-requires returns)

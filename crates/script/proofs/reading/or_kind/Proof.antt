@@ -5,6 +5,7 @@ use mathlib.Core.List.{List}
 use Prim.Native.Nat.{ℕ}
 use borrow.Author.Needs.{needs}
 use Rattle.text.specs.Starts.{sameOf}
+use Rattle.script.proofs.LineLaws.{name-spells, name-fits}
 use Rattle.script.proofs.reading.or_kind.Statement.{statement}
 use Rattle.script.proofs.reading.or_kind.Tie as tie
 
@@ -12,10 +13,13 @@ by-name : {A : Type 0} (t n m : List ℕ) (a b : A) (q : Bool) → n ≡ m → q
 by-name t n m a b q e s = ap (λ (x : Bool). cond x a b) (s ∙ ap (sameOf t) e)
 
 returns : tie.Need-returns
-returns c = by-name _ _ _ _ _ true (c .before .before .kind-name .ensures .spelled) (sym (c .if1 .taken) ∙ c .before .is-name .ensures)
+returns c = by-name _ _ _ _ _ true (name-spells _ (c .before .before .kind-name .ensures)) (sym (c .if1 .taken) ∙ c .before .is-name .ensures)
 
 returns-2 : tie.Need-returns-2
-returns-2 c = by-name _ _ _ _ _ false (c .before .before .kind-name .ensures .spelled) (sym (c .if1 .left) ∙ c .before .is-name .ensures)
+returns-2 c = by-name _ _ _ _ _ false (name-spells _ (c .before .before .kind-name .ensures)) (sym (c .if1 .left) ∙ c .before .is-name .ensures)
+
+is-name-requires : tie.Need-is-name-requires
+is-name-requires c κs = name-fits _ (c .kind-name .ensures)
 
 pub or-kind-spec : {M : Type 1} → statement M
-or-kind-spec = tie.close (tie.spec (λ c κs. search needs) (λ c κs. search needs) returns returns-2)
+or-kind-spec = tie.close (tie.spec (λ c κs. search needs) is-name-requires returns returns-2)

@@ -9,20 +9,20 @@ use Rattle.text.specs.Starts.{startsOf}
 use Rattle.script.specs.declared.Field.{Field}
 use Rattle.script.specs.declared.Name.{Name}
 use Rattle.script.specs.declared.Start.{Start}
-use Rattle.script.specs.Grammar.{Spells, spelledOf, nameOf}
+use Rattle.script.specs.Grammar.{spelledOf, spelling, nameOf}
 use Rattle.script.specs.Reading.{startOf}
-use Rattle.script.proofs.LineLaws.{length-spelled}
+use Rattle.script.proofs.LineLaws.{name-spells, name-length, name-fits}
 use Rattle.script.proofs.reading.value_start.Statement.{statement}
 use Rattle.script.proofs.reading.value_start.Tie as tie
 
-module _ (f : Field) (line : List ℕ) (n : Name) (s : Spells n (nameOf f)) where
+module _ (f : Field) (line : List ℕ) (n : Name) (s : n ≡ spelling (nameOf f)) where
   found : true ≡ startsOf line (spelledOf n) → Start.At (n .len) ≡ startOf f line
   unfolding startOf
-  found e = ap Start.At (length-spelled s) ∙ ap (λ (b : Bool). cond b (Start.At (length (nameOf f))) Start.Nowhere) (e ∙ ap (startsOf line) (s .spelled))
+  found e = ap Start.At (name-length (nameOf f) s) ∙ ap (λ (b : Bool). cond b (Start.At (length (nameOf f))) Start.Nowhere) (e ∙ ap (startsOf line) (name-spells (nameOf f) s))
 
   missing : false ≡ startsOf line (spelledOf n) → Start.Nowhere ≡ startOf f line
   unfolding startOf
-  missing e = ap (λ (b : Bool). cond b (Start.At (length (nameOf f))) Start.Nowhere) (e ∙ ap (startsOf line) (s .spelled))
+  missing e = ap (λ (b : Bool). cond b (Start.At (length (nameOf f))) Start.Nowhere) (e ∙ ap (startsOf line) (name-spells (nameOf f) s))
 
 returns : tie.Need-returns
 returns c = found _ _ _ (c .before .before .field-name .ensures) (sym (c .if1 .taken) ∙ c .before .begins .ensures)
@@ -30,5 +30,8 @@ returns c = found _ _ _ (c .before .before .field-name .ensures) (sym (c .if1 .t
 returns-2 : tie.Need-returns-2
 returns-2 c = missing _ _ _ (c .before .before .field-name .ensures) (sym (c .if1 .left) ∙ c .before .begins .ensures)
 
+begins-requires : tie.Need-begins-requires
+begins-requires c κs = name-fits _ (c .field-name .ensures)
+
 pub value-start-spec : {M : Type 1} → statement M
-value-start-spec = tie.close (tie.spec (λ c κs. search needs) (λ c κs. search needs) returns returns-2)
+value-start-spec = tie.close (tie.spec (λ c κs. search needs) begins-requires returns returns-2)
