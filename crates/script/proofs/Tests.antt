@@ -1,6 +1,7 @@
 -- Closed examples: what the definitions say of a few lines.
 use mathlib.Core.Path.{_≡_, refl}
-use mathlib.Core.List.{[]}
+use mathlib.Core.List.{[], _++_}
+use lib.ListN.{replicate}
 use Rattle.text.specs.declared.Parsed.{Parsed}
 use Rattle.text.specs.Number.{decimalOf, numberFrom}
 use Rattle.text.specs.Signed.{signedOf, minusOf}
@@ -13,9 +14,9 @@ use Rattle.script.specs.declared.Progress.{Progress}
 use Rattle.script.specs.declared.ReadOp.{ReadOp}
 use Rattle.script.specs.declared.ReadValue.{ReadValue}
 use Rattle.script.specs.Bytes.{bytes}
-use Rattle.script.specs.Grammar.{opName}
+use Rattle.script.specs.Grammar.{opName, spelling}
 use Rattle.script.specs.Reading.{numberOf, opNamed, valueOf, freshOf, movedOf, heldLine, lineOf}
-use Rattle.script.specs.Lines.{lineFront, hasEnd, State, afterOf}
+use Rattle.script.specs.Lines.{lineFront, hasEnd, emptyLine, grownLine, State, afterOf, lineAfter, callAfter}
 
 -- every op is known by its name
 op-open : opNamed (opName Op.Open) ≡ ReadOp.Op Op.Open
@@ -139,3 +140,26 @@ start = record { held = bytes "op=ru"; call = freshOf Op.Nothing; newlines = 4 }
 second-half : afterOf start (bytes "ns\ntank=1") ≡ record { held = []; call = freshOf Op.Runs; newlines = 5 }
 unfolding start afterOf lineFront hasEnd lineOf heldLine opNamed sameOf startsOf
 second-half = refl
+
+-- the places behind a name are zeros
+short-name : spelling (bytes "op=") ≡ record { text = bytes "op=" ++ replicate 13 0; len = 3 }
+unfolding spelling
+short-name = refl
+
+-- a line keeps what stands in front of a newline, and the next starts empty
+grown-line : grownLine emptyLine (bytes "tank=1\n") ≡ record { text = bytes "tank=1" ++ replicate 59 0; count = 6 }
+unfolding grownLine lineFront
+grown-line = refl
+
+open-line : lineAfter emptyLine (bytes "tank=1") ≡ grownLine emptyLine (bytes "tank=1\n")
+unfolding lineAfter hasEnd grownLine lineFront
+open-line = refl
+
+next-line : lineAfter (grownLine emptyLine (bytes "tank=")) (bytes "1\n") ≡ emptyLine
+unfolding lineAfter hasEnd
+next-line = refl
+
+-- the call that a line's end leaves
+named-call : callAfter start (bytes "ns\ntank=1") ≡ freshOf Op.Runs
+unfolding start callAfter lineFront hasEnd lineOf heldLine opNamed sameOf startsOf
+named-call = refl
