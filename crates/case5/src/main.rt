@@ -23,5 +23,7 @@ fn main() {
     let t = a.tanks;
     let c = t.annotate(0, 15, 25, mark(2, 3, 1));
     let u = c.tanks;
-    clerk::show(u, 0);
+    let mut out = io::large_buffer();
+    let k = clerk::whole(u, 0, 1536, &mut out, 0);
+    script::emit(&out, k);
 }

@@ -1,53 +1,71 @@
 // Calls that change the state: each is made with the numbers that were read, and answered.
+ghost use mathlib.Core.Path.{_≡_};
 ghost use Prim.Native.Nat.{_≤_};
 ghost use lib.ListN.{length};
+ghost use Rattle.script.specs.declared.Op as ops;
 ghost use Rattle.tanks.specs.Pool.{Sound};
+ghost use Rattle.clerk.specs.Calls.{Performs, settingsOf};
 use super::Done;
-use super::answers::accept;
-use super::answers::refuse;
-use super::answers::say;
-use super::answers::set_or;
+use answers::accept;
+use answers::first_or;
+use answers::set_or;
 use script::Call;
-use script::Op;
 use tanks::Setting;
 use tanks::Tanks;
 
-fn pair(n: [u64; 16], i: usize) -> Setting
-    requires { ⌜ i ≤ 14 ⌝ }
+fn settings(call: Call) -> [Setting; 8]
+    ensures { λ r. ⌜ r ≡ settingsOf call ⌝ }
 {
-    Setting {
-        share: n[i],
-        limit: n[i + 1],
-    }
+    let n = call.numbers;
+    let a = Setting {
+        share: n[0],
+        limit: n[1],
+    };
+    let b = Setting {
+        share: n[2],
+        limit: n[3],
+    };
+    let c = Setting {
+        share: n[4],
+        limit: n[5],
+    };
+    let d = Setting {
+        share: n[6],
+        limit: n[7],
+    };
+    let e = Setting {
+        share: n[8],
+        limit: n[9],
+    };
+    let f = Setting {
+        share: n[10],
+        limit: n[11],
+    };
+    let g = Setting {
+        share: n[12],
+        limit: n[13],
+    };
+    let h = Setting {
+        share: n[14],
+        limit: n[15],
+    };
+    [a, b, c, d, e, f, g, h]
 }
 
-fn settings(n: [u64; 16]) -> [Setting; 8] {
-    [
-        pair(n, 0),
-        pair(n, 2),
-        pair(n, 4),
-        pair(n, 6),
-        pair(n, 8),
-        pair(n, 10),
-        pair(n, 12),
-        pair(n, 14),
-    ]
-}
-
-fn opened(n: [u64; 16], out: &mut [u8], at: usize) -> Done
+pub fn opened(s: Tanks, call: Call, out: &mut [u8], at: usize) -> Done
     requires { ⌜ 512 ≤ length (now out) ⌝ }
-    ensures { λ r. ⌜ Sound (r .tanks) ⌝ }
+    ensures { λ r. ⌜ Performs ops.Op.Open s call (now (out .entry)) at r (now (out .exit)) ⌝ }
 {
-    let o = tanks::open(settings(n));
+    let o = tanks::open(settings(call));
     let t = o.tanks;
     let k = accept(out, at, o.number);
     Done { tanks: t, at: k }
 }
 
-fn annotated(s: Tanks, call: Call, out: &mut [u8], at: usize) -> Done
+pub fn annotated(s: Tanks, call: Call, out: &mut [u8], at: usize) -> Done
     requires { ⌜ Sound s ⌝ }
     requires { ⌜ 512 ≤ length (now out) ⌝ }
-    ensures { λ r. ⌜ Sound (r .tanks) ⌝ }
+    ensures { λ r. ⌜ Performs ops.Op.Annotate s call (now (out .entry)) at r (now (out .exit)) ⌝ }
 {
     let n = call.numbers;
     let e = s.annotate(n[0], n[1], n[2], script::mark_of(call));
@@ -56,22 +74,12 @@ fn annotated(s: Tanks, call: Call, out: &mut [u8], at: usize) -> Done
     Done { tanks: t, at: k }
 }
 
-fn deleted(s: Tanks, n: [u64; 16], out: &mut [u8], at: usize) -> Done
+pub fn inserted(s: Tanks, call: Call, out: &mut [u8], at: usize) -> Done
     requires { ⌜ Sound s ⌝ }
     requires { ⌜ 512 ≤ length (now out) ⌝ }
-    ensures { λ r. ⌜ Sound (r .tanks) ⌝ }
+    ensures { λ r. ⌜ Performs ops.Op.Insert s call (now (out .entry)) at r (now (out .exit)) ⌝ }
 {
-    let e = s.delete(n[0], n[1], n[2]);
-    let t = e.tanks;
-    let k = accept(out, at, e.number);
-    Done { tanks: t, at: k }
-}
-
-fn inserted(s: Tanks, n: [u64; 16], out: &mut [u8], at: usize) -> Done
-    requires { ⌜ Sound s ⌝ }
-    requires { ⌜ 512 ≤ length (now out) ⌝ }
-    ensures { λ r. ⌜ Sound (r .tanks) ⌝ }
-{
+    let n = call.numbers;
     let e = s.insert(n[0], n[1], n[2]);
     let t = e.tanks;
     let m = e.styles;
@@ -79,41 +87,26 @@ fn inserted(s: Tanks, n: [u64; 16], out: &mut [u8], at: usize) -> Done
     Done { tanks: t, at: k }
 }
 
-fn first_or(out: &mut [u8], at: usize, number: u64, first: u64) -> usize
-    requires { ⌜ 512 ≤ length (now out) ⌝ }
-{
-    if number == 0 {
-        return say(out, at, b"first=", first);
-    }
-    refuse(out, at, number)
-}
-
-fn removed(s: Tanks, call: Call, out: &mut [u8], at: usize) -> Done
+pub fn deleted(s: Tanks, call: Call, out: &mut [u8], at: usize) -> Done
     requires { ⌜ Sound s ⌝ }
     requires { ⌜ 512 ≤ length (now out) ⌝ }
-    ensures { λ r. ⌜ Sound (r .tanks) ⌝ }
+    ensures { λ r. ⌜ Performs ops.Op.Delete s call (now (out .entry)) at r (now (out .exit)) ⌝ }
+{
+    let n = call.numbers;
+    let e = s.delete(n[0], n[1], n[2]);
+    let t = e.tanks;
+    let k = accept(out, at, e.number);
+    Done { tanks: t, at: k }
+}
+
+pub fn removed(s: Tanks, call: Call, out: &mut [u8], at: usize) -> Done
+    requires { ⌜ Sound s ⌝ }
+    requires { ⌜ 512 ≤ length (now out) ⌝ }
+    ensures { λ r. ⌜ Performs ops.Op.Remove s call (now (out .entry)) at r (now (out .exit)) ⌝ }
 {
     let n = call.numbers;
     let e = s.remove_style_scanning_backward(n[0], script::identity_of(call), n[4]);
     let t = e.tanks;
     let k = first_or(out, at, e.number, e.first);
     Done { tanks: t, at: k }
-}
-
-// A call that changes the state, and its answer.
-pub fn change(s: Tanks, call: Call, out: &mut [u8], at: usize) -> Done
-    requires { ⌜ Sound s ⌝ }
-    requires { ⌜ 512 ≤ length (now out) ⌝ }
-    ensures { λ r. ⌜ Sound (r .tanks) ⌝ }
-{
-    let op = call.op;
-    let n = call.numbers;
-    match op {
-        Op::Open => opened(n, out, at),
-        Op::Annotate => annotated(s, call, out, at),
-        Op::Insert => inserted(s, n, out, at),
-        Op::Delete => deleted(s, n, out, at),
-        Op::Remove => removed(s, call, out, at),
-        _ => Done { tanks: s, at: at },
-    }
 }

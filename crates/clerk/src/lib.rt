@@ -2,15 +2,23 @@
 mod edits; // edits.rt: calls that change the state
 mod asking; // asking.rt: calls that ask
 mod listing; // listing.rt: stretches and anchors
-mod answers; // answers.rt: sets, refusals and the rest as lines
 
+ghost use mathlib.Core.Bool.{false};
+ghost use mathlib.Core.Path.{_≡_};
 ghost use Prim.Native.Nat.{_≤_};
 ghost use lib.ListN.{length};
+ghost use Rattle.script.specs.Lines.{stateOf};
 ghost use Rattle.tanks.specs.Pool.{Sound};
-use asking::asked;
-use edits::change;
-use listing::list;
-use listing::whole;
+ghost use Rattle.answers.specs.Waiting.{Adds};
+ghost use Rattle.clerk.specs.Calls.{Performs};
+ghost use Rattle.clerk.specs.Session.{malformedSays, Eats, Closes, Reads};
+use answers::say;
+use edits::annotated;
+use edits::deleted;
+use edits::inserted;
+use edits::opened;
+use edits::removed;
+pub use listing::whole;
 use script::Call;
 use script::Ending;
 use script::Event;
@@ -38,62 +46,85 @@ struct Eaten {
     stand: Stand,
 }
 
-// What a call asks for.
-enum Kind {
-    Edit,
-    Question,
-    List,
+// A stand from which nothing waits.
+fn fresh(reader: Reader) -> Stand
+    ensures { λ r. ⌜ r .over ≡ false ⌝ }
+{
+    Stand {
+        reader: reader,
+        at: 0,
+        over: false,
+    }
 }
 
-fn kind_of(op: Op) -> Kind {
-    match op {
-        Op::Open => Kind::Edit,
-        Op::Annotate => Kind::Edit,
-        Op::Insert => Kind::Edit,
-        Op::Delete => Kind::Edit,
-        Op::Remove => Kind::Edit,
-        Op::Stretches => Kind::List,
-        Op::StretchesNeeded => Kind::List,
-        Op::Whole => Kind::List,
-        Op::WholeNeeded => Kind::List,
-        Op::Anchors => Kind::List,
-        _ => Kind::Question,
+fn standing(tanks: Tanks, reader: Reader, at: usize, over: bool) -> Eaten
+    ensures { λ r. ⌜ (r .tanks ≡ tanks) × (r .stand ≡ record { reader = reader; at = at; over = over }) ⌝ }
+{
+    let stand = Stand {
+        reader: reader,
+        at: at,
+        over: over,
+    };
+    Eaten {
+        tanks: tanks,
+        stand: stand,
     }
+}
+
+// The state as it was: a question changes nothing.
+fn kept(s: Tanks, at: usize) -> Done
+    ensures { λ r. ⌜ (r .tanks ≡ s) × (r .at ≡ at) ⌝ }
+{
+    Done { tanks: s, at: at }
 }
 
 // One call: the state after it, and its answer in the output.
 fn perform(s: Tanks, call: Call, out: &mut [u8], at: usize) -> Done
     requires { ⌜ Sound s ⌝ }
     requires { ⌜ 512 ≤ length (now out) ⌝ }
-    ensures { λ r. ⌜ Sound (r .tanks) ⌝ }
+    ensures { λ r. ⌜ Performs (call .op) s call (now (out .entry)) at r (now (out .exit)) ⌝ }
 {
     let op = call.op;
-    match kind_of(op) {
-        Kind::Edit => change(s, call, out, at),
-        Kind::Question => Done {
-            tanks: s,
-            at: asked(s, call, out, at),
-        },
-        Kind::List => Done {
-            tanks: s,
-            at: list(s, call, out, at),
-        },
+    let n = call.numbers;
+    match op {
+        Op::Nothing => kept(s, at),
+        Op::Open => opened(s, call, out, at),
+        Op::Annotate => annotated(s, call, out, at),
+        Op::Insert => inserted(s, call, out, at),
+        Op::Delete => deleted(s, call, out, at),
+        Op::Remove => removed(s, call, out, at),
+        Op::Length => kept(s, asking::length(s, call, out, at)),
+        Op::Touched => kept(s, asking::touched(s, call, out, at)),
+        Op::Runs => kept(s, asking::runs(s, call, out, at)),
+        Op::Value => kept(s, asking::value(s, call, out, at)),
+        Op::HasKey => kept(s, asking::has_key(s, call, out, at)),
+        Op::AllValue => kept(s, asking::all_value(s, call, out, at)),
+        Op::Same => kept(s, asking::same(s, call, out, at)),
+        Op::Marks => kept(s, asking::marks(s, call, out, at)),
+        Op::Inherit => kept(s, asking::inherit(s, call, out, at)),
+        Op::Mark => kept(s, asking::mark(s, call, out, at)),
+        Op::Inherited => kept(s, asking::inherited(s, call, out, at)),
+        Op::Stretches => kept(s, listing::stretches(s, call, out, at)),
+        Op::StretchesNeeded => kept(s, listing::stretches_needed(s, call, out, at)),
+        Op::Whole => kept(s, whole(s, n[0], n[1], out, at)),
+        Op::WholeNeeded => kept(s, listing::whole_needed(s, call, out, at)),
+        Op::Anchors => kept(s, listing::anchors(s, call, out, at)),
     }
 }
 
 // The number of the line at which the run ends.
 fn put_bad(out: &mut [u8], at: usize, r: Reader) -> usize
     requires { ⌜ 512 ≤ length (now out) ⌝ }
+    ensures { λ k. ⌜ Adds (now (out .entry)) at (malformedSays (stateOf r)) k (now (out .exit)) ⌝ }
 {
-    let free = script::flushed(out, at, 64);
-    script::put_field(out, free, b"malformed=", script::line_number(r))
+    say(out, at, b"malformed=", script::line_number(r))
 }
 
 // The bytes of one read, a line to a turn. The tanks go through a call once a group, and never once a line.
 fn eat(bytes: &[u8], s: Tanks, stand: Stand, out: &mut [u8]) -> Eaten
-    requires { ⌜ Sound s ⌝ }
+    requires { ⌜ (Sound s) × (stand .over ≡ false) ⌝ }
     requires { ⌜ 512 ≤ length (now out) ⌝ }
-    ensures { λ r. ⌜ Sound (r .tanks) ⌝ }
+    ensures { λ r. ⌜ Eats s stand (now (out .entry)) (now (bytes .entry)) r (now (out .exit)) ⌝ }
 {
     let mut tanks = s;
     let mut reader = stand.reader;
@@ -108,15 +139,7 @@ fn eat(bytes: &[u8], s: Tanks, stand: Stand, out: &mut [u8]) -> Eaten
             Event::Nothing => {}
             Event::Bad => {
                 let k = put_bad(out, at, reader);
-                let last = Stand {
-                    reader: reader,
-                    at: k,
-                    over: true,
-                };
-                return Eaten {
-                    tanks: tanks,
-                    stand: last,
-                };
+                return standing(tanks, reader, k, true);
             }
             Event::Call => {
                 let call = f.call;
@@ -127,69 +150,51 @@ fn eat(bytes: &[u8], s: Tanks, stand: Stand, out: &mut [u8]) -> Eaten
             }
         }
     }
-    let last = Stand {
-        reader: reader,
-        at: at,
-        over: false,
-    };
-    Eaten {
-        tanks: tanks,
-        stand: last,
-    }
+    standing(tanks, reader, at, false)
 }
 
 // The end of the input: in the middle of a line or a group it is a bad line.
-fn closed(stand: Stand, out: &mut [u8]) -> Stand
+fn closed(s: Tanks, stand: Stand, out: &mut [u8]) -> Eaten
+    requires { ⌜ Sound s ⌝ }
     requires { ⌜ 512 ≤ length (now out) ⌝ }
+    ensures { λ r. ⌜ Closes s stand (now (out .entry)) r (now (out .exit)) ⌝ }
 {
     let r = stand.reader;
     let e = script::ended(r);
     match e {
-        Ending::Clean => Stand {
-            reader: r,
-            at: stand.at,
-            over: true,
-        },
+        Ending::Clean => standing(s, r, stand.at, true),
         Ending::Cut => {
             let k = put_bad(out, stand.at, r);
-            Stand {
-                reader: r,
-                at: k,
-                over: true,
-            }
+            standing(s, r, k, true)
         }
     }
 }
 
 // One read from standard input.
 fn turn(s: Tanks, stand: Stand, out: &mut [u8]) -> Eaten
-    requires { ⌜ Sound s ⌝ }
+    requires { ⌜ (Sound s) × (stand .over ≡ false) ⌝ }
     requires { ⌜ 512 ≤ length (now out) ⌝ }
-    ensures { λ r. ⌜ Sound (r .tanks) ⌝ }
+    ensures { λ r. ⌜ Reads s stand (now (out .entry)) r (now (out .exit)) ⌝ }
 {
     let mut buf = io::large_buffer();
     let got = libc::read(0, &mut buf);
     let n = io::count(got, &buf);
     if n == 0 {
-        let last = closed(stand, out);
-        return Eaten {
-            tanks: s,
-            stand: last,
-        };
+        return closed(s, stand, out);
     }
     eat(&buf[..n], s, stand, out)
 }
 
 // All of the input: the count of turns is one that no run uses up. The answers to what was read are written before more is read.
-fn all(s: Tanks, first: Stand, out: &mut [u8])
+fn all(s: Tanks, first: Reader, out: &mut [u8])
     requires { ⌜ Sound s ⌝ }
     requires { ⌜ 512 ≤ length (now out) ⌝ }
 {
     let mut tanks = s;
-    let mut stand = first;
+    let mut reader = first;
     let mut turns: u64 = 18446744073709551615;
     while turns > 0 {
-        let e = turn(tanks, stand, out);
+        let e = turn(tanks, fresh(reader), out);
         let next = e.tanks;
         tanks = next;
         let after = e.stand;
@@ -197,12 +202,8 @@ fn all(s: Tanks, first: Stand, out: &mut [u8])
         if after.over {
             return;
         }
-        let reader = after.reader;
-        stand = Stand {
-            reader: reader,
-            at: 0,
-            over: false,
-        };
+        let more = after.reader;
+        reader = more;
         turns -= 1;
     }
 }
@@ -213,23 +214,5 @@ pub fn run() {
     let mut out = io::large_buffer();
     let o = tanks::open([Setting { share: 1, limit: 1 }; 8]);
     let s = o.tanks;
-    let r = script::begin();
-    let first = Stand {
-        reader: r,
-        at: 0,
-        over: false,
-    };
-    all(s, first, &mut out);
-}
-
-// Writes the marked stretches of a tank to standard output.
-pub fn show(s: Tanks, tank: u64)
-    requires { ⌜ Sound s ⌝ }
-{
-    let mut out = io::large_buffer();
-    let mut n = [0u64; 16];
-    n[0] = tank;
-    n[1] = 1536;
-    let k = whole(s, n, &mut out, 0);
-    script::emit(&out, k);
+    all(s, script::begin(), &mut out);
 }

@@ -1,36 +1,37 @@
 // Calls that ask for a list: stretches, the whole tank, anchors, and what they take.
-ghost use Prim.Native.Nat.{_≤_, _<_};
-ghost use lib.ListN.{length};
-ghost use Rattle.tanks.specs.Pool.{Sound};
+ghost use mathlib.Core.Bool.{cond};
+ghost use mathlib.Core.Path.{_≡_};
+ghost use Prim.Native.Nat.{_≤_, _<_, min};
+ghost use lib.ListN.{length, take};
+ghost use Rattle.script.specs.declared.Op as ops;
+ghost use Rattle.script.specs.Args.{numberAt};
 ghost use Rattle.tank.specs.State as state;
-ghost use Rattle.lists.specs.Anchors.{Stands};
-use super::answers::refuse;
-use super::answers::say;
-use lists::Listed;
-use lists::anchors::Anchor;
+ghost use Rattle.tanks.specs.House.{tankAt};
+ghost use Rattle.tanks.specs.Pool.{Sound, meaning};
+ghost use Rattle.lists.specs.Anchors.{Stands, rest};
+ghost use Rattle.answers.specs.Waiting.{Adds};
+ghost use Rattle.answers.specs.Replies.{anchorsSay};
+ghost use Rattle.clerk.specs.Calls.{saysOf, wholeSays, allAnchorsSay};
+use answers::put_anchor;
+use answers::put_needed;
+use answers::put_stretches;
+use answers::refuse;
+use answers::say;
 use lists::anchors::AnchorCursor;
 use lists::anchors::NextAnchor;
-use richtext::AnchorType;
 use script::Call;
-use script::Op;
 use tank::Tank;
 use tanks::Tanks;
 
-fn wide(n: usize) -> u64 {
+fn wide(n: usize) -> u64
+    ensures { λ r. ⌜ r ≡ n ⌝ }
+{
     n as u64
 }
 
-fn wide16(n: u16) -> u64 {
-    n as u64
-}
-
-fn wide32(n: u32) -> u64 {
-    n as u64
-}
-
-// As many places as were named, and no more than there are.
+// As many places as were named, and no more than there are: no list takes more than 1,515.
 fn places(room: u64) -> usize
-    ensures { λ r. ⌜ r ≤ 1536 ⌝ }
+    ensures { λ r. ⌜ r ≡ min room 1536 ⌝ }
 {
     if room < 1536 {
         return room as usize;
@@ -38,106 +39,96 @@ fn places(room: u64) -> usize
     1536
 }
 
-// The stretches that stand at the front of a buffer.
-fn put_stretches(out: &mut [u8], at: usize, tank: u64, list: &[u64], count: usize) -> usize
-    requires { ⌜ 512 ≤ length (now out) ⌝ }
+// The stretches over a range, in a lent part as long as the call has room.
+fn range_in(s: Tanks, call: Call, part: &mut [u64], out: &mut [u8], at: usize) -> usize
+    requires { ⌜ Sound s ⌝ }
+    requires { ⌜ (length (now part) ≡ min (numberAt call 3) 1536) × (512 ≤ length (now out)) ⌝ }
+    ensures { λ r. ⌜ Adds (now (out .entry)) at (saysOf ops.Op.Stretches (meaning s) call) r (now (out .exit)) ⌝ }
 {
-    let mut k = say(out, at, b"tank=", tank);
-    let mut i = 0;
-    while i < count {
-        if list.len() < 3 {
-            return k;
-        }
-        if list.len() - 3 < i {
-            return k;
-        }
-        k = say(out, k, b"from=", list[i]);
-        k = say(out, k, b"to=", list[i + 1]);
-        k = say(out, k, b"marks=", list[i + 2]);
-        i += 3;
-    }
-    k
-}
-
-fn put_list(out: &mut [u8], at: usize, tank: u64, list: &[u64], l: Listed) -> usize
-    requires { ⌜ 512 ≤ length (now out) ⌝ }
-{
+    let n = call.numbers;
+    let l = ask::list_range(s, n[0], n[1], n[2], part);
     if l.number == 0 {
-        return put_stretches(out, at, tank, list, l.count);
+        let count = l.count;
+        return put_stretches(out, at, n[0], &part[..count]);
     }
     refuse(out, at, l.number)
 }
 
-fn put_needed(out: &mut [u8], at: usize, l: Listed) -> usize
-    requires { ⌜ 512 ≤ length (now out) ⌝ }
-{
-    if l.number == 0 {
-        return say(out, at, b"needed=", wide(l.count));
-    }
-    refuse(out, at, l.number)
-}
-
-// The stretches over a range, in as much of a buffer as the call named.
-fn range_in(s: Tanks, n: [u64; 16], buf: &mut [u64], out: &mut [u8], at: usize) -> usize
+fn range_of(s: Tanks, call: Call, buf: &mut [u64], out: &mut [u8], at: usize) -> usize
     requires { ⌜ Sound s ⌝ }
     requires { ⌜ (1536 ≤ length (now buf)) × (512 ≤ length (now out)) ⌝ }
+    ensures { λ r. ⌜ Adds (now (out .entry)) at (saysOf ops.Op.Stretches (meaning s) call) r (now (out .exit)) ⌝ }
 {
+    let n = call.numbers;
     let k = places(n[3]);
-    let l = ask::list_range(s, n[0], n[1], n[2], &mut buf[..k]);
-    put_list(out, at, n[0], buf, l)
+    range_in(s, call, &mut buf[..k], out, at)
 }
 
-fn range(s: Tanks, n: [u64; 16], out: &mut [u8], at: usize) -> usize
+pub fn stretches(s: Tanks, call: Call, out: &mut [u8], at: usize) -> usize
     requires { ⌜ Sound s ⌝ }
     requires { ⌜ 512 ≤ length (now out) ⌝ }
+    ensures { λ r. ⌜ Adds (now (out .entry)) at (saysOf ops.Op.Stretches (meaning s) call) r (now (out .exit)) ⌝ }
 {
     let mut buf = [0u64; 1536];
-    range_in(s, n, &mut buf, out, at)
+    range_of(s, call, &mut buf, out, at)
+}
+
+pub fn stretches_needed(s: Tanks, call: Call, out: &mut [u8], at: usize) -> usize
+    requires { ⌜ Sound s ⌝ }
+    requires { ⌜ 512 ≤ length (now out) ⌝ }
+    ensures { λ r. ⌜ Adds (now (out .entry)) at (saysOf ops.Op.StretchesNeeded (meaning s) call) r (now (out .exit)) ⌝ }
+{
+    let n = call.numbers;
+    put_needed(out, at, ask::stretches_needed(s, n[0], n[1], n[2]))
 }
 
 // The marked stretches of a tank, likewise.
-fn whole_in(s: Tanks, n: [u64; 16], buf: &mut [u64], out: &mut [u8], at: usize) -> usize
+fn whole_in(s: Tanks, tank: u64, room: u64, part: &mut [u64], out: &mut [u8], at: usize) -> usize
+    requires { ⌜ Sound s ⌝ }
+    requires { ⌜ (length (now part) ≡ min room 1536) × (512 ≤ length (now out)) ⌝ }
+    ensures { λ r. ⌜ Adds (now (out .entry)) at (wholeSays (meaning s) tank room) r (now (out .exit)) ⌝ }
+{
+    let l = ask::list_whole(s, tank, part);
+    if l.number == 0 {
+        let count = l.count;
+        return put_stretches(out, at, tank, &part[..count]);
+    }
+    refuse(out, at, l.number)
+}
+
+fn whole_of(s: Tanks, tank: u64, room: u64, buf: &mut [u64], out: &mut [u8], at: usize) -> usize
     requires { ⌜ Sound s ⌝ }
     requires { ⌜ (1536 ≤ length (now buf)) × (512 ≤ length (now out)) ⌝ }
+    ensures { λ r. ⌜ Adds (now (out .entry)) at (wholeSays (meaning s) tank room) r (now (out .exit)) ⌝ }
 {
-    let k = places(n[1]);
-    let l = ask::list_whole(s, n[0], &mut buf[..k]);
-    put_list(out, at, n[0], buf, l)
+    let k = places(room);
+    whole_in(s, tank, room, &mut buf[..k], out, at)
 }
 
-pub fn whole(s: Tanks, n: [u64; 16], out: &mut [u8], at: usize) -> usize
+// The marked stretches of a tank, as they are listed where there is room for so many numbers.
+pub fn whole(s: Tanks, tank: u64, room: u64, out: &mut [u8], at: usize) -> usize
     requires { ⌜ Sound s ⌝ }
     requires { ⌜ 512 ≤ length (now out) ⌝ }
+    ensures { λ r. ⌜ Adds (now (out .entry)) at (wholeSays (meaning s) tank room) r (now (out .exit)) ⌝ }
 {
     let mut buf = [0u64; 1536];
-    whole_in(s, n, &mut buf, out, at)
+    whole_of(s, tank, room, &mut buf, out, at)
 }
 
-fn put_side(out: &mut [u8], at: usize, side: AnchorType) -> usize
+pub fn whole_needed(s: Tanks, call: Call, out: &mut [u8], at: usize) -> usize
+    requires { ⌜ Sound s ⌝ }
     requires { ⌜ 512 ≤ length (now out) ⌝ }
+    ensures { λ r. ⌜ Adds (now (out .entry)) at (saysOf ops.Op.WholeNeeded (meaning s) call) r (now (out .exit)) ⌝ }
 {
-    let free = script::flushed(out, at, 64);
-    match side {
-        AnchorType::Start => script::put_line(out, free, b"side=", b"start"),
-        AnchorType::End => script::put_line(out, free, b"side=", b"end"),
-    }
-}
-
-fn put_anchor(out: &mut [u8], at: usize, a: Anchor) -> usize
-    requires { ⌜ 512 ≤ length (now out) ⌝ }
-{
-    let side = a.side;
-    let b = say(out, at, b"at=", a.at);
-    let c = put_side(out, b, side);
-    let d = say(out, c, b"key=", wide16(a.key));
-    let e = say(out, d, b"lamport=", wide32(a.lamport));
-    say(out, e, b"peer=", a.peer)
+    let n = call.numbers;
+    put_needed(out, at, ask::whole_needed(s, n[0]))
 }
 
 // The anchors of a tank from a cursor on, as many as are left.
 fn put_anchors(out: &mut [u8], at: usize, t: Tank, from: AnchorCursor, left: usize) -> usize
     requires { ⌜ 512 ≤ length (now out) ⌝ }
     requires { ⌜ (state.Sound t) × Stands t from ⌝ }
+    ensures { λ r. ⌜ Adds (now (out .entry)) at (anchorsSay (take left (rest t from))) r (now (out .exit)) ⌝ }
 {
     let mut k = at;
     let mut c = from;
@@ -155,7 +146,7 @@ fn put_anchors(out: &mut [u8], at: usize, t: Tank, from: AnchorCursor, left: usi
 
 fn narrow(tank: u64) -> usize
     requires { ⌜ tank < 8 ⌝ }
-    ensures { λ r. ⌜ r < 8 ⌝ }
+    ensures { λ r. ⌜ r ≡ tank ⌝ }
 {
     tank as usize
 }
@@ -164,6 +155,7 @@ fn narrow(tank: u64) -> usize
 fn all_anchors(s: Tanks, tank: u64, count: usize, out: &mut [u8], at: usize) -> usize
     requires { ⌜ (Sound s) × (tank < 8) ⌝ }
     requires { ⌜ 512 ≤ length (now out) ⌝ }
+    ensures { λ r. ⌜ Adds (now (out .entry)) at (allAnchorsSay count (tankAt (meaning s) tank)) r (now (out .exit)) ⌝ }
 {
     let t = s.take(narrow(tank));
     let c = lists::anchors::first_anchor(t);
@@ -172,10 +164,12 @@ fn all_anchors(s: Tanks, tank: u64, count: usize, out: &mut [u8], at: usize) -> 
 }
 
 // The anchors, written one by one as the cursor comes to them: the room that the call names is judged, and nothing is lent.
-fn anchors(s: Tanks, n: [u64; 16], out: &mut [u8], at: usize) -> usize
+pub fn anchors(s: Tanks, call: Call, out: &mut [u8], at: usize) -> usize
     requires { ⌜ Sound s ⌝ }
     requires { ⌜ 512 ≤ length (now out) ⌝ }
+    ensures { λ r. ⌜ Adds (now (out .entry)) at (saysOf ops.Op.Anchors (meaning s) call) r (now (out .exit)) ⌝ }
 {
+    let n = call.numbers;
     let tank = n[0];
     let room = n[1];
     if 8 <= tank {
@@ -187,21 +181,4 @@ fn anchors(s: Tanks, n: [u64; 16], out: &mut [u8], at: usize) -> usize
         return refuse(out, at, 11);
     }
     all_anchors(s, tank, count, out, at)
-}
-
-// A call that lists.
-pub fn list(s: Tanks, call: Call, out: &mut [u8], at: usize) -> usize
-    requires { ⌜ Sound s ⌝ }
-    requires { ⌜ 512 ≤ length (now out) ⌝ }
-{
-    let op = call.op;
-    let n = call.numbers;
-    match op {
-        Op::Stretches => range(s, n, out, at),
-        Op::StretchesNeeded => put_needed(out, at, ask::stretches_needed(s, n[0], n[1], n[2])),
-        Op::Whole => whole(s, n, out, at),
-        Op::WholeNeeded => put_needed(out, at, ask::whole_needed(s, n[0])),
-        Op::Anchors => anchors(s, n, out, at),
-        _ => at,
-    }
 }

@@ -1,15 +1,16 @@
 -- Texts that are put one behind the other are one text.
 use mathlib.Core.Path.{_≡_, ap, ap₂, _∙_}
 use mathlib.Core.List.{List, _++_}
-use Prim.Native.Nat.{ℕ, _+_, _≤_}
+use Prim.Native.Nat.{ℕ, _+_, _-_, _≤_, _<_}
 use native.Mathlib.Omega.{arith}
+use borrow.Author.Tests.{le-leb, lt-leb}
 use lib.ListN.{length, length-append}
 use Rattle.text.specs.Number.{put, hexText}
 use Rattle.text.proofs.Laws.{length-hex}
 use Rattle.text.proofs.Putting.{put-put}
 use Rattle.script.specs.declared.Kind.{Kind}
 use Rattle.script.specs.Grammar.{kindName}
-use Rattle.script.specs.Writing.{Puts}
+use Rattle.script.specs.Writing.{Puts, freeAt}
 
 pub puts-then : {d e o s t : List ℕ} {at m n a b : ℕ} → at + m ≤ length d → Puts d at s m a e → Puts e a t n b o → Puts d at (s ++ t) (m + n) b o
 puts-then {d} {e} {o} {s} {t} {at} {m} {n} {a} {b} room x y =
@@ -44,3 +45,10 @@ few-kind Kind.Null = omega arith
 few-kind Kind.Bool = omega arith
 few-kind Kind.Whole = omega arith
 few-kind Kind.Decimal = omega arith
+
+-- a place with room behind it: behind what waits, or at the front
+pub free-behind : (room at : ℕ) (d : List ℕ) → room ≤ length d → at ≤ length d - room → (at ≡ freeAt room at d) × (at + room ≤ length d)
+free-behind room at d h k = (rw (le-leb (at + room) (length d) (omega arith)), omega arith)
+
+pub free-front : (room at : ℕ) (d : List ℕ) → room ≤ length d → length d - room < at → (0 ≡ freeAt room at d) × (0 + room ≤ length d)
+free-front room at d h k = (rw (lt-leb (at + room) (length d) (omega arith)), omega arith)

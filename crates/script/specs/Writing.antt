@@ -3,6 +3,7 @@ use mathlib.Core.Path.{_≡_}
 use mathlib.Core.Bool.{Bool, cond}
 use mathlib.Core.List.{List, [], _++_}
 use Prim.Native.Nat.{ℕ, _+_, _≤_}
+use lib.Dec.{leb}
 use lib.Ieee.{toBits, binary64}
 use lib.ListN.{length}
 use Rattle.text.specs.Number.{decimalText, hexText, put}
@@ -18,6 +19,10 @@ pub record Puts (d : List ℕ) (at : ℕ) (t : List ℕ) (most : ℕ) (r : ℕ) 
   pub place : r ≡ at + length t
   pub few : r ≤ at + most
   pub text : out ≡ put d at t
+
+-- where a text of at most so many bytes goes in a buffer whose front waits to be written out: behind what waits, or, where there is no room, to the front
+abbrev pub freeAt : ℕ → ℕ → List ℕ → ℕ
+freeAt room at d = cond (leb (at + room) (length d)) at 0
 
 -- a name, a word and a newline
 abbrev pub lineText : List ℕ → List ℕ → List ℕ

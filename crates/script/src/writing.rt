@@ -2,7 +2,7 @@
 ghost use mathlib.Core.Path.{_≡_};
 ghost use Prim.Native.Nat.{_+_, _≤_};
 ghost use lib.ListN.{length};
-ghost use Rattle.script.specs.Writing.{Puts, lineText, fieldText, kindOf, valueWord, valueText, markText};
+ghost use Rattle.script.specs.Writing.{Puts, freeAt, lineText, fieldText, kindOf, valueWord, valueText, markText};
 ghost use Rattle.script.specs.Bytes.{bytes};
 ghost use Rattle.script.specs.Grammar.{kindName, spelledOf};
 use super::Kind;
@@ -145,7 +145,7 @@ pub fn emit(out: &[u8], at: usize) {
 // A place with so much room behind it: what waits in front is written out where there is less.
 pub fn flushed(out: &[u8], at: usize, room: usize) -> usize
     requires { ⌜ room ≤ length (now out) ⌝ }
-    ensures { λ r. ⌜ r + room ≤ length (now (out .entry)) ⌝ }
+    ensures { λ r. ⌜ (r ≡ freeAt room at (now (out .entry))) × (r + room ≤ length (now (out .entry))) ⌝ }
 {
     if at <= out.len() - room {
         return at;

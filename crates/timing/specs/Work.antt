@@ -13,8 +13,8 @@ use Rattle.styles.specs.Order.{idOf}
 use Rattle.styles.specs.Values.{sameValue}
 use Rattle.tank.specs.Rules.{Edit, annotating, inserting, deleting, removing}
 use Rattle.tanks.specs.declared.Setting.{Setting}
-use Rattle.tanks.specs.House.{House, tankAt, smallest, opening, afterAt}
-use Rattle.tanks.specs.Contracts.{setAnswer}
+use Rattle.tanks.specs.House.{House, tankAt, smallest, opening, afterAt, setInserted}
+use Rattle.tanks.specs.Contracts.{setBeside}
 use Rattle.questions.specs.declared.Told.{Told}
 use Rattle.questions.specs.declared.Told.the-variants as told
 use Rattle.questions.specs.declared.Shown.{Shown}
@@ -127,7 +127,7 @@ keyTo work runs turn = cond (eqb work 8) (spot runs turn + 6) (runs * 10 - 10)
 -- ---- What a call counts for
 -- an insertion, works 2 and 3: how many marks its answer holds; another edit: the tank's length after it
 abbrev pub counted : ℕ → Edit → House → ℕ
-counted work e h = cond (eqb (work / 2) 1) (length (setAnswer h 0 e)) (tankAt (afterAt h 0 e) 0 .length)
+counted work e h = cond (eqb (work / 2) 1) (length (setBeside (setInserted h 0) e)) (tankAt (afterAt h 0 e) 0 .length)
 
 -- turn k of works 0 to 7
 abbrev pub editScore : ℕ → ℕ → House → ℕ → ℕ

@@ -1,87 +1,42 @@
--- Each turn passes at least one byte: the measure is what is left of them. The tanks stay sound, and the output buffer keeps its length.
-use mathlib.Core.Path.{_≡_}
+-- Each turn passes at least one byte: the measure is what is left of them. What is left leads to the same as all of them did.
 use Prim.Native.Nat.{_-_, _≤_}
-use native.Mathlib.Omega.{arith}
-use lib.ListN.{length}
-use Rattle.tanks.specs.Pool.{Sound}
 use borrow.Author.Needs.{needs}
+use lib.ListN.{length, drop}
+use mathlib.Core.Path.{_≡_, refl, _∙_}
+use native.Mathlib.Omega.{arith}
+use Rattle.clerk.proofs.Bytes.{standing, turn-nothing, turn-call, turn-bad}
+use Rattle.clerk.proofs.Ends.{all-taken, eats-as}
+use Rattle.clerk.specs.Session.{afterBytes}
+use Rattle.tanks.specs.Pool.{Sound}
 use Rattle.clerk.proofs.eat.Statement.{statement}
 use Rattle.clerk.proofs.eat.Tie as tie
-use Rattle.clerk.proofs.eat.Reads as reads
-use Rattle.clerk.proofs.eat.Lts as lts
-use Rattle.script.proofs.feed.Reads as feed-reads
-use Rattle.clerk.proofs.perform.Reads as perform-reads
-use Rattle.clerk.proofs.put_bad.Reads as put-bad-reads
 
 abbrev Inv-loop : tie.InvT-loop
-Inv-loop bytes out₀ tanks₀ reader₀ at₀ from₀ out tanks reader at from = (from ≤ length bytes) × (length out ≡ length out₀) × Sound tanks
+Inv-loop bytes out₀ tanks₀ reader₀ at₀ from₀ out tanks reader at from = (from ≤ length bytes) × (length out ≡ length out₀) × Sound tanks × (afterBytes (standing tanks reader at out) (drop from bytes) ≡ afterBytes (standing tanks₀ reader₀ at₀ out₀) bytes)
 
 abbrev μ-loop : tie.MeasureT-loop
 μ-loop bytes out₀ tanks₀ reader₀ at₀ from₀ out tanks reader at from = length bytes - from
 
 loop-holds : tie.Need-loop-holds Inv-loop μ-loop
-loop-holds c = search needs
-
-feed-requires : tie.Need-feed-requires Inv-loop μ-loop
-feed-requires c κs = search needs
-
-enum-told : tie.Need-enum-told Inv-loop μ-loop
-enum-told c = search needs
+loop-holds c = (search needs, search needs, search needs, refl)
 
 loop-less : tie.Need-loop-less Inv-loop μ-loop
 loop-less c = omega arith
 
 loop-again : tie.Need-loop-again Inv-loop μ-loop
-loop-again c = search needs
-
-enum-told-2 : tie.Need-enum-told-2 Inv-loop μ-loop
-enum-told-2 c = search needs
-
-put-bad-requires : tie.Need-put-bad-requires Inv-loop μ-loop
-put-bad-requires c κs = search needs
-
-same-length : tie.Need-same-length Inv-loop μ-loop
-same-length c = search needs
+loop-again c = let w = c .before .before .before .before .before .loop in (search needs, search needs, search needs, turn-nothing (w .tanks) (w .at) (w .out) (c .before .before .before .before .loop-test .taken) (c .before .before .before .feed .ensures) (c .enum-told .given .1) ∙ w .inv .3)
 
 returns : tie.Need-returns Inv-loop μ-loop
-returns c = search needs
-
-enum-told-3 : tie.Need-enum-told-3 Inv-loop μ-loop
-enum-told-3 c = search needs
-
-perform-requires : tie.Need-perform-requires Inv-loop μ-loop
-perform-requires c κs = search needs
+returns c = let w = c .before .before .before .before .before .before .before .before .before .before .loop in let s = c .before .before .before .before .before .before .before .before .before .before .before .before .before .before in eats-as _ _ _ (s .pre .0 .1) (w .inv .2) (c .standing .ensures) (turn-bad (w .tanks) (w .at) (w .out) (c .before .before .before .before .before .before .before .before .before .loop-test .taken) (c .before .before .before .before .before .before .before .before .feed .ensures) (c .before .before .before .before .before .enum-told2 .given .1) (c .before .before .before .put-bad .ensures) ∙ w .inv .3)
 
 loop-less-2 : tie.Need-loop-less-2 Inv-loop μ-loop
 loop-less-2 c = omega arith
 
 loop-again-2 : tie.Need-loop-again-2 Inv-loop μ-loop
-loop-again-2 c = search needs
-
-same-length-2 : tie.Need-same-length-2 Inv-loop μ-loop
-same-length-2 c = search needs
+loop-again-2 c = let w = c .before .before .before .before .before .before .before .before .before .before .before .loop in (search needs, search needs, c .before .before .before .perform .ensures .sound, turn-call (w .tanks) (w .at) (w .out) (c .before .before .before .before .before .before .before .before .before .before .loop-test .taken) (c .before .before .before .before .before .before .before .before .before .feed .ensures) (c .before .before .before .before .before .before .enum-told3 .given .1) (c .before .before .before .perform .ensures) ∙ w .inv .3)
 
 returns-2 : tie.Need-returns-2 Inv-loop μ-loop
-returns-2 c = search needs
+returns-2 c = let w = c .before .before .loop in let s = c .before .before .before .before .before .before in eats-as _ _ _ (s .pre .0 .1) (w .inv .2) (c .standing2 .ensures) (all-taken (standing (w .tanks) (w .reader) (w .at) (w .out)) (w .from) (s .args .bytes .now) (omega arith) (w .inv .3))
 
 pub eat-spec : {M : Type 1} → statement M
-eat-spec =
-    tie.close
-    (tie.spec
-    Inv-loop
-    μ-loop
-    loop-holds
-    feed-requires
-    enum-told
-    loop-less
-    loop-again
-    enum-told-2
-    put-bad-requires
-    same-length
-    returns
-    enum-told-3
-    perform-requires
-    loop-less-2
-    loop-again-2
-    same-length-2
-    returns-2)
+eat-spec = tie.close (tie.spec Inv-loop μ-loop loop-holds (λ c κs. search needs) (λ c. search needs) loop-less loop-again (λ c. search needs) (λ c κs. search needs) (λ c κs. search needs) (λ c. search needs) returns (λ c. search needs) (λ c κs. search needs) loop-less-2 loop-again-2 (λ c κs. search needs) (λ c. search needs) returns-2)

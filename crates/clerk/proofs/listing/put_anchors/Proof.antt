@@ -1,76 +1,49 @@
--- Each turn puts an anchor; the cursor stands in the tank, and the output buffer keeps its length.
-use mathlib.Core.Path.{_≡_}
-use lib.ListN.{length}
-use Rattle.lists.specs.Anchors.{Stands, Steps}
+-- An anchor to a turn; what is left to say stays the same.
+use Prim.Native.Nat.{_-_}
 use borrow.Author.Needs.{needs}
+use lib.ListN.{length, take}
+use mathlib.Core.Path.{_≡_, refl, _∙_}
+use native.Mathlib.Omega.{arith}
+use Rattle.answers.specs.Replies.{anchorsSay}
+use Rattle.answers.specs.Waiting.{waiting, withAll}
+use Rattle.clerk.proofs.Lists.{anchor-turn, anchor-none, take-none}
+use Rattle.lists.specs.Anchors.{Stands, Steps, rest}
 use Rattle.clerk.proofs.listing.put_anchors.Statement.{statement}
 use Rattle.clerk.proofs.listing.put_anchors.Tie as tie
-use Rattle.clerk.proofs.listing.put_anchors.Reads as reads
-use Rattle.clerk.proofs.listing.put_anchors.Lts as lts
-use Rattle.lists.proofs.anchors.next_anchor.Reads as next-anchor-reads
-use Rattle.clerk.proofs.listing.put_anchor.Reads as put-anchor-reads
 
 abbrev Inv-loop : tie.InvT-loop
-Inv-loop out₀ at t left k₀ c₀ i₀ out k c i = (length out ≡ length out₀) × Stands t c
+Inv-loop out₀ at t left k₀ c₀ i₀ out k c i = (length out ≡ length out₀) × Stands t c × (withAll (waiting out k) (anchorsSay (take i (rest t c))) ≡ withAll (waiting out₀ k₀) (anchorsSay (take i₀ (rest t c₀))))
 
 abbrev μ-loop : tie.MeasureT-loop
 μ-loop out₀ at t left k₀ c₀ i₀ out k c i = i
 
 loop-holds : tie.Need-loop-holds Inv-loop μ-loop
-loop-holds c = search needs
-
-next-anchor-requires : tie.Need-next-anchor-requires Inv-loop μ-loop
-next-anchor-requires c κs = search needs
-
-enum-known-a : tie.Need-enum-known-a Inv-loop μ-loop
-enum-known-a c = search needs
-
-enum-told : tie.Need-enum-told Inv-loop μ-loop
-enum-told c = search needs
-
-same-length : tie.Need-same-length Inv-loop μ-loop
-same-length c = search needs
+loop-holds c = (search needs, search needs, refl)
 
 returns : tie.Need-returns Inv-loop μ-loop
-returns c = search needs
-
-put-anchor-requires : tie.Need-put-anchor-requires Inv-loop μ-loop
-put-anchor-requires c κs = search needs
-
-sub-i : tie.Need-sub-i Inv-loop μ-loop
-sub-i c = search needs
-
-loop-less : tie.Need-loop-less Inv-loop μ-loop
-loop-less c = search needs
+unfolding Steps
+returns c =
+    let w = c .before .before .before .before .loop in
+    let t = c .before .before .before .before .before .before .args .t in
+    let over = rw (c .enum-told .given .1) at (c .before .before .next-anchor .ensures) in
+    anchor-none _ _ _ (take (w .i) (rest t (w .c))) (take-none (w .i) (rest t (w .c)) over) (w .inv .2)
 
 loop-again : tie.Need-loop-again Inv-loop μ-loop
 unfolding Steps
 loop-again c =
     let a = c .before .before .before .before .before in
     let n = a .before .before in
-    (search needs, (rw (a .a .given .1) at (n .next-anchor .ensures)) .1)
-
-same-length-2 : tie.Need-same-length-2 Inv-loop μ-loop
-same-length-2 c = search needs
+    let w = c .before .before .before .before .before .before .before .before .before .loop in
+    let t = c .before .before .before .before .before .before .before .before .before .before .before .args .t in
+    let step = rw (a .a .given .1) at (n .next-anchor .ensures) in
+    (search needs, step .1, anchor-turn (w .i) (rest t (w .c)) _ (c .before .before .before .before .before .before .before .before .loop-test .taken) (step .0) (c .before .before .put-anchor .ensures) ∙ w .inv .2)
 
 returns-2 : tie.Need-returns-2 Inv-loop μ-loop
-returns-2 c = search needs
+returns-2 c =
+    let w = c .before .loop in
+    let t = c .before .before .before .args .t in
+    let zero : w .i ≡ 0 = omega arith in
+    anchor-none _ _ _ (take (w .i) (rest t (w .c))) (rw zero) (w .inv .2)
 
 pub put-anchors-spec : {M : Type 1} → statement M
-put-anchors-spec =
-    tie.close
-    (tie.spec
-    Inv-loop
-    μ-loop
-    loop-holds
-    next-anchor-requires
-    enum-known-a
-    enum-told
-    same-length
-    returns
-    put-anchor-requires
-    sub-i
-    loop-less
-    loop-again
-    same-length-2
-    returns-2)
+put-anchors-spec = tie.close (tie.spec Inv-loop μ-loop loop-holds (λ c κs. search needs) (λ c. search needs) (λ c. search needs) (λ c. search needs) returns (λ c κs. search needs) (λ c. search needs) (λ c. search needs) loop-again (λ c. search needs) returns-2)

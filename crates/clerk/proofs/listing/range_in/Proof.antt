@@ -1,68 +1,46 @@
--- The part that is lent is as long as `places` says.
-use native.Mathlib.Omega.{arith}
-use lib.ListN.{length-take}
+-- The front part is the list; as much room as is lent is as good as what the call names.
+use Prim.Native.Nat.{ℕ}
 use borrow.Author.Needs.{needs}
+use lib.ListN.{length, length-take}
+use mathlib.Core.Path.{ap, _∙_}
+use native.Mathlib.Omega.{arith}
+use Rattle.answers.proofs.Laws.{adds-as}
+use Rattle.ask.proofs.AskLaws.{asked-count}
+use Rattle.clerk.proofs.Lists.{list-said, list-refused, range-room}
+use Rattle.clerk.specs.Calls.{saysOf}
+use Rattle.lists.specs.Lists.{rangeNumber, rangeList}
+use Rattle.script.specs.Args.{numberAt}
+use Rattle.tanks.specs.House.{tankAt}
+use Rattle.tanks.specs.Pool.{meaning}
 use Rattle.clerk.proofs.listing.range_in.Statement.{statement}
 use Rattle.clerk.proofs.listing.range_in.Tie as tie
-use Rattle.clerk.proofs.listing.range_in.Reads as reads
-use Rattle.clerk.proofs.listing.range_in.Lts as lts
-use Rattle.ask.proofs.list_range.Reads as list-range-reads
-use Rattle.clerk.proofs.listing.places.Reads as places-reads
-use Rattle.clerk.proofs.listing.put_list.Reads as put-list-reads
 
-array-read-places : tie.Need-array-read-places
-array-read-places c = search needs
+slice-reshare-prefix-put-stretches : tie.Need-slice-reshare-prefix-put-stretches
+slice-reshare-prefix-put-stretches c =
+    let a = c .before .before .before .before .before .before .before .before .before .before .args in
+    let l = c .before .before .before .before .before .list-range in
+    omega (arith, asked-count (meaning (a .s)) (numberAt (a .call) 0) (λ v. rangeNumber (numberAt (a .call) 1) (numberAt (a .call) 2) (length (a .part .now)) v) (rangeList (numberAt (a .call) 1) (numberAt (a .call) 2)) (a .part .now) _ _ (l .ensures), length-take (l .result .count) (l .last .1 .1 .1 .1 .0))
 
-places-requires : tie.Need-places-requires
-places-requires c κs = search needs
-
-array-read-list-range : tie.Need-array-read-list-range
-array-read-list-range c = search needs
-
-array-read-list-range-2 : tie.Need-array-read-list-range-2
-array-read-list-range-2 c = search needs
-
-array-read-list-range-3 : tie.Need-array-read-list-range-3
-array-read-list-range-3 c = search needs
-
-slice-relend-prefix-list-range : tie.Need-slice-relend-prefix-list-range
-slice-relend-prefix-list-range c = search needs
-
-slice-aggregate-list-range : tie.Need-slice-aggregate-list-range
-slice-aggregate-list-range c = omega (arith, length-take (c .before .places .result) (c .before .before .before .before .args .buf .now))
-
-list-range-requires : tie.Need-list-range-requires
-list-range-requires c κs = search needs
-
-array-read-put-list : tie.Need-array-read-put-list
-array-read-put-list c = search needs
-
-put-list-requires : tie.Need-put-list-requires
-put-list-requires c κs = search needs
-
-same-length : tie.Need-same-length
-same-length c = search needs
-
-same-length-2 : tie.Need-same-length-2
-same-length-2 c = search needs
+slice-aggregate-put-stretches : tie.Need-slice-aggregate-put-stretches
+slice-aggregate-put-stretches c =
+    let a = c .before .before .before .before .before .before .before .before .before .before .before .args in
+    asked-count (meaning (a .s)) (numberAt (a .call) 0) (λ v. rangeNumber (numberAt (a .call) 1) (numberAt (a .call) 2) (length (a .part .now)) v) (rangeList (numberAt (a .call) 1) (numberAt (a .call) 2)) (a .part .now) _ _ (c .before .before .before .before .before .before .list-range .ensures)
 
 returns : tie.Need-returns
-returns c = search needs
+unfolding saysOf
+returns c =
+    let s = c .before .before .before .before .before .before .before .before .before .before .before .before .before .before in
+    let a = s .args in
+    let l = c .before .before .before .before .before .before .before .before .before in
+    adds-as (list-said (meaning (a .s)) (numberAt (a .call) 0) (λ v. rangeNumber (numberAt (a .call) 1) (numberAt (a .call) 2) (length (a .part .now)) v) (rangeNumber (numberAt (a .call) 1) (numberAt (a .call) 2) (numberAt (a .call) 3)) (rangeList (numberAt (a .call) 1) (numberAt (a .call) 2)) (λ k. ap (λ (m : ℕ). rangeNumber (numberAt (a .call) 1) (numberAt (a .call) 2) m (tankAt (meaning (a .s)) (numberAt (a .call) 0))) (s .pre .1 .0) ∙ range-room (a .s) (s .pre .0) (numberAt (a .call) 0) k (numberAt (a .call) 1) (numberAt (a .call) 2) (numberAt (a .call) 3)) (a .part .now) _ _ (l .list-range .ensures) (c .before .before .before .before .before .if1 .taken)) (c .before .before .put-stretches .ensures)
+
+returns-2 : tie.Need-returns-2
+unfolding saysOf
+returns-2 c =
+    let s = c .before .before .before .before .before .before .before .before .before .before .before .before .before in
+    let a = s .args in
+    let l = c .before .before .before .before .before .before .before .before in
+    adds-as (list-refused (meaning (a .s)) (numberAt (a .call) 0) (λ v. rangeNumber (numberAt (a .call) 1) (numberAt (a .call) 2) (length (a .part .now)) v) (rangeNumber (numberAt (a .call) 1) (numberAt (a .call) 2) (numberAt (a .call) 3)) (rangeList (numberAt (a .call) 1) (numberAt (a .call) 2)) (λ k. ap (λ (m : ℕ). rangeNumber (numberAt (a .call) 1) (numberAt (a .call) 2) m (tankAt (meaning (a .s)) (numberAt (a .call) 0))) (s .pre .1 .0) ∙ range-room (a .s) (s .pre .0) (numberAt (a .call) 0) k (numberAt (a .call) 1) (numberAt (a .call) 2) (numberAt (a .call) 3)) (a .part .now) _ _ (l .list-range .ensures) (c .before .before .before .before .if1 .left)) (c .before .before .refuse .ensures)
 
 pub range-in-spec : {M : Type 1} → statement M
-range-in-spec =
-    tie.close
-    (tie.spec
-    array-read-places
-    places-requires
-    array-read-list-range
-    array-read-list-range-2
-    array-read-list-range-3
-    slice-relend-prefix-list-range
-    slice-aggregate-list-range
-    list-range-requires
-    array-read-put-list
-    put-list-requires
-    same-length
-    same-length-2
-    returns)
+range-in-spec = tie.close (tie.spec (λ c. search needs) (λ c. search needs) (λ c. search needs) (λ c κs. search needs) (λ c. search needs) slice-reshare-prefix-put-stretches slice-aggregate-put-stretches (λ c κs. search needs) (λ c. search needs) (λ c. search needs) returns (λ c κs. search needs) (λ c. search needs) (λ c. search needs) returns-2)

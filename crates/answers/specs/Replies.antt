@@ -1,0 +1,126 @@
+-- docs/CONSOLE.md: the lines of each answer, as pieces of text.
+use mathlib.Core.Bool.{Bool, true, false, cond}
+use mathlib.Core.List.{List, [], _∷_, _++_}
+use Prim.Native.Nat.{ℕ, zero, suc, min}
+use lib.Dec.{eqb}
+use lib.ListN.{getD}
+use Rattle.styles.specs.declared.Mark.{Mark}
+use Rattle.styles.specs.declared.Styles.{Styles}
+use Rattle.styles.specs.Marks.{blank}
+use Rattle.richtext.specs.declared.AnchorType.{AnchorType}
+use Rattle.questions.specs.declared.Asked.{Asked}
+use Rattle.questions.specs.declared.SetAsked.{SetAsked}
+use Rattle.questions.specs.declared.Shared.{Shared}
+use Rattle.questions.specs.declared.Shown.{Shown}
+use Rattle.questions.specs.declared.Told.{Told}
+use Rattle.lists.specs.declared.Listed.{Listed}
+use Rattle.lists.specs.declared.anchors.Anchor.{Anchor}
+use Rattle.tanks.specs.declared.Count.{Count}
+use Rattle.tanks.specs.declared.YesNo.{YesNo}
+use Rattle.script.specs.Bytes.{bytes}
+use Rattle.script.specs.Writing.{lineText, fieldText, valueText, markText}
+
+-- pieces of text, each of whole lines
+abbrev pub Pieces : Type 0
+Pieces = List (List ℕ)
+
+-- one line of a name and a number
+abbrev pub field : List ℕ → ℕ → Pieces
+field name n = fieldText name n ∷ []
+
+-- ---- Edits
+-- a refusal
+abbrev pub refusedSays : ℕ → Pieces
+refusedSays = field (bytes "refused=")
+
+-- what an answer says, or a refusal
+abbrev pub orRefused : ℕ → Pieces → Pieces
+orRefused number says = cond (eqb number 0) says (refusedSays number)
+
+-- accepted
+abbrev pub acceptedSays : ℕ → Pieces
+acceptedSays number = orRefused number (field (bytes "accepted=") 1)
+
+-- none of what was asked for
+abbrev pub noneSays : Pieces
+noneSays = field (bytes "none=") 1
+
+-- the marks at the places below n
+unfoldable pub marksSay : List Mark → ℕ → Pieces
+marksSay ms zero = []
+marksSay ms (suc n) = marksSay ms n ++ (markText (getD ms n blank) ∷ [])
+
+-- a set: its count and its marks in order; there are no more than 64
+abbrev pub stylesSay : Styles → Pieces
+stylesSay m = fieldText (bytes "marks=") (m .count) ∷ marksSay (m .marks) (min (m .count) 64)
+
+-- the first position of a removal
+abbrev pub firstSays : ℕ → ℕ → Pieces
+firstSays number first = orRefused number (field (bytes "first=") first)
+
+-- ---- Questions
+-- a count under its name
+abbrev pub countSays : List ℕ → Count → Pieces
+countSays name (Count.Refused n) = refusedSays n
+countSays name (Count.Counts n) = field name n
+
+-- whether a tank is touched
+abbrev pub touchedSays : YesNo → Pieces
+touchedSays (YesNo.Refused n) = refusedSays n
+touchedSays (YesNo.Says b) = field (bytes "touched=") (cond b 1 0)
+
+-- yes or no
+abbrev pub toldSays : Told → Pieces
+toldSays (Told.Refused n) = refusedSays n
+toldSays Told.No = field (bytes "yes=") 0
+toldSays Told.Yes = field (bytes "yes=") 1
+
+-- a value
+abbrev pub shownSays : Shown → Pieces
+shownSays (Shown.Refused n) = refusedSays n
+shownSays Shown.Nothing = noneSays
+shownSays (Shown.Shows v) = valueText v ∷ []
+
+-- a mark
+abbrev pub askedSays : Asked → Pieces
+askedSays (Asked.Refused n) = refusedSays n
+askedSays Asked.Nothing = noneSays
+askedSays (Asked.Found m) = markText m ∷ []
+
+-- a set
+abbrev pub setSays : SetAsked → Pieces
+setSays a = orRefused (a .number) (stylesSay (a .styles))
+
+-- the set that all positions share
+abbrev pub sharedSays : Shared → Pieces
+sharedSays a = orRefused (a .number) (cond (a .agree) (stylesSay (a .styles)) noneSays)
+
+-- ---- Lists
+-- how much a list takes
+abbrev pub neededSays : Listed → Pieces
+neededSays l = orRefused (l .number) (field (bytes "needed=") (l .count))
+
+-- three lines for each stretch: start, end, count of marks
+unfoldable pub stretchesSay : List ℕ → Pieces
+stretchesSay [] = []
+stretchesSay (a ∷ []) = []
+stretchesSay (a ∷ b ∷ []) = []
+stretchesSay (a ∷ b ∷ n ∷ rest) = fieldText (bytes "from=") a ∷ fieldText (bytes "to=") b ∷ fieldText (bytes "marks=") n ∷ stretchesSay rest
+
+-- a tank's stretches
+abbrev pub listSays : ℕ → List ℕ → Pieces
+listSays tank numbers = fieldText (bytes "tank=") tank ∷ stretchesSay numbers
+
+-- the side of an anchor
+abbrev pub sideSays : AnchorType → Pieces
+sideSays AnchorType.Start = lineText (bytes "side=") (bytes "start") ∷ []
+sideSays AnchorType.End = lineText (bytes "side=") (bytes "end") ∷ []
+
+-- the five lines of an anchor
+abbrev pub anchorSays : Anchor → Pieces
+anchorSays a = field (bytes "at=") (a .at) ++ sideSays (a .side) ++ field (bytes "key=") (a .key) ++ field (bytes "lamport=") (a .lamport) ++ field (bytes "peer=") (a .peer)
+
+-- anchors one after another
+unfoldable pub anchorsSay : List Anchor → Pieces
+anchorsSay [] = []
+anchorsSay (a ∷ more) = anchorSays a ++ anchorsSay more

@@ -1,0 +1,78 @@
+// Stretches and anchors.
+ghost use mathlib.Core.Path.{_≡_};
+ghost use Prim.Native.Nat.{_≤_};
+ghost use lib.ListN.{length};
+ghost use Rattle.answers.specs.Waiting.{Adds};
+ghost use Rattle.answers.specs.Replies.{neededSays, listSays, sideSays, anchorSays};
+use super::pieces::refuse;
+use super::pieces::say;
+use super::pieces::say_word;
+use super::sets::wide;
+use lists::Listed;
+use lists::anchors::Anchor;
+use richtext::AnchorType;
+
+// How much a list takes, or a refusal.
+pub fn put_needed(out: &mut [u8], at: usize, l: Listed) -> usize
+    requires { ⌜ 512 ≤ length (now out) ⌝ }
+    ensures { λ r. ⌜ Adds (now (out .entry)) at (neededSays l) r (now (out .exit)) ⌝ }
+{
+    if l.number == 0 {
+        return say(out, at, b"needed=", wide(l.count));
+    }
+    refuse(out, at, l.number)
+}
+
+// A tank's stretches, three numbers each.
+pub fn put_stretches(out: &mut [u8], at: usize, tank: u64, list: &[u64]) -> usize
+    requires { ⌜ 512 ≤ length (now out) ⌝ }
+    ensures { λ r. ⌜ Adds (now (out .entry)) at (listSays tank (now (list .entry))) r (now (out .exit)) ⌝ }
+{
+    let mut k = say(out, at, b"tank=", tank);
+    let mut i = 0;
+    while i < list.len() {
+        if list.len() - i < 3 {
+            return k;
+        }
+        k = say(out, k, b"from=", list[i]);
+        k = say(out, k, b"to=", list[i + 1]);
+        k = say(out, k, b"marks=", list[i + 2]);
+        i += 3;
+    }
+    k
+}
+
+fn wide16(n: u16) -> u64
+    ensures { λ r. ⌜ r ≡ n ⌝ }
+{
+    n as u64
+}
+
+fn wide32(n: u32) -> u64
+    ensures { λ r. ⌜ r ≡ n ⌝ }
+{
+    n as u64
+}
+
+fn put_side(out: &mut [u8], at: usize, side: AnchorType) -> usize
+    requires { ⌜ 512 ≤ length (now out) ⌝ }
+    ensures { λ r. ⌜ Adds (now (out .entry)) at (sideSays side) r (now (out .exit)) ⌝ }
+{
+    match side {
+        AnchorType::Start => say_word(out, at, b"side=", b"start"),
+        AnchorType::End => say_word(out, at, b"side=", b"end"),
+    }
+}
+
+// An anchor.
+pub fn put_anchor(out: &mut [u8], at: usize, a: Anchor) -> usize
+    requires { ⌜ 512 ≤ length (now out) ⌝ }
+    ensures { λ r. ⌜ Adds (now (out .entry)) at (anchorSays a) r (now (out .exit)) ⌝ }
+{
+    let side = a.side;
+    let b = say(out, at, b"at=", a.at);
+    let c = put_side(out, b, side);
+    let d = say(out, c, b"key=", wide16(a.key));
+    let e = say(out, d, b"lamport=", wide32(a.lamport));
+    say(out, e, b"peer=", a.peer)
+}

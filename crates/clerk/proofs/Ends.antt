@@ -1,0 +1,61 @@
+-- What a read, and the end of the input, hand back.
+use mathlib.Core.Path.{_≡_, sym, ap, ap₂, subst, _∙_}
+use mathlib.Core.Bool.{Bool, true, false, cond}
+use mathlib.Core.List.{List, []}
+use Prim.Native.Nat.{ℕ, _≤_}
+use borrow.Author.Tests.{ne-eqb}
+use lib.ListN.{length, drop, drop-of-length-le}
+use Rattle.tanks.specs.declared.Tanks.{Tanks}
+use Rattle.tanks.specs.Pool.{meaning, Sound}
+use Rattle.script.specs.declared.Ending.{Ending}
+use Rattle.script.specs.declared.Reader.{Reader}
+use Rattle.script.specs.Lines.{stateOf, endingOf}
+use Rattle.answers.specs.Waiting.{Waiting, waiting, Adds}
+use Rattle.clerk.specs.declared.Eaten.{Eaten}
+use Rattle.clerk.specs.declared.Stand.{Stand}
+use Rattle.clerk.specs.Session.{Session, malformedSays, afterBytes, sessionOf, Eats, endedAs, atEnd, Closes, Reads}
+use Rattle.clerk.proofs.Bytes.{standing}
+
+module _ {s : Tanks} {stand : Stand} (d : List ℕ) {r : Eaten} (out : List ℕ) {k : ℕ} (ok : Sound s)
+    (stands : (r .tanks ≡ s) × (r .stand ≡ record { reader = stand .reader; at = k; over = true })) where
+  ends-as : (e : Ending) → endingOf (stateOf (stand .reader)) ≡ e → endedAs e (sessionOf s stand d) ≡ sessionOf s (record { reader = stand .reader; at = k; over = true }) out → Closes s stand d r out
+  unfolding atEnd
+  ends-as e h x =
+      record {
+        sound = subst Sound (sym (stands .0)) ok;
+        is = ap₂ (λ (t : Tanks) (st : Stand). sessionOf t st out) (stands .0) (stands .1) ∙ sym x ∙ sym (ap (λ (v : Ending). endedAs v (sessionOf s stand d)) h);
+      }
+
+  pub ends-clean : endingOf (stateOf (stand .reader)) ≡ Ending.Clean → waiting out k ≡ waiting d (stand .at) → Closes s stand d r out
+  ends-clean h w = ends-as Ending.Clean h (ap (λ (v : Waiting). record { house = meaning s; reader = stateOf (stand .reader); waits = v; over = true }) (sym w))
+
+  pub ends-cut : endingOf (stateOf (stand .reader)) ≡ Ending.Cut → Adds d (stand .at) (malformedSays (stateOf (stand .reader))) k out → Closes s stand d r out
+  ends-cut h w = ends-as Ending.Cut h (ap (λ (v : Waiting). record { house = meaning s; reader = stateOf (stand .reader); waits = v; over = true }) (sym (w .is)))
+
+-- ---- a read
+-- all bytes are taken
+pub all-taken : (x : Session) (from : ℕ) (input : List ℕ) {y : Session} → length input ≤ from → afterBytes x (drop from input) ≡ y → x ≡ y
+unfolding afterBytes
+all-taken x from input h e = sym (ap (afterBytes x) (drop-of-length-le input {i = from} h)) ∙ e
+
+pub eats-as : {s t : Tanks} {stand : Stand} (d : List ℕ) (input : List ℕ) {r : Eaten} (out : List ℕ) {reader : Reader} {k : ℕ} {over : Bool} → stand .over ≡ false → Sound t → (r .tanks ≡ t) × (r .stand ≡ record { reader = reader; at = k; over = over }) → record { house = meaning t; reader = stateOf reader; waits = waiting out k; over = over } ≡ afterBytes (standing s (stand .reader) (stand .at) d) input → Eats s stand d input r out
+eats-as {s} {t} {stand} d input {r} out {reader} {k} {over} fresh ok stands x =
+    record {
+      sound = subst Sound (sym (stands .0)) ok;
+      is =
+          ap₂ (λ (u : Tanks) (st : Stand). sessionOf u st out) (stands .0) (stands .1)
+          ∙ x
+          ∙ ap (λ (b : Bool). afterBytes (record { house = meaning s; reader = stateOf (stand .reader); waits = waiting d (stand .at); over = b }) input) (sym fresh);
+    }
+
+-- no bytes, and some
+pub reads-none : {s : Tanks} {stand : Stand} {d out : List ℕ} {r : Eaten} → Closes s stand d r out → Reads s stand d r out
+reads-none x = record { input = []; sound = x .sound; is = x .is }
+
+pub reads-some : {s : Tanks} {stand : Stand} {d out input : List ℕ} {r : Eaten} → (length input ≡ 0 → ⊥) → Eats s stand d input r out → Reads s stand d r out
+reads-some {s} {stand} {d} {out} {input} n x =
+    record {
+      input = input;
+      sound = x .sound;
+      is = x .is ∙ sym (ap (λ (b : Bool). cond b (atEnd (sessionOf s stand d)) (afterBytes (sessionOf s stand d) input)) (ne-eqb (length input) 0 n));
+    }

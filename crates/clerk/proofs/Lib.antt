@@ -1,0 +1,4 @@
+pub mod Bytes
+pub mod Ends
+pub mod Lists
+pub mod Performing

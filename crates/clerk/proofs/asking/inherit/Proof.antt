@@ -1,0 +1,15 @@
+-- The answer of the call, as it says.
+use borrow.Author.Needs.{needs}
+use mathlib.Core.Path.{ap}
+use Rattle.answers.proofs.Laws.{adds-as}
+use Rattle.answers.specs.Replies.{setSays}
+use Rattle.clerk.specs.Calls.{saysOf}
+use Rattle.clerk.proofs.asking.inherit.Statement.{statement}
+use Rattle.clerk.proofs.asking.inherit.Tie as tie
+
+returns : tie.Need-returns
+unfolding saysOf
+returns c = adds-as (ap setSays (c .before .before .before .get-styles-for-insert .ensures)) (c .before .before .put-set-asked .ensures)
+
+pub inherit-spec : {M : Type 1} → statement M
+inherit-spec = tie.close (tie.spec (λ c. search needs) (λ c. search needs) (λ c κs. search needs) (λ c κs. search needs) (λ c. search needs) returns)

@@ -1,0 +1,15 @@
+-- The answer of the call, as it says.
+use borrow.Author.Needs.{needs}
+use mathlib.Core.Path.{ap}
+use Rattle.answers.proofs.Laws.{adds-as}
+use Rattle.answers.specs.Replies.{askedSays}
+use Rattle.clerk.specs.Calls.{saysOf}
+use Rattle.clerk.proofs.asking.mark.Statement.{statement}
+use Rattle.clerk.proofs.asking.mark.Tie as tie
+
+returns : tie.Need-returns
+unfolding saysOf
+returns c = adds-as (ap askedSays (c .before .before .before .style-at .ensures)) (c .before .before .put-asked .ensures)
+
+pub mark-spec : {M : Type 1} → statement M
+mark-spec = tie.close (tie.spec (λ c. search needs) (λ c. search needs) (λ c. search needs) (λ c κs. search needs) (λ c κs. search needs) (λ c. search needs) returns)

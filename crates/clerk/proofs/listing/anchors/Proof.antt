@@ -1,0 +1,25 @@
+-- No such tank, too little room, or all of them.
+use borrow.Author.Needs.{needs}
+use native.Mathlib.Omega.{arith}
+use Rattle.answers.proofs.Laws.{adds-as}
+use Rattle.clerk.proofs.Lists.{anchors-1, anchors-11, anchors-all}
+use Rattle.clerk.specs.Calls.{saysOf}
+use Rattle.script.specs.Args.{numberAt}
+use Rattle.tanks.specs.Pool.{meaning}
+use Rattle.clerk.proofs.listing.anchors.Statement.{statement}
+use Rattle.clerk.proofs.listing.anchors.Tie as tie
+
+returns : tie.Need-returns
+unfolding saysOf
+returns c = let a = c .before .before .before .before .before .before .before .args in adds-as (anchors-1 (meaning (a .s)) (numberAt (a .call) 0) (numberAt (a .call) 1) (c .before .before .before .before .if1 .taken)) (c .before .before .refuse .ensures)
+
+returns-2 : tie.Need-returns-2
+unfolding saysOf
+returns-2 c = let a = c .before .before .before .before .before .before .before .before .before .before .args in let w = c .before .before .before .before .before in adds-as (anchors-11 (meaning (a .s)) (numberAt (a .call) 0) (numberAt (a .call) 1) _ (c .before .before .before .before .before .before .before .if1 .left) (w .before .anchors-needed .ensures) (omega (arith, w .wide .ensures, c .before .before .before .before .if2 .taken))) (c .before .before .refuse2 .ensures)
+
+returns-3 : tie.Need-returns-3
+unfolding saysOf
+returns-3 c = let a = c .before .before .before .before .before .before .before .before .before .before .args in let w = c .before .before .before .before .before in adds-as (anchors-all (meaning (a .s)) (numberAt (a .call) 0) (numberAt (a .call) 1) _ (c .before .before .before .before .before .before .before .if1 .left) (w .before .anchors-needed .ensures) (omega (arith, w .wide .ensures, c .before .before .before .before .if2 .left))) (c .before .before .all-anchors .ensures)
+
+pub anchors-spec : {M : Type 1} → statement M
+anchors-spec = tie.close (tie.spec (λ c. search needs) (λ c. search needs) (λ c κs. search needs) (λ c. search needs) returns (λ c κs. search needs) (λ c κs. search needs) (λ c κs. search needs) (λ c. search needs) returns-2 (λ c κs. search needs) (λ c. search needs) returns-3)

@@ -1,0 +1,128 @@
+-- What a call that was read does to the eight tanks, and what it answers: a row for each op.
+use mathlib.Core.Path.{_≡_}
+use mathlib.Core.Bool.{false}
+use mathlib.Core.List.{List, [], _∷_, _++_}
+use Prim.Native.Nat.{ℕ, _+_, _%_, _^_}
+use lib.ListN.{length, take}
+use Rattle.styles.specs.Answers.{stylesOf}
+use Rattle.questions.specs.declared.Asked.{Asked}
+use Rattle.questions.specs.declared.Shown.{Shown}
+use Rattle.questions.specs.declared.Told.{Told}
+use Rattle.questions.specs.Questions.{setOf, sharedOf, valueAt, stylesAt, styleAt, stylesForInsert, styleForInsert, rangeContainsKey, rangeHasKeyValue, stylesOfRange}
+use Rattle.lists.specs.Lists.{rangeList, wholeList, rangeNeeded, rangeNumber, wholeNumber, filledBeside}
+use Rattle.lists.specs.Anchors.{anchors, anchorsNumber}
+use Rattle.tank.specs.Rules.{View, Edit, annotating, inserting, deleting, removing}
+use Rattle.tanks.specs.declared.Setting.{Setting}
+use Rattle.tanks.specs.declared.Tanks.{Tanks}
+use Rattle.tanks.specs.House.{House, tankAt, held, openNumber, opening, askNumber, refusalAt, afterAt, setInserted, firstRemoved}
+use Rattle.tanks.specs.Pool.{meaning, Sound}
+use Rattle.tanks.specs.Contracts.{counts, says}
+use Rattle.ask.specs.Asks.{askAt, noList}
+use Rattle.script.specs.declared.Call.{Call}
+use Rattle.script.specs.declared.Op.{Op}
+use Rattle.script.specs.Args.{numberAt, markOf, identityOf}
+use Rattle.script.specs.Bytes.{bytes}
+use Rattle.answers.specs.Waiting.{Adds}
+use Rattle.answers.specs.Replies.{Pieces, field, refusedSays, orRefused, acceptedSays, stylesSay, firstSays, countSays, touchedSays, toldSays, shownSays, askedSays, setSays, sharedSays, neededSays, listSays, anchorsSay}
+use Rattle.clerk.specs.declared.Done.{Done}
+
+-- ---- What a call speaks of, by the order of its op's fields
+-- the tank is the first number of every call but `open`
+abbrev pub tankFor : Call → ℕ
+tankFor c = numberAt c 0
+
+-- a range, and what follows it
+abbrev pub startIn : Call → ℕ
+startIn c = numberAt c 1
+
+abbrev pub endIn : Call → ℕ
+endIn c = numberAt c 2
+
+-- a key at a place
+abbrev pub keyAt : Call → ℕ → ℕ
+keyAt c i = numberAt c i % 2 ^ 16
+
+-- the settings of an `open`: a share and a limit for each tank
+abbrev pub settingAt : Call → ℕ → Setting
+settingAt c i = record { share = numberAt c i; limit = numberAt c (i + 1) }
+
+abbrev pub settingsOf : Call → List Setting
+settingsOf c = settingAt c 0 ∷ settingAt c 2 ∷ settingAt c 4 ∷ settingAt c 6 ∷ settingAt c 8 ∷ settingAt c 10 ∷ settingAt c 12 ∷ settingAt c 14 ∷ []
+
+-- the edits, as the rules have them
+abbrev pub annotation : Call → Edit
+annotation c = annotating (startIn c) (endIn c) (markOf c)
+
+abbrev pub insertion : Call → Edit
+insertion c = inserting (numberAt c 1) (numberAt c 2)
+
+abbrev pub deletion : Call → Edit
+deletion c = deleting (startIn c) (endIn c)
+
+abbrev pub removal : Call → Edit
+removal c = removing (identityOf c) (numberAt c 4)
+
+-- ---- The eight tanks after it: a question leaves them as they were
+unfoldable pub afterOp : Op → House → Call → House
+afterOp Op.Open h c = opening (settingsOf c)
+afterOp Op.Annotate h c = afterAt h (tankFor c) (annotation c)
+afterOp Op.Insert h c = afterAt h (tankFor c) (insertion c)
+afterOp Op.Delete h c = afterAt h (tankFor c) (deletion c)
+afterOp Op.Remove h c = afterAt h (tankFor c) (removal c)
+afterOp Op.Nothing h c = h
+afterOp Op.Length h c = h
+afterOp Op.Touched h c = h
+afterOp Op.Runs h c = h
+afterOp Op.Value h c = h
+afterOp Op.HasKey h c = h
+afterOp Op.AllValue h c = h
+afterOp Op.Same h c = h
+afterOp Op.Marks h c = h
+afterOp Op.Inherit h c = h
+afterOp Op.Mark h c = h
+afterOp Op.Inherited h c = h
+afterOp Op.Stretches h c = h
+afterOp Op.StretchesNeeded h c = h
+afterOp Op.Whole h c = h
+afterOp Op.WholeNeeded h c = h
+afterOp Op.Anchors h c = h
+
+-- ---- Its answer
+-- the marked stretches of a tank, where there is room for so many numbers
+unfoldable pub wholeSays : House → ℕ → ℕ → Pieces
+wholeSays h t room = askAt h t (refusedSays 1) (λ v. orRefused (wholeNumber room v) (listSays t (wholeList v)))
+
+-- the count of a tank's anchors and that many of them
+abbrev pub allAnchorsSay : ℕ → View → Pieces
+allAnchorsSay n v = field (bytes "anchors=") n ++ anchorsSay (take n (anchors v))
+
+-- a row for each op
+unfoldable pub saysOf : Op → House → Call → Pieces
+saysOf Op.Nothing h c = []
+saysOf Op.Open h c = acceptedSays (openNumber (settingsOf c))
+saysOf Op.Annotate h c = acceptedSays (refusalAt h (tankFor c) (annotation c))
+saysOf Op.Insert h c = orRefused (refusalAt h (tankFor c) (insertion c)) (stylesSay (stylesOf (setInserted h (tankFor c) (numberAt c 1) (numberAt c 2))))
+saysOf Op.Delete h c = acceptedSays (refusalAt h (tankFor c) (deletion c))
+saysOf Op.Remove h c = firstSays (refusalAt h (tankFor c) (removal c)) (firstRemoved h (tankFor c) (identityOf c) (numberAt c 4))
+saysOf Op.Length h c = countSays (bytes "length=") (counts (askNumber (tankFor c)) (tankAt h (tankFor c) .length))
+saysOf Op.Touched h c = touchedSays (says (askNumber (tankFor c)) (tankAt h (tankFor c) .touched))
+saysOf Op.Runs h c = countSays (bytes "runs=") (counts (askNumber (tankFor c)) (held h (tankFor c)))
+saysOf Op.Value h c = shownSays (askAt h (tankFor c) (Shown.Refused 1) (valueAt (numberAt c 1) (keyAt c 2)))
+saysOf Op.HasKey h c = toldSays (askAt h (tankFor c) (Told.Refused 1) (rangeContainsKey (startIn c) (endIn c) (keyAt c 3)))
+saysOf Op.AllValue h c = toldSays (askAt h (tankFor c) (Told.Refused 1) (rangeHasKeyValue (startIn c) (endIn c) (keyAt c 3) (c .value)))
+saysOf Op.Same h c = sharedSays (askAt h (tankFor c) (sharedOf 1 false []) (stylesOfRange (startIn c) (endIn c)))
+saysOf Op.Marks h c = setSays (askAt h (tankFor c) (setOf 1 []) (stylesAt (numberAt c 1)))
+saysOf Op.Inherit h c = setSays (askAt h (tankFor c) (setOf 1 []) (stylesForInsert (numberAt c 1)))
+saysOf Op.Mark h c = askedSays (askAt h (tankFor c) (Asked.Refused 1) (styleAt (numberAt c 1) (numberAt c 2)))
+saysOf Op.Inherited h c = askedSays (askAt h (tankFor c) (Asked.Refused 1) (styleForInsert (numberAt c 1) (numberAt c 2)))
+saysOf Op.Stretches h c = askAt h (tankFor c) (refusedSays 1) (λ v. orRefused (rangeNumber (startIn c) (endIn c) (numberAt c 3) v) (listSays (tankFor c) (rangeList (startIn c) (endIn c) v)))
+saysOf Op.StretchesNeeded h c = neededSays (askAt h (tankFor c) noList (rangeNeeded (startIn c) (endIn c)))
+saysOf Op.Whole h c = wholeSays h (tankFor c) (numberAt c 1)
+saysOf Op.WholeNeeded h c = neededSays (askAt h (tankFor c) noList (λ v. filledBeside 0 (wholeList v)))
+saysOf Op.Anchors h c = askAt h (tankFor c) (refusedSays 1) (λ v. orRefused (anchorsNumber (numberAt c 1) v) (allAnchorsSay (length (anchors v)) v))
+
+-- a call performed as one of an op: the next state, and its answer behind what waits
+pub record Performs (op : Op) (s : Tanks) (c : Call) (buffer : List ℕ) (at : ℕ) (r : Done) (out : List ℕ) : Type 0 where
+  pub sound : Sound (r .tanks)
+  pub is : meaning (r .tanks) ≡ afterOp op (meaning s) c
+  pub answer : Adds buffer at (saysOf op (meaning s) c) (r .at) out
