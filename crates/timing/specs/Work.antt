@@ -33,8 +33,8 @@ marked marks = min 63 (max 1 marks)
 
 -- ---- The tank that the work starts from: runs of ten positions each, and the unmarked rest
 -- mark b
-abbrev pub mark : ℕ → Mark
-mark b = record { key = b + 1; flags = 132; lamport = b + 10; peer = 1; value = Whole (pos (b + 1)) }
+abbrev pub markB : ℕ → Mark
+markB b = record { key = b + 1; flags = 132; lamport = b + 10; peer = 1; value = Whole (pos (b + 1)) }
 
 -- the mark that annotate and removal are timed with
 abbrev pub extra : Mark
@@ -55,11 +55,11 @@ steps step (suc n) h = step n (steps step n h)
 
 -- mark b on all marked runs, but for run 0 where the runs are an odd number
 abbrev pub onAll : ℕ → ℕ → House → House
-onAll runs b = annotated (runs % 2 * 10) (runs * 10 - 10) (mark b)
+onAll runs b = annotated (runs % 2 * 10) (runs * 10 - 10) (markB b)
 
 -- mark b on one of the runs that are even or odd as their number is
 abbrev pub otherRun : ℕ → ℕ → ℕ → House → House
-otherRun runs b j = annotated ((runs % 2 + j * 2) * 10) ((runs % 2 + j * 2) * 10 + 10) (mark b)
+otherRun runs b j = annotated ((runs % 2 + j * 2) * 10) ((runs % 2 + j * 2) * 10 + 10) (markB b)
 
 -- mark b on all of those: every other run
 abbrev pub everyOther : ℕ → ℕ → House → House

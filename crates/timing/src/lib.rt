@@ -45,7 +45,7 @@ fn marked(marks: u64) -> u64
 // Mark b of the tank.
 fn mark(b: u64) -> Mark
     requires { ⌜ b ≤ 63 ⌝ }
-    ensures { λ r. ⌜ r ≡ rules.mark b ⌝ }
+    ensures { λ r. ⌜ r ≡ rules.markB b ⌝ }
 {
     Mark {
         key: (b + 1) as u16,
