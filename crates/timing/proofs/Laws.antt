@@ -11,23 +11,23 @@ use Rattle.tank.specs.Rules.{Edit}
 use Rattle.tanks.specs.declared.Tanks.{Tanks}
 use Rattle.tanks.specs.House.{House, afterAt}
 use Rattle.tanks.specs.Pool.{meaning, Sound}
-use Rattle.timing.specs.Contracts.{Means}
+use Rattle.timing.specs.Contracts.{MeansHouse}
 use Rattle.timing.specs.Work as rules
 
 -- ---- n of m steps are made
 pub record Stepped (f : ℕ → House → House) (h : House) (n m : ℕ) (u : Tanks) : Type 0 where
   pub most : n ≤ m
-  pub means : Means (rules.steps f n h) u
+  pub means : MeansHouse (rules.steps f n h) u
 
 pub stepped-none : (f : ℕ → House → House) (m : ℕ) (u : Tanks) → Sound u → Stepped f (meaning u) 0 m u
 unfolding rules.steps
 stepped-none f m u sound = record { most = omega arith; means = record { is = refl; sound = sound } }
 
-pub stepped-next : {f : ℕ → House → House} {h : House} {n m : ℕ} {u v : Tanks} → Stepped f h n m u → n < m → Means (f n (meaning u)) v → Stepped f h (n + 1) m v
+pub stepped-next : {f : ℕ → House → House} {h : House} {n m : ℕ} {u v : Tanks} → Stepped f h n m u → n < m → MeansHouse (f n (meaning u)) v → Stepped f h (n + 1) m v
 unfolding rules.steps
 stepped-next {f} {h} {n} s l v = record { most = omega arith; means = record { is = rw add-one (rw (v .is, s .means .is)); sound = v .sound } }
 
-pub stepped-all : {f : ℕ → House → House} {h : House} {n m : ℕ} {u : Tanks} → Stepped f h n m u → m ≤ n → Means (rules.steps f m h) u
+pub stepped-all : {f : ℕ → House → House} {h : House} {n m : ℕ} {u : Tanks} → Stepped f h n m u → m ≤ n → MeansHouse (rules.steps f m h) u
 stepped-all {f} {h} {n} {m} s l = let e : n ≡ m = omega (arith, s .most, l) in rw (← e) (s .means)
 
 -- ---- n of m turns are added up

@@ -6,7 +6,7 @@ use Rattle.tanks.specs.House.{House}
 use Rattle.tanks.specs.Pool.{meaning, Sound}
 
 -- it is sound, and means this house
-pub record Means (h : House) (s : Tanks) : Type 0 where
+pub record MeansHouse (h : House) (s : Tanks) : Type 0 where
   pub is : meaning s ≡ h
   pub sound : Sound s
 

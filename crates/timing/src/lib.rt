@@ -9,7 +9,7 @@ ghost use Rattle.tanks.specs.House.{tankAt};
 ghost use Rattle.tanks.specs.Pool.{meaning, Sound};
 ghost use Rattle.tanks.specs.Contracts.{editOf};
 ghost use Rattle.timing.specs.Work as rules;
-ghost use Rattle.timing.specs.Contracts.{Means, Sized};
+ghost use Rattle.timing.specs.Contracts.{MeansHouse, Sized};
 use questions::Shown;
 use questions::Told;
 use std::num::wrapping_add_u64;
@@ -83,7 +83,7 @@ fn extra_id() -> Identity
 // Tank 0 with a mark more.
 fn annotated(s: Tanks, start: u64, end: u64, m: Mark) -> Tanks
     requires { ⌜ Sound s ⌝ }
-    ensures { λ r. ⌜ Means (rules.annotated start end m (meaning s)) r ⌝ }
+    ensures { λ r. ⌜ MeansHouse (rules.annotated start end m (meaning s)) r ⌝ }
 {
     let e = s.annotate(0, start, end, m);
     e.tanks
@@ -93,7 +93,7 @@ fn annotated(s: Tanks, start: u64, end: u64, m: Mark) -> Tanks
 fn lower(s: Tanks, runs: u64, marks: u64) -> Tanks
     requires { ⌜ Sound s ⌝ }
     requires { ⌜ Sized runs × (marks ≤ 63) ⌝ }
-    ensures { λ r. ⌜ Means (rules.lower runs marks (meaning s)) r ⌝ }
+    ensures { λ r. ⌜ MeansHouse (rules.lower runs marks (meaning s)) r ⌝ }
 {
     let mut u = s;
     let mut b = 0;
@@ -108,7 +108,7 @@ fn lower(s: Tanks, runs: u64, marks: u64) -> Tanks
 fn every_other(s: Tanks, runs: u64, b: u64) -> Tanks
     requires { ⌜ Sound s ⌝ }
     requires { ⌜ Sized runs × (b ≤ 63) ⌝ }
-    ensures { λ r. ⌜ Means (rules.everyOther runs b (meaning s)) r ⌝ }
+    ensures { λ r. ⌜ MeansHouse (rules.everyOther runs b (meaning s)) r ⌝ }
 {
     let mut u = s;
     let mut j = 0;
@@ -124,7 +124,7 @@ fn every_other(s: Tanks, runs: u64, b: u64) -> Tanks
 fn upper(s: Tanks, runs: u64, marks: u64) -> Tanks
     requires { ⌜ Sound s ⌝ }
     requires { ⌜ Sized runs × (marks ≤ 63) ⌝ }
-    ensures { λ r. ⌜ Means (rules.upper runs marks (meaning s)) r ⌝ }
+    ensures { λ r. ⌜ MeansHouse (rules.upper runs marks (meaning s)) r ⌝ }
 {
     let mut u = s;
     let mut j = 0;
@@ -138,7 +138,7 @@ fn upper(s: Tanks, runs: u64, marks: u64) -> Tanks
 // The tank that the work starts from, as `bench/src/work.rs` has it, with all room for tank 0.
 fn built(runs: u64, marks: u64) -> Tanks
     requires { ⌜ Sized runs × (marks ≤ 63) ⌝ }
-    ensures { λ r. ⌜ Means (rules.built runs marks) r ⌝ }
+    ensures { λ r. ⌜ MeansHouse (rules.built runs marks) r ⌝ }
 {
     let mut settings = [Setting { share: 1, limit: 1 }; 8];
     settings[0] = Setting {
@@ -208,7 +208,7 @@ fn edit_at(work: u64, runs: u64, turn: u64) -> Edit
 fn carrying(work: u64, runs: u64, s: Tanks) -> Tanks
     requires { ⌜ Sound s ⌝ }
     requires { ⌜ Sized runs ⌝ }
-    ensures { λ r. ⌜ Means (rules.carrying work runs (meaning s)) r ⌝ }
+    ensures { λ r. ⌜ MeansHouse (rules.carrying work runs (meaning s)) r ⌝ }
 {
     if work == 6 {
         let at = middle(runs);
