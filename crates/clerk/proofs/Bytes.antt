@@ -20,31 +20,31 @@ use Rattle.script.proofs.CutAnywhere.{after-part, after-cut, brings-cut, grown-
 use Rattle.answers.specs.Waiting.{Waiting, waiting, withAll, Adds}
 use Rattle.clerk.specs.declared.Done.{Done}
 use Rattle.clerk.specs.Calls.{afterOp, saysOf, Performs}
-use Rattle.clerk.specs.Session.{Session, malformedSays, onEvent, afterLine, afterByte, afterBytes}
+use Rattle.clerk.specs.Course.{Course, malformedSays, onEvent, afterLine, afterByte, afterBytes}
 
 -- what comes behind the first newline
 abbrev behindLine : List ℕ → List ℕ
 behindLine line = drop (length (lineFront line) + 1) line
 
 -- however an input is cut into reads, it leads to the same
-pub cut-anywhere : (x : Session) (a b : List ℕ) → afterBytes x (a ++ b) ≡ afterBytes (afterBytes x a) b
+pub cut-anywhere : (x : Course) (a b : List ℕ) → afterBytes x (a ++ b) ≡ afterBytes (afterBytes x a) b
 unfolding afterBytes
 cut-anywhere x [] b = refl
 cut-anywhere x (c ∷ a) b = cut-anywhere (afterByte x c) a b
 
 -- when the run is over nothing more is taken
-pub over-stays : (x : Session) (more : List ℕ) → x .over ≡ true → afterBytes x more ≡ x
+pub over-stays : (x : Course) (more : List ℕ) → x .over ≡ true → afterBytes x more ≡ x
 unfolding afterBytes afterByte
 over-stays x [] e = refl
-over-stays x (b ∷ more) e = ap (λ (y : Session). afterBytes y more) (rw e) ∙ over-stays x more e
+over-stays x (b ∷ more) e = ap (λ (y : Course). afterBytes y more) (rw e) ∙ over-stays x more e
 
-module _ (x : Session) where
+module _ (x : Course) where
   byte-taken : (b : ℕ) → x .over ≡ false → afterByte x b ≡ afterLine x (b ∷ [])
   unfolding afterByte
   byte-taken b e = rw e
 
   -- a line counts by its bytes in front of the newline, and by whether there is one
-  line-by : Bool → List ℕ → Session
+  line-by : Bool → List ℕ → Course
   line-by e front =
       let read = lineOf (x .reader .call) (take 65 (x .reader .held ++ front)) in
       onEvent
@@ -57,8 +57,8 @@ module _ (x : Session) where
   unfolding afterOf bringsOf line-by
   same-line a b e f = ap₂ line-by e f
 
-  -- the session with one byte more of a line that goes on
-  part : ℕ → Session
+  -- the run with one byte more of a line that goes on
+  part : ℕ → Course
   part c = record { house = x .house; reader = afterOf (x .reader) (c ∷ []); waits = x .waits; over = false }
 
   on-part : (c : ℕ) (e : Event) (r : State) (k : Call) → onEvent e (part c) r k ≡ onEvent e x r k
@@ -93,36 +93,36 @@ behind-other c cs n =
     let e : length (c ∷ lineFront cs) + 1 ≡ suc (length (lineFront cs) + 1) = omega arith in
     ap (λ (t : List ℕ). drop (length t + 1) (c ∷ cs)) (front-other c cs n) ∙ ap (λ (k : ℕ). drop k (c ∷ cs)) e
 
-module _ (x : Session) (c : ℕ) (cs : List ℕ) (e : x .over ≡ false) where
+module _ (x : Course) (c : ℕ) (cs : List ℕ) (e : x .over ≡ false) where
   -- the line ends here
   ends : c ≡ 10 → afterBytes x (c ∷ cs) ≡ afterBytes (afterLine x (c ∷ cs)) (behindLine (c ∷ cs))
   unfolding afterBytes
   ends h =
-      ap (λ (y : Session). afterBytes y cs) (byte-taken x c e ∙ same-line x (c ∷ []) (c ∷ cs) (end-newline c [] h ∙ sym (end-newline c cs h)) (front-newline c [] h ∙ sym (front-newline c cs h)))
+      ap (λ (y : Course). afterBytes y cs) (byte-taken x c e ∙ same-line x (c ∷ []) (c ∷ cs) (end-newline c [] h ∙ sym (end-newline c cs h)) (front-newline c [] h ∙ sym (front-newline c cs h)))
       ∙ ap (λ (t : List ℕ). afterBytes (afterLine x (c ∷ cs)) (drop (length t + 1) (c ∷ cs))) (sym (front-newline c cs h))
 
   -- it goes on
   goes : (c ≡ 10 → ⊥) → afterBytes (part x c) cs ≡ afterBytes (afterLine (part x c) cs) (behindLine cs) → afterBytes x (c ∷ cs) ≡ afterBytes (afterLine x (c ∷ cs)) (behindLine (c ∷ cs))
   unfolding afterBytes
   goes h more =
-      ap (λ (y : Session). afterBytes y cs) (byte-taken x c e ∙ part-brings x c (none-behind c h))
+      ap (λ (y : Course). afterBytes y cs) (byte-taken x c e ∙ part-brings x c (none-behind c h))
       ∙ more
-      ∙ ap (λ (y : Session). afterBytes y (behindLine cs)) (part-line x c cs (none-behind c h))
+      ∙ ap (λ (y : Course). afterBytes y (behindLine cs)) (part-line x c cs (none-behind c h))
       ∙ ap (afterBytes (afterLine x (c ∷ cs))) (sym (behind-other c cs h))
 
 -- the last byte of a read, where the line goes on
-last-byte : (x : Session) (c : ℕ) → x .over ≡ false → (c ≡ 10 → ⊥) → afterBytes x (c ∷ []) ≡ afterBytes (afterLine x (c ∷ [])) (behindLine (c ∷ []))
+last-byte : (x : Course) (c : ℕ) → x .over ≡ false → (c ≡ 10 → ⊥) → afterBytes x (c ∷ []) ≡ afterBytes (afterLine x (c ∷ [])) (behindLine (c ∷ []))
 unfolding afterBytes
 last-byte x c e h = byte-taken x c e ∙ sym (ap (afterBytes (afterLine x (c ∷ []))) (behind-other c [] h ∙ drop-nil (length (lineFront []) + 1)))
 
-pub line-bytes : (x : Session) (c : ℕ) (cs : List ℕ) → x .over ≡ false → afterBytes x (c ∷ cs) ≡ afterBytes (afterLine x (c ∷ cs)) (behindLine (c ∷ cs))
+pub line-bytes : (x : Course) (c : ℕ) (cs : List ℕ) → x .over ≡ false → afterBytes x (c ∷ cs) ≡ afterBytes (afterLine x (c ∷ cs)) (behindLine (c ∷ cs))
 unfolding part
 line-bytes x c [] e = elim (ℕ-discrete c 10) [ yes h ↦ ends x c [] e h | no h ↦ last-byte x c e h ]
 line-bytes x c (d ∷ ds) e = elim (ℕ-discrete c 10) [ yes h ↦ ends x c (d ∷ ds) e h | no h ↦ goes x c (d ∷ ds) e h (line-bytes (part x c) d ds refl) ]
 
 -- ---- A turn of the loop over the bytes of a read
--- the session of a run that goes on
-abbrev pub standing : Tanks → Reader → ℕ → List ℕ → Session
+-- a run that goes on
+abbrev pub standing : Tanks → Reader → ℕ → List ℕ → Course
 standing s r at out = record { house = meaning s; reader = stateOf r; waits = waiting out at; over = false }
 
 drop-least : (n : ℕ) (l : List ℕ) → drop (min (length l) n) l ≡ drop n l
@@ -153,14 +153,14 @@ module _ (s : Tanks) (at : ℕ) (out : List ℕ) {r : Reader} {from : ℕ} {inpu
 
   pub turn-nothing : f .event ≡ Event.Nothing → afterBytes (standing s (f .reader) at out) (drop (f .at) input) ≡ afterBytes (standing s r at out) (drop from input)
   unfolding onEvent
-  turn-nothing h = sym (line-taken ∙ ap (λ (y : Session). afterBytes y (drop (f .at) input)) (line-is Event.Nothing h))
+  turn-nothing h = sym (line-taken ∙ ap (λ (y : Course). afterBytes y (drop (f .at) input)) (line-is Event.Nothing h))
 
   pub turn-call : {d : Done} {out' : List ℕ} → f .event ≡ Event.Call → Performs (f .call .op) s (f .call) out at d out' → afterBytes (standing (d .tanks) (f .reader) (d .at) out') (drop (f .at) input) ≡ afterBytes (standing s r at out) (drop from input)
   unfolding onEvent
   turn-call {d} {out'} h p =
       sym
       (line-taken
-      ∙ ap (λ (y : Session). afterBytes y (drop (f .at) input)) (line-is Event.Call h ∙ ap (λ (k : Call). onEvent Event.Call (standing s r at out) (stateOf (f .reader)) k) (sym (fed .call h)) ∙ sym performed))
+      ∙ ap (λ (y : Course). afterBytes y (drop (f .at) input)) (line-is Event.Call h ∙ ap (λ (k : Call). onEvent Event.Call (standing s r at out) (stateOf (f .reader)) k) (sym (fed .call h)) ∙ sym performed))
     where
       performed : standing (d .tanks) (f .reader) (d .at) out' ≡ onEvent Event.Call (standing s r at out) (stateOf (f .reader)) (f .call)
       performed = ap₂ (λ (h : _) (w : Waiting). record { house = h; reader = stateOf (f .reader); waits = w; over = false }) (p .is) (p .answer .is)
@@ -170,7 +170,7 @@ module _ (s : Tanks) (at : ℕ) (out : List ℕ) {r : Reader} {from : ℕ} {inpu
   turn-bad {k} {out'} h p =
       sym
       (line-taken
-      ∙ ap (λ (y : Session). afterBytes y (drop (f .at) input)) (line-is Event.Bad h ∙ sym said)
+      ∙ ap (λ (y : Course). afterBytes y (drop (f .at) input)) (line-is Event.Bad h ∙ sym said)
       ∙ over-stays (record { house = meaning s; reader = stateOf (f .reader); waits = waiting out' k; over = true }) (drop (f .at) input) refl)
     where
       said : record { house = meaning s; reader = stateOf (f .reader); waits = waiting out' k; over = true } ≡ onEvent Event.Bad (standing s r at out) (stateOf (f .reader)) (readOf (stateOf r) (drop from input) .call)

@@ -13,17 +13,17 @@ use Rattle.script.specs.Lines.{stateOf, endingOf}
 use Rattle.answers.specs.Waiting.{Waiting, waiting, Adds}
 use Rattle.clerk.specs.declared.Eaten.{Eaten}
 use Rattle.clerk.specs.declared.Stand.{Stand}
-use Rattle.clerk.specs.Session.{Session, malformedSays, afterBytes, sessionOf, Eats, endedAs, atEnd, Closes, Reads}
+use Rattle.clerk.specs.Course.{Course, malformedSays, afterBytes, courseOf, Eats, endedAs, atEnd, Closes, Reads}
 use Rattle.clerk.proofs.Bytes.{standing}
 
 module _ {s : Tanks} {stand : Stand} (d : List ℕ) {r : Eaten} (out : List ℕ) {k : ℕ} (ok : Sound s)
     (stands : (r .tanks ≡ s) × (r .stand ≡ record { reader = stand .reader; at = k; over = true })) where
-  ends-as : (e : Ending) → endingOf (stateOf (stand .reader)) ≡ e → endedAs e (sessionOf s stand d) ≡ sessionOf s (record { reader = stand .reader; at = k; over = true }) out → Closes s stand d r out
+  ends-as : (e : Ending) → endingOf (stateOf (stand .reader)) ≡ e → endedAs e (courseOf s stand d) ≡ courseOf s (record { reader = stand .reader; at = k; over = true }) out → Closes s stand d r out
   unfolding atEnd
   ends-as e h x =
       record {
         sound = subst Sound (sym (stands .0)) ok;
-        is = ap₂ (λ (t : Tanks) (st : Stand). sessionOf t st out) (stands .0) (stands .1) ∙ sym x ∙ sym (ap (λ (v : Ending). endedAs v (sessionOf s stand d)) h);
+        is = ap₂ (λ (t : Tanks) (st : Stand). courseOf t st out) (stands .0) (stands .1) ∙ sym x ∙ sym (ap (λ (v : Ending). endedAs v (courseOf s stand d)) h);
       }
 
   pub ends-clean : endingOf (stateOf (stand .reader)) ≡ Ending.Clean → waiting out k ≡ waiting d (stand .at) → Closes s stand d r out
@@ -34,7 +34,7 @@ module _ {s : Tanks} {stand : Stand} (d : List ℕ) {r : Eaten} (out : List ℕ)
 
 -- ---- a read
 -- all bytes are taken
-pub all-taken : (x : Session) (from : ℕ) (input : List ℕ) {y : Session} → length input ≤ from → afterBytes x (drop from input) ≡ y → x ≡ y
+pub all-taken : (x : Course) (from : ℕ) (input : List ℕ) {y : Course} → length input ≤ from → afterBytes x (drop from input) ≡ y → x ≡ y
 unfolding afterBytes
 all-taken x from input h e = sym (ap (afterBytes x) (drop-of-length-le input {i = from} h)) ∙ e
 
@@ -43,7 +43,7 @@ eats-as {s} {t} {stand} d input {r} out {reader} {k} {over} fresh ok stands x =
     record {
       sound = subst Sound (sym (stands .0)) ok;
       is =
-          ap₂ (λ (u : Tanks) (st : Stand). sessionOf u st out) (stands .0) (stands .1)
+          ap₂ (λ (u : Tanks) (st : Stand). courseOf u st out) (stands .0) (stands .1)
           ∙ x
           ∙ ap (λ (b : Bool). afterBytes (record { house = meaning s; reader = stateOf (stand .reader); waits = waiting d (stand .at); over = b }) input) (sym fresh);
     }
@@ -57,5 +57,5 @@ reads-some {s} {stand} {d} {out} {input} n x =
     record {
       input = input;
       sound = x .sound;
-      is = x .is ∙ sym (ap (λ (b : Bool). cond b (atEnd (sessionOf s stand d)) (afterBytes (sessionOf s stand d) input)) (ne-eqb (length input) 0 n));
+      is = x .is ∙ sym (ap (λ (b : Bool). cond b (atEnd (courseOf s stand d)) (afterBytes (courseOf s stand d) input)) (ne-eqb (length input) 0 n));
     }

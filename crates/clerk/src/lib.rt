@@ -11,7 +11,7 @@ ghost use Rattle.script.specs.Lines.{stateOf};
 ghost use Rattle.tanks.specs.Pool.{Sound};
 ghost use Rattle.answers.specs.Waiting.{Adds};
 ghost use Rattle.clerk.specs.Calls.{Performs};
-ghost use Rattle.clerk.specs.Session.{malformedSays, Eats, Closes, Reads};
+ghost use Rattle.clerk.specs.Course.{malformedSays, Eats, Closes, Reads};
 use answers::say;
 use edits::annotated;
 use edits::deleted;

@@ -6,7 +6,7 @@ use mathlib.Core.Path.{_≡_, refl, _∙_}
 use native.Mathlib.Omega.{arith}
 use Rattle.clerk.proofs.Bytes.{standing, turn-nothing, turn-call, turn-bad}
 use Rattle.clerk.proofs.Ends.{all-taken, eats-as}
-use Rattle.clerk.specs.Session.{afterBytes}
+use Rattle.clerk.specs.Course.{afterBytes}
 use Rattle.tanks.specs.Pool.{Sound}
 use Rattle.clerk.proofs.eat.Statement.{statement}
 use Rattle.clerk.proofs.eat.Tie as tie

@@ -19,8 +19,8 @@ use Rattle.clerk.specs.declared.Eaten.{Eaten}
 use Rattle.clerk.specs.declared.Stand.{Stand}
 use Rattle.clerk.specs.Calls.{afterOp, saysOf}
 
--- where a run stands
-pub record Session : Type 0 where
+-- the course of a run: the tanks, the place in the script, the output that waits, and whether it is over
+pub record Course : Type 0 where
   pub house : House
   pub reader : State
   pub waits : Waiting
@@ -31,53 +31,53 @@ abbrev pub malformedSays : State → Pieces
 malformedSays r = field (bytes "malformed=") (countedOf (r .newlines))
 
 -- what a line's end brings: nothing yet, the end of the run, or a call, which is performed and answered
-unfoldable pub onEvent : Event → Session → State → Call → Session
+unfoldable pub onEvent : Event → Course → State → Call → Course
 onEvent Event.Nothing x r c = record { house = x .house; reader = r; waits = x .waits; over = false }
 onEvent Event.Bad x r c = record { house = x .house; reader = r; waits = withAll (x .waits) (malformedSays r); over = true }
 onEvent Event.Call x r c =
     record { house = afterOp (c .op) (x .house) c; reader = r; waits = withAll (x .waits) (saysOf (c .op) (x .house) c); over = false }
 
 -- some bytes up to the first newline, taken at once
-abbrev pub afterLine : Session → List ℕ → Session
+abbrev pub afterLine : Course → List ℕ → Course
 afterLine x line = onEvent (bringsOf (x .reader) line) x (afterOf (x .reader) line) (readOf (x .reader) line .call)
 
 -- one byte more; when the run is over nothing more is taken
-unfoldable pub afterByte : Session → ℕ → Session
+unfoldable pub afterByte : Course → ℕ → Course
 afterByte x byte = cond (x .over) x (afterLine x (byte ∷ []))
 
 -- bytes one after another
-unfoldable pub afterBytes : Session → List ℕ → Session
+unfoldable pub afterBytes : Course → List ℕ → Course
 afterBytes x [] = x
 afterBytes x (byte ∷ more) = afterBytes (afterByte x byte) more
 
 -- at the end of the input: in the middle of a line or a group it is a bad line
-abbrev pub endedAs : Ending → Session → Session
+abbrev pub endedAs : Ending → Course → Course
 endedAs Ending.Clean x = record { house = x .house; reader = x .reader; waits = x .waits; over = true }
 endedAs Ending.Cut x = record { house = x .house; reader = x .reader; waits = withAll (x .waits) (malformedSays (x .reader)); over = true }
 
-unfoldable pub atEnd : Session → Session
+unfoldable pub atEnd : Course → Course
 atEnd x = endedAs (endingOf (x .reader)) x
 
--- the session that tanks, a stand and a buffer are
-abbrev pub sessionOf : Tanks → Stand → List ℕ → Session
-sessionOf s stand buffer = record { house = meaning s; reader = stateOf (stand .reader); waits = waiting buffer (stand .at); over = stand .over }
+-- where tanks, a stand and a buffer are in it
+abbrev pub courseOf : Tanks → Stand → List ℕ → Course
+courseOf s stand buffer = record { house = meaning s; reader = stateOf (stand .reader); waits = waiting buffer (stand .at); over = stand .over }
 
 -- bytes eaten
 pub record Eats (s : Tanks) (stand : Stand) (buffer : List ℕ) (input : List ℕ) (r : Eaten) (out : List ℕ) : Type 0 where
   pub sound : Sound (r .tanks)
-  pub is : sessionOf (r .tanks) (r .stand) out ≡ afterBytes (sessionOf s stand buffer) input
+  pub is : courseOf (r .tanks) (r .stand) out ≡ afterBytes (courseOf s stand buffer) input
 
 -- the end of the input
 pub record Closes (s : Tanks) (stand : Stand) (buffer : List ℕ) (r : Eaten) (out : List ℕ) : Type 0 where
   pub sound : Sound (r .tanks)
-  pub is : sessionOf (r .tanks) (r .stand) out ≡ atEnd (sessionOf s stand buffer)
+  pub is : courseOf (r .tanks) (r .stand) out ≡ atEnd (courseOf s stand buffer)
 
 -- what a read gives: bytes, and none at the end of the input
-abbrev pub afterRead : Session → List ℕ → Session
+abbrev pub afterRead : Course → List ℕ → Course
 afterRead x input = cond (eqb (length input) 0) (atEnd x) (afterBytes x input)
 
 -- one read, whatever its bytes were: they lead where the run stands afterwards
 pub record Reads (s : Tanks) (stand : Stand) (buffer : List ℕ) (r : Eaten) (out : List ℕ) : Type 0 where
   pub input : List ℕ
   pub sound : Sound (r .tanks)
-  pub is : sessionOf (r .tanks) (r .stand) out ≡ afterRead (sessionOf s stand buffer) input
+  pub is : courseOf (r .tanks) (r .stand) out ≡ afterRead (courseOf s stand buffer) input
