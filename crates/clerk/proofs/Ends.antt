@@ -1,7 +1,7 @@
 -- What a read, and the end of the input, hand back.
-use mathlib.Core.Path.{_≡_, sym, ap, ap₂, subst, _∙_}
+use mathlib.Core.Path.{_≡_, refl, sym, ap, ap₂, subst, _∙_}
 use mathlib.Core.Bool.{Bool, true, false, cond}
-use mathlib.Core.List.{List, []}
+use mathlib.Core.List.{List, [], _∷_, _++_}
 use Prim.Native.Nat.{ℕ, _≤_}
 use borrow.Author.Tests.{ne-eqb}
 use lib.ListN.{length, drop, drop-of-length-le}
@@ -13,7 +13,7 @@ use Rattle.script.specs.Lines.{stateOf, endingOf}
 use Rattle.answers.specs.Waiting.{Waiting, waiting, Adds}
 use Rattle.clerk.specs.declared.Eaten.{Eaten}
 use Rattle.clerk.specs.declared.Stand.{Stand}
-use Rattle.clerk.specs.Course.{Course, malformedSays, afterBytes, courseOf, Eats, endedAs, atEnd, Closes, Reads}
+use Rattle.clerk.specs.Course.{Course, malformedSays, afterBytes, courseOf, Eats, endedAs, atEnd, Closes, Reads, afterRead, written, afterReads, Leads, going, Runs}
 use Rattle.clerk.proofs.Bytes.{standing}
 
 module _ {s : Tanks} {stand : Stand} (d : List ℕ) {r : Eaten} (out : List ℕ) {k : ℕ} (ok : Sound s)
@@ -58,4 +58,39 @@ reads-some {s} {stand} {d} {out} {input} n x =
       input = input;
       sound = x .sound;
       is = x .is ∙ sym (ap (λ (b : Bool). cond b (atEnd (courseOf s stand d)) (afterBytes (courseOf s stand d) input)) (ne-eqb (length input) 0 n));
+    }
+
+-- ---- reads one after another
+-- one read more
+reads-more : (x : Course) (inputs : List (List ℕ)) (input : List ℕ) → afterReads x (inputs ++ (input ∷ [])) ≡ written (afterRead (afterReads x inputs) input)
+unfolding afterReads
+reads-more x [] input = refl
+reads-more x (i ∷ inputs) input = reads-more (written (afterRead x i)) inputs input
+
+pub leads-none : (x : Course) → Leads x x
+unfolding afterReads
+leads-none x = record { inputs = []; is = refl }
+
+module _ {s : Tanks} {reader : Reader} {stand : Stand} {d out : List ℕ} {r : Eaten} (x : Course) (fresh : stand ≡ record { reader = reader; at = 0; over = false })
+    (came : Leads x (going s reader d)) (read : Reads s stand d r out) where
+  -- where the run is when the answers to one read more are written out
+  pub leads-more : {y : Course} → y ≡ written (courseOf (r .tanks) (r .stand) out) → Leads x y
+  leads-more e =
+      record {
+        inputs = came .inputs ++ (read .input ∷ []);
+        is =
+            e
+            ∙ ap written (read .is ∙ ap (λ (st : Stand). afterRead (courseOf s st d) (read .input)) fresh)
+            ∙ ap (λ (c : Course). written (afterRead c (read .input))) (came .is)
+            ∙ sym (reads-more x (came .inputs) (read .input));
+      }
+
+  pub leads-on : r .stand .over ≡ false → Leads x (going (r .tanks) (r .stand .reader) out)
+  leads-on e = leads-more (ap (λ (b : Bool). record { house = meaning (r .tanks); reader = stateOf (r .stand .reader); waits = waiting out 0; over = b }) (sym e))
+
+pub runs-as : {s t : Tanks} {first reader : Reader} {d : List ℕ} {r : Eaten} (out : List ℕ) {over : Bool} → Sound t → (r .tanks ≡ t) × (r .stand ≡ record { reader = reader; at = 0; over = over }) → Leads (going s first d) (record { house = meaning t; reader = stateOf reader; waits = waiting out 0; over = over }) → Runs s first d r out
+runs-as {s} {t} {first} {reader} {d} {r} out {over} ok stands l =
+    record {
+      sound = subst Sound (sym (stands .0)) ok;
+      leads = record { inputs = l .inputs; is = ap₂ (λ (u : Tanks) (st : Stand). courseOf u st out) (stands .0) (stands .1) ∙ l .is };
     }

@@ -11,6 +11,7 @@ use Rattle.tanks.specs.Pool.{meaning, Sound}
 use Rattle.script.specs.declared.Call.{Call}
 use Rattle.script.specs.declared.Ending.{Ending}
 use Rattle.script.specs.declared.Event.{Event}
+use Rattle.script.specs.declared.Reader.{Reader}
 use Rattle.script.specs.Bytes.{bytes}
 use Rattle.script.specs.Lines.{State, stateOf, countedOf, afterOf, bringsOf, readOf, endingOf}
 use Rattle.answers.specs.Waiting.{Waiting, waiting, withAll}
@@ -81,3 +82,26 @@ pub record Reads (s : Tanks) (stand : Stand) (buffer : List ℕ) (r : Eaten) (ou
   pub input : List ℕ
   pub sound : Sound (r .tanks)
   pub is : courseOf (r .tanks) (r .stand) out ≡ afterRead (courseOf s stand buffer) input
+
+-- what waited is written out, and all of the buffer is free again
+abbrev pub written : Course → Course
+written x = record { house = x .house; reader = x .reader; waits = waiting (x .waits .buffer) 0; over = x .over }
+
+-- reads one after another; the answers to each are written out before the next
+unfoldable pub afterReads : Course → List (List ℕ) → Course
+afterReads x [] = x
+afterReads x (input ∷ inputs) = afterReads (written (afterRead x input)) inputs
+
+-- some reads lead from one place to another
+pub record Leads (x y : Course) : Type 0 where
+  pub inputs : List (List ℕ)
+  pub is : y ≡ afterReads x inputs
+
+-- a run that goes on, with nothing waiting
+abbrev pub going : Tanks → Reader → List ℕ → Course
+going s reader buffer = record { house = meaning s; reader = stateOf reader; waits = waiting buffer 0; over = false }
+
+-- a run, whatever its reads gave
+pub record Runs (s : Tanks) (first : Reader) (buffer : List ℕ) (r : Eaten) (out : List ℕ) : Type 0 where
+  pub sound : Sound (r .tanks)
+  pub leads : Leads (going s first buffer) (courseOf (r .tanks) (r .stand) out)

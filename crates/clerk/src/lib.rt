@@ -11,7 +11,7 @@ ghost use Rattle.script.specs.Lines.{stateOf};
 ghost use Rattle.tanks.specs.Pool.{Sound};
 ghost use Rattle.answers.specs.Waiting.{Adds};
 ghost use Rattle.clerk.specs.Calls.{Performs};
-ghost use Rattle.clerk.specs.Course.{malformedSays, Eats, Closes, Reads};
+ghost use Rattle.clerk.specs.Course.{malformedSays, Eats, Closes, Reads, Runs};
 use answers::say;
 use edits::annotated;
 use edits::deleted;
@@ -48,7 +48,7 @@ struct Eaten {
 
 // A stand from which nothing waits.
 fn fresh(reader: Reader) -> Stand
-    ensures { λ r. ⌜ r .over ≡ false ⌝ }
+    ensures { λ r. ⌜ r ≡ record { reader = reader; at = 0; over = false } ⌝ }
 {
     Stand {
         reader: reader,
@@ -186,9 +186,10 @@ fn turn(s: Tanks, stand: Stand, out: &mut [u8]) -> Eaten
 }
 
 // All of the input: the count of turns is one that no run uses up. The answers to what was read are written before more is read.
-fn all(s: Tanks, first: Reader, out: &mut [u8])
+fn all(s: Tanks, first: Reader, out: &mut [u8]) -> Eaten
     requires { ⌜ Sound s ⌝ }
     requires { ⌜ 512 ≤ length (now out) ⌝ }
+    ensures { λ r. ⌜ Runs s first (now (out .entry)) r (now (out .exit)) ⌝ }
 {
     let mut tanks = s;
     let mut reader = first;
@@ -199,13 +200,14 @@ fn all(s: Tanks, first: Reader, out: &mut [u8])
         tanks = next;
         let after = e.stand;
         script::emit(out, after.at);
-        if after.over {
-            return;
-        }
         let more = after.reader;
         reader = more;
+        if after.over {
+            return standing(tanks, reader, 0, true);
+        }
         turns -= 1;
     }
+    standing(tanks, reader, 0, false)
 }
 
 // Reads calls from standard input to its end, and writes their answers to standard output. Before the first `open` the state is

@@ -1,20 +1,48 @@
--- The measure is the count of turns that are left. The tanks stay sound, and the output buffer keeps its length.
+-- The measure is the count of turns that are left. The reads so far lead from the beginning to where the run is.
 use borrow.Author.Needs.{needs}
 use lib.ListN.{length}
-use mathlib.Core.Path.{_≡_}
+use mathlib.Core.Bool.{Bool, true, false}
+use mathlib.Core.Path.{_≡_, ap, sym}
 use native.Mathlib.Omega.{arith}
-use Rattle.tanks.specs.Pool.{Sound}
+use Rattle.answers.specs.Waiting.{waiting}
+use Rattle.clerk.proofs.Ends.{leads-none, leads-more, leads-on, runs-as}
+use Rattle.clerk.specs.Course.{Leads, going}
+use Rattle.clerk.specs.declared.Stand.{Stand}
+use Rattle.script.specs.Lines.{stateOf}
+use Rattle.tanks.specs.Pool.{Sound, meaning}
 use Rattle.clerk.proofs.all.Statement.{statement}
 use Rattle.clerk.proofs.all.Tie as tie
 
 abbrev Inv-loop : tie.InvT-loop
-Inv-loop out₀ tanks₀ reader₀ turns₀ out tanks reader turns = (length out ≡ length out₀) × Sound tanks
+Inv-loop out₀ tanks₀ reader₀ turns₀ out tanks reader turns = (length out ≡ length out₀) × Sound tanks × Leads (going tanks₀ reader₀ out₀) (going tanks reader out)
 
 abbrev μ-loop : tie.MeasureT-loop
 μ-loop out₀ tanks₀ reader₀ turns₀ out tanks reader turns = turns
 
+loop-holds : tie.Need-loop-holds Inv-loop μ-loop
+loop-holds c = (search needs, search needs, leads-none _)
+
+turn-requires : tie.Need-turn-requires Inv-loop μ-loop
+turn-requires c κs = ((search needs, ap (λ (st : Stand). st .over) (c .before .fresh .ensures)), search needs)
+
+-- the buffer keeps its length through a read
+after-turn : (c : tie.After-turn Inv-loop μ-loop) → length (c .turn .last .1 .1 .0) ≡ length (c .before .before .before .before .before .before .args .out .now)
+after-turn c = search needs
+
+same-length : tie.Need-same-length Inv-loop μ-loop
+same-length c = after-turn (c .before .before .before .before .before .before .before .before .before)
+
+returns : tie.Need-returns Inv-loop μ-loop
+returns c = let e = c .before .before .before .before .before .before .before .before .before .turn in runs-as _ (e .ensures .sound) (c .standing .ensures) (leads-more _ (c .before .before .before .before .before .before .before .before .before .before .before .fresh .ensures) (c .before .before .before .before .before .before .before .before .before .before .before .before .before .loop .inv .2) (c .before .before .before .before .before .before .before .before .before .turn .ensures) (ap (λ (b : Bool). record { house = meaning (e .result .tanks); reader = stateOf (e .result .stand .reader); waits = waiting (e .last .1 .1 .0) 0; over = b }) (sym (c .before .if1 .taken))))
+
 loop-less : tie.Need-loop-less Inv-loop μ-loop
 loop-less c = omega arith
 
+loop-again : tie.Need-loop-again Inv-loop μ-loop
+loop-again c = (search needs, c .before .before .before .before .before .before .before .before .turn .ensures .sound, leads-on _ (c .before .before .before .before .before .before .before .before .before .before .fresh .ensures) (c .before .before .before .before .before .before .before .before .before .before .before .before .loop .inv .2) (c .before .before .before .before .before .before .before .before .turn .ensures) (c .if1 .left))
+
+returns-2 : tie.Need-returns-2 Inv-loop μ-loop
+returns-2 c = let w = c .before .before .loop in runs-as _ (w .inv .1) (c .standing2 .ensures) (w .inv .2)
+
 pub all-spec : {M : Type 1} → statement M
-all-spec = tie.close (tie.spec Inv-loop μ-loop (λ c. search needs) (λ c κs. search needs) (λ c κs. search needs) (λ c κs. search needs) (λ c. search needs) (λ c. search needs) (λ c. search needs) loop-less (λ c. search needs) (λ c. search needs) (λ c. search needs))
+all-spec = tie.close (tie.spec Inv-loop μ-loop loop-holds (λ c κs. search needs) turn-requires (λ c κs. search needs) (λ c κs. search needs) same-length returns (λ c. search needs) loop-less loop-again (λ c κs. search needs) (λ c. search needs) returns-2)
