@@ -1,30 +1,26 @@
 -- A turn of the loops over a set's marks and over a list of stretches.
 use mathlib.Core.Path.{_≡_, refl, sym, ap, _∙_}
-use mathlib.Core.List.{List, [], _∷_, _++_}
+use mathlib.Core.List.{List, [], _∷_, _++_, map, map-append}
 use Prim.Native.Nat.{ℕ, suc, _+_, _-_, _≤_, _<_}
 use native.Mathlib.Omega.{arith}
-use lib.ListN.{length, getD, drop, length-drop}
-use lib.Seq.{drop-cons}
+use lib.ListN.{length, getD, take, drop, length-drop}
+use lib.Seq.{drop-cons, take-suc}
 use Rattle.styles.specs.declared.Mark.{Mark}
 use Rattle.styles.specs.Marks.{blank}
 use Rattle.script.specs.Bytes.{bytes}
 use Rattle.script.specs.Writing.{markText}
-use Rattle.answers.specs.Waiting.{waiting, withAll, Adds}
-use Rattle.answers.specs.Replies.{Pieces, field, marksSay, stretchesSay}
-use Rattle.answers.proofs.Laws.{goes-on, and-then, adds-as}
+use Rattle.answers.specs.Replies.{field, stretchesSay}
 
 -- one mark more
-pub marks-more : (ms : List Mark) (n : ℕ) → marksSay ms n ++ (markText (getD ms n blank) ∷ []) ≡ marksSay ms (n + 1)
-unfolding marksSay
-marks-more ms n = let e : n + 1 ≡ suc n = omega arith in sym (ap (marksSay ms) e)
+pub marks-more : (ms : List Mark) (n : ℕ) → n < length ms → map markText (take n ms) ++ (markText (getD ms n blank) ∷ []) ≡ map markText (take (n + 1) ms)
+marks-more ms n h =
+    let e : suc n ≡ n + 1 = omega arith in
+    sym (map-append markText (take n ms) (getD ms n blank ∷ [])) ∙ sym (ap (map markText) (take-suc ms n blank h)) ∙ ap (λ (k : ℕ). map markText (take k ms)) e
 
--- a stretch of three numbers
-stretch-says : ℕ → ℕ → ℕ → Pieces
-stretch-says a b n = field (bytes "from=") a ++ field (bytes "to=") b ++ field (bytes "marks=") n
-
+-- ---- three numbers to a stretch
 module _ (list : List ℕ) (i : ℕ) where
-  stretch-more : 3 ≤ length list - i → stretchesSay (drop i list) ≡ stretch-says (getD list i 0) (getD list (i + 1) 0) (getD list (i + 2) 0) ++ stretchesSay (drop (i + 3) list)
-  unfolding stretchesSay stretch-says
+  pub stretch-more : 3 ≤ length list - i → stretchesSay (drop i list) ≡ field (bytes "from=") (getD list i 0) ++ field (bytes "to=") (getD list (i + 1) 0) ++ field (bytes "marks=") (getD list (i + 2) 0) ++ stretchesSay (drop (i + 3) list)
+  unfolding stretchesSay
   stretch-more h = ap stretchesSay taken
     where
       at-1 : suc i ≡ i + 1
@@ -44,12 +40,7 @@ module _ (list : List ℕ) (i : ℕ) where
           step i (i + 1) at-1 (omega arith)
           ∙ ap (λ (l : List ℕ). getD list i 0 ∷ l) (step (i + 1) (i + 2) at-2 (omega arith) ∙ ap (λ (l : List ℕ). getD list (i + 1) 0 ∷ l) (step (i + 2) (i + 3) at-3 (omega arith)))
 
-  pub stretch-turn : {d e f o : List ℕ} {k l m r : ℕ} → 3 ≤ length list - i → Adds d k (field (bytes "from=") (getD list i 0)) l e → Adds e l (field (bytes "to=") (getD list (i + 1) 0)) m f → Adds f m (field (bytes "marks=") (getD list (i + 2) 0)) r o → withAll (waiting o r) (stretchesSay (drop (i + 3) list)) ≡ withAll (waiting d k) (stretchesSay (drop i list))
-  unfolding stretch-says
-  stretch-turn {d} {e} {f} {o} {k} {l} {m} {r} h x y z =
-      goes-on (stretchesSay (drop (i + 3) list)) (and-then (and-then x y) z) ∙ sym (ap (withAll (waiting d k)) (stretch-more h))
-
--- fewer than three numbers are no stretch
+-- fewer are none
 few : (l : List ℕ) → length l < 3 → stretchesSay l ≡ []
 unfolding stretchesSay
 few [] h = refl
@@ -57,7 +48,5 @@ few (a ∷ []) h = refl
 few (a ∷ b ∷ []) h = refl
 few (a ∷ b ∷ c ∷ l) h = absurd (omega arith)
 
-pub stretch-none : {o : List ℕ} {r : ℕ} (list : List ℕ) (i : ℕ) (d : List ℕ) (k : ℕ) → length list - i < 3 → withAll (waiting o r) (stretchesSay (drop i list)) ≡ withAll (waiting d k) (stretchesSay list) → Adds d k (stretchesSay list) r o
-unfolding withAll
-stretch-none {o} {r} list i d k h x =
-    record { is = sym (ap (withAll (waiting o r)) (few (drop i list) (omega (arith, length-drop i list)))) ∙ x }
+pub stretch-none : (list : List ℕ) (i : ℕ) → length list - i < 3 → stretchesSay (drop i list) ≡ []
+stretch-none list i h = few (drop i list) (omega (arith, length-drop i list))

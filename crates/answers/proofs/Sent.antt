@@ -11,7 +11,7 @@ use borrow.Author.Tests.{le-leb, lt-leb}
 use Rattle.text.specs.Number.{put}
 use Rattle.text.proofs.Putting.{take-put}
 use Rattle.script.specs.Writing.{freeAt}
-use Rattle.answers.specs.Waiting.{Waiting, waiting, pieceRoom, with, withAll, sent, front, joined, Short}
+use Rattle.answers.specs.Waiting.{Pieces, Waiting, waiting, pieceRoom, with, withAll, Short, Adds, front, sent, joined}
 
 length-put : (d t : List ℕ) (k : ℕ) → k + length t ≤ length d → length (put d k t) ≡ length d
 length-put d t k h =
@@ -30,10 +30,10 @@ lost-by : (b : Bool) (at : ℕ) (d t more last rest : List ℕ) → cond b at 0 
 lost-by true at d t more last rest h e = e ∙ ap (λ (x : List ℕ). x ++ rest) (take-put d at t h) ∙ append-assoc (take at d) t rest
 lost-by false at d t more last rest h e = append-assoc (take at d) more last ∙ ap (λ (x : List ℕ). take at d ++ x) (e ∙ ap (λ (x : List ℕ). x ++ rest) (take-put d 0 t h))
 
-pub nothing-lost : (w : Waiting) (pieces : List (List ℕ)) → pieceRoom ≤ length (w .buffer) → w .at ≤ length (w .buffer) → Short pieces → sent w pieces ++ front (withAll w pieces) ≡ front w ++ joined pieces
+kept : (w : Waiting) (pieces : Pieces) → pieceRoom ≤ length (w .buffer) → w .at ≤ length (w .buffer) → Short pieces → sent w pieces ++ front (withAll w pieces) ≡ front w ++ joined pieces
 unfolding sent withAll with joined Short
-nothing-lost w [] room inside short = sym (append-nil (front w))
-nothing-lost w (t ∷ ts) room inside short =
+kept w [] room inside short = sym (append-nil (front w))
+kept w (t ∷ ts) room inside short =
     let k = freeAt pieceRoom (w .at) (w .buffer) in
     let fits = free-inside (w .at) (w .buffer) t room (short .0) in
     let same = length-put (w .buffer) t k fits in
@@ -46,4 +46,9 @@ nothing-lost w (t ∷ ts) room inside short =
     (front (withAll (with w t) ts))
     (joined ts)
     fits
-    (nothing-lost (with w t) ts (omega arith) (omega arith) (short .1))
+    (kept (with w t) ts (omega arith) (omega arith) (short .1))
+
+-- of whatever is put into a buffer
+pub nothing-lost : {d out : List ℕ} {at after : ℕ} {pieces : Pieces} → pieceRoom ≤ length d → at ≤ length d → Adds d at pieces after out → sent (waiting d at) pieces ++ take after out ≡ take at d ++ joined pieces
+nothing-lost {d} {at = at} {pieces = pieces} room inside x =
+    ap (λ (w : Waiting). sent (waiting d at) pieces ++ front w) (x .is) ∙ kept (waiting d at) pieces room inside (x .short)

@@ -1,12 +1,10 @@
 -- docs/CONSOLE.md: the lines of each answer, as pieces of text.
-use mathlib.Core.Bool.{Bool, true, false, cond}
-use mathlib.Core.List.{List, [], _∷_, _++_}
-use Prim.Native.Nat.{ℕ, zero, suc, min}
+use mathlib.Core.Bool.{cond}
+use mathlib.Core.List.{List, [], _∷_, _++_, map}
+use Prim.Native.Nat.{ℕ, min}
 use lib.Dec.{eqb}
-use lib.ListN.{getD}
-use Rattle.styles.specs.declared.Mark.{Mark}
+use lib.ListN.{take}
 use Rattle.styles.specs.declared.Styles.{Styles}
-use Rattle.styles.specs.Marks.{blank}
 use Rattle.richtext.specs.declared.AnchorType.{AnchorType}
 use Rattle.questions.specs.declared.Asked.{Asked}
 use Rattle.questions.specs.declared.SetAsked.{SetAsked}
@@ -19,16 +17,13 @@ use Rattle.tanks.specs.declared.Count.{Count}
 use Rattle.tanks.specs.declared.YesNo.{YesNo}
 use Rattle.script.specs.Bytes.{bytes}
 use Rattle.script.specs.Writing.{lineText, fieldText, valueText, markText}
-
--- pieces of text, each of whole lines
-abbrev pub Pieces : Type 0
-Pieces = List (List ℕ)
+use Rattle.answers.specs.Waiting.{Pieces}
 
 -- one line of a name and a number
 abbrev pub field : List ℕ → ℕ → Pieces
 field name n = fieldText name n ∷ []
 
--- ---- Edits
+-- ---- What answers share
 -- a refusal
 abbrev pub refusedSays : ℕ → Pieces
 refusedSays = field (bytes "refused=")
@@ -37,24 +32,20 @@ refusedSays = field (bytes "refused=")
 abbrev pub orRefused : ℕ → Pieces → Pieces
 orRefused number says = cond (eqb number 0) says (refusedSays number)
 
--- accepted
-abbrev pub acceptedSays : ℕ → Pieces
-acceptedSays number = orRefused number (field (bytes "accepted=") 1)
-
 -- none of what was asked for
 abbrev pub noneSays : Pieces
 noneSays = field (bytes "none=") 1
 
--- the marks at the places below n
-unfoldable pub marksSay : List Mark → ℕ → Pieces
-marksSay ms zero = []
-marksSay ms (suc n) = marksSay ms n ++ (markText (getD ms n blank) ∷ [])
-
 -- a set: its count and its marks in order; there are no more than 64
 abbrev pub stylesSay : Styles → Pieces
-stylesSay m = fieldText (bytes "marks=") (m .count) ∷ marksSay (m .marks) (min (m .count) 64)
+stylesSay m = fieldText (bytes "marks=") (m .count) ∷ map markText (take (min (m .count) 64) (m .marks))
 
--- the first position of a removal
+-- ---- Edits
+-- accepted, or the refusal
+abbrev pub acceptedSays : ℕ → Pieces
+acceptedSays number = orRefused number (field (bytes "accepted=") 1)
+
+-- the first position of a removal, or the refusal
 abbrev pub firstSays : ℕ → ℕ → Pieces
 firstSays number first = orRefused number (field (bytes "first=") first)
 

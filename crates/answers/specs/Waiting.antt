@@ -8,6 +8,10 @@ use lib.ListN.{length, take}
 use Rattle.text.specs.Number.{put}
 use Rattle.script.specs.Writing.{freeAt}
 
+-- pieces of text, each of whole lines
+abbrev pub Pieces : Type 0
+Pieces = List (List ℕ)
+
 -- what waits is the front of the buffer, up to a place
 pub record Waiting : Type 0 where
   pub buffer : List ℕ
@@ -16,7 +20,7 @@ pub record Waiting : Type 0 where
 abbrev pub waiting : List ℕ → ℕ → Waiting
 waiting buffer at = record { buffer = buffer; at = at }
 
--- the most bytes that a piece of text has: the six lines of a mark
+-- the most bytes that a piece may have: the six lines of a mark take no more
 abbrev pub pieceRoom : ℕ
 pieceRoom = 160
 
@@ -25,30 +29,31 @@ unfoldable pub with : Waiting → List ℕ → Waiting
 with w piece = waiting (put (w .buffer) (freeAt pieceRoom (w .at) (w .buffer)) piece) (freeAt pieceRoom (w .at) (w .buffer) + length piece)
 
 -- pieces one after another
-unfoldable pub withAll : Waiting → List (List ℕ) → Waiting
+unfoldable pub withAll : Waiting → Pieces → Waiting
 withAll w [] = w
 withAll w (piece ∷ pieces) = withAll (with w piece) pieces
 
--- pieces were put: from a buffer with so much waiting, to the buffer and the place afterwards
-pub record Adds (buffer : List ℕ) (at : ℕ) (pieces : List (List ℕ)) (after : ℕ) (out : List ℕ) : Type 0 where
+-- none is longer than a piece may be
+unfoldable pub Short : Pieces → Type 0
+Short [] = Unit
+Short (piece ∷ pieces) = (length piece ≤ pieceRoom) × Short pieces
+
+-- pieces were put, none too long: from a buffer with so much waiting, to the buffer and the place afterwards
+pub record Adds (buffer : List ℕ) (at : ℕ) (pieces : Pieces) (after : ℕ) (out : List ℕ) : Type 0 where
   pub is : waiting out after ≡ withAll (waiting buffer at) pieces
+  pub short : Short pieces
 
 -- ---- What is written out meanwhile
--- what waited, each time that there is no room for a piece
-unfoldable pub sent : Waiting → List (List ℕ) → List ℕ
-sent w [] = []
-sent w (piece ∷ pieces) = cond (leb (w .at + pieceRoom) (length (w .buffer))) [] (take (w .at) (w .buffer)) ++ sent (with w piece) pieces
-
 -- what waits
 abbrev pub front : Waiting → List ℕ
 front w = take (w .at) (w .buffer)
 
+-- what waited, each time that there is no room for a piece
+unfoldable pub sent : Waiting → Pieces → List ℕ
+sent w [] = []
+sent w (piece ∷ pieces) = cond (leb (w .at + pieceRoom) (length (w .buffer))) [] (front w) ++ sent (with w piece) pieces
+
 -- pieces as one text
-unfoldable pub joined : List (List ℕ) → List ℕ
+unfoldable pub joined : Pieces → List ℕ
 joined [] = []
 joined (piece ∷ pieces) = piece ++ joined pieces
-
--- none is longer than a piece may be
-unfoldable pub Short : List (List ℕ) → Type 0
-Short [] = Unit
-Short (piece ∷ pieces) = (length piece ≤ pieceRoom) × Short pieces

@@ -7,8 +7,8 @@ mod replies; // replies.rt: what edits and questions answer
 mod listing; // listing.rt: stretches and anchors
 
 pub use listing::put_anchor;
+pub use listing::put_list;
 pub use listing::put_needed;
-pub use listing::put_stretches;
 pub use pieces::accept;
 pub use pieces::refuse;
 pub use pieces::say;

@@ -1,13 +1,12 @@
 // Stretches and anchors.
 ghost use mathlib.Core.Path.{_≡_};
 ghost use Prim.Native.Nat.{_≤_};
-ghost use lib.ListN.{length};
+ghost use lib.ListN.{length, take};
 ghost use Rattle.answers.specs.Waiting.{Adds};
-ghost use Rattle.answers.specs.Replies.{neededSays, listSays, sideSays, anchorSays};
+ghost use Rattle.answers.specs.Replies.{orRefused, neededSays, listSays, sideSays, anchorSays};
 use super::pieces::refuse;
 use super::pieces::say;
 use super::pieces::say_word;
-use super::sets::wide;
 use lists::Listed;
 use lists::anchors::Anchor;
 use richtext::AnchorType;
@@ -18,7 +17,7 @@ pub fn put_needed(out: &mut [u8], at: usize, l: Listed) -> usize
     ensures { λ r. ⌜ Adds (now (out .entry)) at (neededSays l) r (now (out .exit)) ⌝ }
 {
     if l.number == 0 {
-        return say(out, at, b"needed=", wide(l.count));
+        return say(out, at, b"needed=", text::wide(l.count));
     }
     refuse(out, at, l.number)
 }
@@ -42,16 +41,16 @@ pub fn put_stretches(out: &mut [u8], at: usize, tank: u64, list: &[u64]) -> usiz
     k
 }
 
-fn wide16(n: u16) -> u64
-    ensures { λ r. ⌜ r ≡ n ⌝ }
+// A list in the front of lent numbers, or a refusal.
+pub fn put_list(out: &mut [u8], at: usize, tank: u64, l: Listed, lent: &[u64]) -> usize
+    requires { ⌜ (512 ≤ length (now out)) × (l .count ≤ length (now lent)) ⌝ }
+    ensures { λ r. ⌜ Adds (now (out .entry)) at (orRefused (l .number) (listSays tank (take (l .count) (now (lent .entry))))) r (now (out .exit)) ⌝ }
 {
-    n as u64
-}
-
-fn wide32(n: u32) -> u64
-    ensures { λ r. ⌜ r ≡ n ⌝ }
-{
-    n as u64
+    if l.number == 0 {
+        let count = l.count;
+        return put_stretches(out, at, tank, &lent[..count]);
+    }
+    refuse(out, at, l.number)
 }
 
 fn put_side(out: &mut [u8], at: usize, side: AnchorType) -> usize
@@ -72,7 +71,7 @@ pub fn put_anchor(out: &mut [u8], at: usize, a: Anchor) -> usize
     let side = a.side;
     let b = say(out, at, b"at=", a.at);
     let c = put_side(out, b, side);
-    let d = say(out, c, b"key=", wide16(a.key));
-    let e = say(out, d, b"lamport=", wide32(a.lamport));
+    let d = say(out, c, b"key=", text::wide16(a.key));
+    let e = say(out, d, b"lamport=", text::wide32(a.lamport));
     say(out, e, b"peer=", a.peer)
 }

@@ -9,12 +9,6 @@ use super::pieces::refuse;
 use super::pieces::say;
 use styles::Styles;
 
-pub fn wide(n: usize) -> u64
-    ensures { λ r. ⌜ r ≡ n ⌝ }
-{
-    n as u64
-}
-
 // A set: its count and its marks.
 pub fn put_set(out: &mut [u8], at: usize, m: Styles) -> usize
     requires { ⌜ 512 ≤ length (now out) ⌝ }
@@ -22,7 +16,7 @@ pub fn put_set(out: &mut [u8], at: usize, m: Styles) -> usize
 {
     let count = m.count;
     let marks = m.marks;
-    let mut k = say(out, at, b"marks=", wide(count));
+    let mut k = say(out, at, b"marks=", text::wide(count));
     let mut i = 0;
     while i < 64 {
         if count <= i {

@@ -2,18 +2,22 @@
 use mathlib.Core.Path.{_≡_, refl, sym, ap, ap₂, subst, _∙_}
 use mathlib.Core.Bool.{Bool, true, false, cond}
 use mathlib.Core.List.{List, [], _∷_, _++_}
-use Prim.Native.Nat.{ℕ, _≤_}
+use Prim.Native.Nat.{ℕ, _+_, _≤_}
+use lib.Dec.{T}
 use borrow.Author.Tests.{ne-eqb}
-use lib.ListN.{length, drop, drop-of-length-le}
+use lib.ListN.{length, drop, length-append, drop-of-length-le}
 use Rattle.tanks.specs.declared.Tanks.{Tanks}
+use Rattle.tanks.specs.House.{House, opening}
 use Rattle.tanks.specs.Pool.{meaning, Sound}
 use Rattle.script.specs.declared.Ending.{Ending}
+use Rattle.script.specs.declared.Op.{Op}
 use Rattle.script.specs.declared.Reader.{Reader}
-use Rattle.script.specs.Lines.{stateOf, endingOf}
+use Rattle.script.specs.Reading.{freshOf}
+use Rattle.script.specs.Lines.{readerAt, stateOf, endingOf}
 use Rattle.answers.specs.Waiting.{Waiting, waiting, Adds}
 use Rattle.clerk.specs.declared.Eaten.{Eaten}
 use Rattle.clerk.specs.declared.Stand.{Stand}
-use Rattle.clerk.specs.Course.{Course, malformedSays, afterBytes, courseOf, Eats, endedAs, atEnd, Closes, Reads, afterRead, written, afterReads, Leads, going, Runs}
+use Rattle.clerk.specs.Course.{Course, malformedSays, afterBytes, courseOf, Eats, endedAs, atEnd, Closes, Reads, afterRead, written, afterReads, Leads, going, mostReads, Runs, ones, RunsWhole}
 use Rattle.clerk.proofs.Bytes.{standing}
 
 module _ {s : Tanks} {stand : Stand} (d : List ℕ) {r : Eaten} (out : List ℕ) {k : ℕ} (ok : Sound s)
@@ -67,17 +71,21 @@ unfolding afterReads
 reads-more x [] input = refl
 reads-more x (i ∷ inputs) input = reads-more (written (afterRead x i)) inputs input
 
-pub leads-none : (x : Course) → Leads x x
+pub leads-none : (x : Course) → Leads 0 x x
 unfolding afterReads
-leads-none x = record { inputs = []; is = refl }
+leads-none x = record { inputs = []; count = refl; is = refl }
 
-module _ {s : Tanks} {reader : Reader} {stand : Stand} {d out : List ℕ} {r : Eaten} (x : Course) (fresh : stand ≡ record { reader = reader; at = 0; over = false })
-    (came : Leads x (going s reader d)) (read : Reads s stand d r out) where
+pub leads-as : {m n : ℕ} {x y : Course} → m ≡ n → Leads m x y → Leads n x y
+leads-as e l = record { inputs = l .inputs; count = l .count ∙ e; is = l .is }
+
+module _ {s : Tanks} {reader : Reader} {stand : Stand} {d out : List ℕ} {r : Eaten} {n : ℕ} (x : Course) (fresh : stand ≡ record { reader = reader; at = 0; over = false })
+    (came : Leads n x (going s reader d)) (read : Reads s stand d r out) where
   -- where the run is when the answers to one read more are written out
-  pub leads-more : {y : Course} → y ≡ written (courseOf (r .tanks) (r .stand) out) → Leads x y
+  pub leads-more : {y : Course} → y ≡ written (courseOf (r .tanks) (r .stand) out) → Leads (n + 1) x y
   leads-more e =
       record {
         inputs = came .inputs ++ (read .input ∷ []);
+        count = length-append (came .inputs) (read .input ∷ []) ∙ ap (λ (k : ℕ). k + 1) (came .count);
         is =
             e
             ∙ ap written (read .is ∙ ap (λ (st : Stand). afterRead (courseOf s st d) (read .input)) fresh)
@@ -85,12 +93,30 @@ module _ {s : Tanks} {reader : Reader} {stand : Stand} {d out : List ℕ} {r : E
             ∙ sym (reads-more x (came .inputs) (read .input));
       }
 
-  pub leads-on : r .stand .over ≡ false → Leads x (going (r .tanks) (r .stand .reader) out)
+  pub leads-on : r .stand .over ≡ false → Leads (n + 1) x (going (r .tanks) (r .stand .reader) out)
   leads-on e = leads-more (ap (λ (b : Bool). record { house = meaning (r .tanks); reader = stateOf (r .stand .reader); waits = waiting out 0; over = b }) (sym e))
 
-pub runs-as : {s t : Tanks} {first reader : Reader} {d : List ℕ} {r : Eaten} (out : List ℕ) {over : Bool} → Sound t → (r .tanks ≡ t) × (r .stand ≡ record { reader = reader; at = 0; over = over }) → Leads (going s first d) (record { house = meaning t; reader = stateOf reader; waits = waiting out 0; over = over }) → Runs s first d r out
-runs-as {s} {t} {first} {reader} {d} {r} out {over} ok stands l =
+-- a run that has come to its end
+pub runs-as : {s t : Tanks} {first reader : Reader} {d : List ℕ} {r : Eaten} {n : ℕ} (out : List ℕ) {over : Bool} → Sound t → (r .tanks ≡ t) × (r .stand ≡ record { reader = reader; at = 0; over = over }) → Leads n (going s first d) (record { house = meaning t; reader = stateOf reader; waits = waiting out 0; over = over }) → (over ≡ false → n ≡ mostReads) → Runs s first d r out
+runs-as {s} {t} {first} {reader} {d} {r} {n} out {over} ok stands l most =
     record {
       sound = subst Sound (sym (stands .0)) ok;
-      leads = record { inputs = l .inputs; is = ap₂ (λ (u : Tanks) (st : Stand). courseOf u st out) (stands .0) (stands .1) ∙ l .is };
+      reads = n;
+      leads = record { inputs = l .inputs; count = l .count; is = ap₂ (λ (u : Tanks) (st : Stand). courseOf u st out) (stands .0) (stands .1) ∙ l .is };
+      ends = λ e. most (sym (ap (λ (st : Stand). st .over) (stands .1)) ∙ e);
+    }
+
+pub not-false : {A : Type 0} → true ≡ false → A
+not-false e = absurd (subst T e tt)
+
+-- from the very beginning
+pub runs-whole : {s : Tanks} {first : Reader} {d out : List ℕ} {r : Eaten} → meaning s ≡ opening ones → first ≡ readerAt (freshOf Op.Nothing) 0 → Runs s first d r out → RunsWhole r
+runs-whole {s} {first} {d} {out} {r} e f x =
+    record {
+      buffer = d;
+      out = out;
+      sound = x .sound;
+      reads = x .reads;
+      leads = subst (λ (c : Course). Leads (x .reads) c (courseOf (r .tanks) (r .stand) out)) (ap₂ (λ (h : House) (i : Reader). record { house = h; reader = stateOf i; waits = waiting d 0; over = false }) e f) (x .leads);
+      ends = x .ends;
     }

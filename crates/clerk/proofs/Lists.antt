@@ -1,13 +1,14 @@
 -- What lists say: a buffer of 1,536 numbers is as good as any, and anchors go out one by one.
-use mathlib.Core.Path.{_≡_, refl, sym, ap, _∙_}
+use mathlib.Core.Path.{_≡_, refl, sym, ap, ap₂, _∙_}
 use mathlib.Core.Bool.{Bool, true, false, cond}
 use mathlib.Core.List.{List, [], _∷_, _++_}
 use Prim.Native.Nat.{ℕ, zero, suc, _-_, _≤_, _<_, min}
 use native.Mathlib.Decide.{decLt}
 use native.Mathlib.Omega.{arith}
 use lib.Dec.{eqb}
-use lib.ListN.{length, take}
-use borrow.Author.Tests.{lt-ltb, le-ltb, le-leb, lt-leb, ne-eqb}
+use lib.ListN.{length, take, length-take}
+use lib.Seq.{take-length}
+use borrow.Author.Tests.{lt-ltb, le-ltb, le-leb, lt-leb}
 use Rattle.runs.specs.Stretches.{inFront}
 use Rattle.lists.specs.declared.Listed.{Listed}
 use Rattle.lists.specs.declared.anchors.Anchor.{Anchor}
@@ -23,11 +24,10 @@ use Rattle.tanks.specs.Pool.{tankOf, meaning, Sound}
 use Rattle.tanks.specs.Contracts.{Taken}
 use Rattle.tanks.proofs.MeaningLaws.{tank-at}
 use Rattle.ask.specs.Asks.{askAt, noList}
-use Rattle.ask.proofs.AskLaws.{asked-part}
+use Rattle.ask.proofs.AskLaws.{asked-part, asked-count}
 use Rattle.ask.proofs.Most.{most-range, most-whole}
-use Rattle.answers.specs.Waiting.{waiting, withAll, Adds}
-use Rattle.answers.specs.Replies.{Pieces, refusedSays, orRefused, listSays, anchorSays, anchorsSay}
-use Rattle.answers.proofs.Laws.{goes-on}
+use Rattle.answers.specs.Waiting.{Pieces}
+use Rattle.answers.specs.Replies.{refusedSays, orRefused, listSays, anchorSays, anchorsSay}
 use Rattle.clerk.specs.Calls.{allAnchorsSay}
 
 -- ---- room
@@ -45,11 +45,13 @@ past-end : (a b room more : ℕ) (v : View) → a < b → v .length < b → rang
 unfolding rangeRefusal listRefusal
 past-end a b room more v h k = rw (lt-leb b a h, lt-ltb (v .length) b k)
 
-module _ (s : Tanks) (ok : Sound s) (t : ℕ) (h : t < 8) where
-  pub range-room : (a b room : ℕ) → rangeNumber a b (min room 1536) (tankAt (meaning s) t) ≡ rangeNumber a b room (tankAt (meaning s) t)
-  range-room a b room =
+-- `lent` places are lent where a call names `room`
+module _ (s : Tanks) (ok : Sound s) (t room lent : ℕ) (least : lent ≡ min room 1536) (h : t < 8) where
+  pub range-room : (a b : ℕ) → rangeNumber a b lent (tankAt (meaning s) t) ≡ rangeNumber a b room (tankAt (meaning s) t)
+  range-room a b =
       let v = tankAt (meaning s) t in
-      elim (decLt (v .length) b) [
+      ap (λ (n : ℕ). rangeNumber a b n v) least
+      ∙ elim (decLt (v .length) b) [
         | yes k ↦
             elim (decLt a b) [
               | yes l ↦ past-end a b (min room 1536) room v l k
@@ -58,22 +60,20 @@ module _ (s : Tanks) (ok : Sound s) (t : ℕ) (h : t < 8) where
         | no k ↦ least-room (rangeRefusal a b v) room (length (rangeList a b v)) (omega (arith, most-range s ok t h a b (omega arith)))
       ]
 
-  pub whole-room : (room : ℕ) → wholeNumber (min room 1536) (tankAt (meaning s) t) ≡ wholeNumber room (tankAt (meaning s) t)
-  whole-room room = least-room 0 room (length (wholeList (tankAt (meaning s) t))) (omega (arith, most-whole s ok t h))
+  pub whole-room : wholeNumber lent (tankAt (meaning s) t) ≡ wholeNumber room (tankAt (meaning s) t)
+  whole-room =
+      ap (λ (n : ℕ). wholeNumber n (tankAt (meaning s) t)) least
+      ∙ least-room 0 room (length (wholeList (tankAt (meaning s) t))) (omega (arith, most-whole s ok t h))
 
 -- ---- what a list of stretches says
-said-by : (b : Bool) (n t : ℕ) (ys part : List ℕ) (l : Listed) → l ≡ cond b noList (filledBeside n ys) → part ≡ cond b [] (unlessRefused n ys) → l .number ≡ 0 → listSays t part ≡ cond b (refusedSays 1) (orRefused n (listSays t ys))
-said-by true n t ys part l e g z = let one : l .number ≡ 1 = ap (λ (x : Listed). x .number) e in absurd (omega arith)
-said-by false n t ys part l e g z =
-    let none : n ≡ 0 = sym (ap (λ (x : Listed). x .number) e) ∙ z in
-    ap (listSays t) (g ∙ ap (λ (m : ℕ). unlessRefused m ys) none) ∙ sym (ap (λ (m : ℕ). orRefused m (listSays t ys)) none)
-
-refused-by : (b : Bool) (n t : ℕ) (ys : List ℕ) (l : Listed) → l ≡ cond b noList (filledBeside n ys) → (l .number ≡ 0 → ⊥) → refusedSays (l .number) ≡ cond b (refusedSays 1) (orRefused n (listSays t ys))
-refused-by true n t ys l e z = ap (λ (x : Listed). refusedSays (x .number)) e
-refused-by false n t ys l e z =
-    let same : l .number ≡ n = ap (λ (x : Listed). x .number) e in
-    let some : n ≡ 0 → ⊥ = λ q. z (same ∙ q) in
-    ap refusedSays same ∙ sym (ap (λ (b : Bool). cond b (listSays t ys) (refusedSays n)) (ne-eqb n 0 some))
+said-by : (b : Bool) (n t : ℕ) (ys part : List ℕ) (l : Listed) → l ≡ cond b noList (filledBeside n ys) → part ≡ cond b [] (unlessRefused n ys) → orRefused (l .number) (listSays t part) ≡ cond b (refusedSays 1) (orRefused n (listSays t ys))
+said-by true n t ys part l e g = ap (λ (x : Listed). orRefused (x .number) (listSays t part)) e
+said-by false n t ys part l e g =
+    ap₂ (λ (x : Listed) (zs : List ℕ). orRefused (x .number) (listSays t zs)) e g ∙ only-given (eqb n 0)
+  where
+    only-given : (z : Bool) → cond z (listSays t (cond z ys [])) (refusedSays n) ≡ cond z (listSays t ys) (refusedSays n)
+    only-given true = refl
+    only-given false = refl
 
 -- `near` judges by the room that is lent, `far` by the room that the call names
 module _ (h : House) (t : ℕ) (near far : View → ℕ) (xs : View → List ℕ) (same : t < 8 → near (tankAt h t) ≡ far (tankAt h t)) (out : List ℕ) (l : Listed) (last : List ℕ)
@@ -85,57 +85,59 @@ module _ (h : House) (t : ℕ) (near far : View → ℕ) (xs : View → List ℕ
         | no k ↦ rw (le-leb 8 t (omega arith))
       ]
 
-  pub list-said : l .number ≡ 0 → listSays t (take (l .count) last) ≡ askAt h t (refusedSays 1) (λ v. orRefused (far v) (listSays t (xs v)))
-  list-said z = said-by (noTank t) (near (tankAt h t)) t (xs (tankAt h t)) (take (l .count) last) l (said .0) (asked-part h t near xs out l last said) z ∙ far-says
+  pub list-said : orRefused (l .number) (listSays t (take (l .count) last)) ≡ askAt h t (refusedSays 1) (λ v. orRefused (far v) (listSays t (xs v)))
+  list-said = said-by (noTank t) (near (tankAt h t)) t (xs (tankAt h t)) (take (l .count) last) l (said .0) (asked-part h t near xs out l last said) ∙ far-says
 
-  pub list-refused : (l .number ≡ 0 → ⊥) → refusedSays (l .number) ≡ askAt h t (refusedSays 1) (λ v. orRefused (far v) (listSays t (xs v)))
-  list-refused z = refused-by (noTank t) (near (tankAt h t)) t (xs (tankAt h t)) l (said .0) z ∙ far-says
+  -- the list is within what was lent
+  pub list-inside : l .count ≤ length last
+  list-inside = omega (arith, asked-count h t near xs out l last said, length-take (l .count) last)
 
 -- ---- anchors
--- one anchor said, the rest still to say
-pub anchor-turn : {d e : List ℕ} {k r : ℕ} {a : Anchor} (i : ℕ) (left more : List Anchor) → 0 < i → left ≡ a ∷ more → Adds d k (anchorSays a) r e → withAll (waiting e r) (anchorsSay (take (i - 1) more)) ≡ withAll (waiting d k) (anchorsSay (take i left))
+-- one anchor more is said
+pub anchor-more : (i : ℕ) (left : List Anchor) (a : Anchor) (more : List Anchor) → 0 < i → left ≡ a ∷ more → anchorsSay (take i left) ≡ anchorSays a ++ anchorsSay (take (i - 1) more)
 unfolding anchorsSay
-anchor-turn zero left more h e x = absurd (omega arith)
-anchor-turn {d} {e = e'} {k} {r} {a} (suc i) left more h e x =
-    let less : suc i - 1 ≡ i = omega arith in
-    ap (λ (j : ℕ). withAll (waiting e' r) (anchorsSay (take j more))) less
-    ∙ goes-on (anchorsSay (take i more)) x
-    ∙ sym (ap (λ (l : List Anchor). withAll (waiting d k) (anchorsSay (take (suc i) l))) e)
+anchor-more zero left a more h e = absurd (omega arith)
+anchor-more (suc i) left a more h e =
+    let less : i ≡ suc i - 1 = omega arith in
+    ap (λ (l : List Anchor). anchorsSay (take (suc i) l)) e ∙ ap (λ (j : ℕ). anchorSays a ++ anchorsSay (take j more)) less
 
--- nothing left to say
-pub anchor-none : {o : List ℕ} {r : ℕ} (d : List ℕ) (k : ℕ) (all : Pieces) (left : List Anchor) → left ≡ [] → withAll (waiting o r) (anchorsSay left) ≡ withAll (waiting d k) all → Adds d k all r o
-unfolding withAll anchorsSay
-anchor-none {o} {r} d k all left e x = record { is = sym (ap (λ (l : List Anchor). withAll (waiting o r) (anchorsSay l)) e) ∙ x }
+-- none is left
+pub anchor-none : (left : List Anchor) → left ≡ [] → anchorsSay left ≡ []
+unfolding anchorsSay
+anchor-none left e = ap anchorsSay e
 
 pub take-none : (i : ℕ) (l : List Anchor) → l ≡ [] → take i l ≡ []
 take-none zero l e = refl
 take-none (suc i) l e = ap (take (suc i)) e
+
+-- as many as there are
+pub take-whole : (n : ℕ) (xs ys : List Anchor) → xs ≡ ys → n ≡ length ys → take n xs ≡ ys
+take-whole n xs ys e k = ap (take n) e ∙ ap (λ (m : ℕ). take m ys) k ∙ take-length ys
 
 -- a tank taken out has the anchors of the tank that it is
 pub taken-anchors : (s : Tanks) (t u : ℕ) (x : Tank) → t < 8 → u ≡ t → Taken s u x → anchors (view x) ≡ anchors (tankAt (meaning s) t)
 taken-anchors s t u x h e k = ap (λ (y : Tank). anchors (view y)) (k .is ∙ ap (tankOf s) e) ∙ ap anchors (sym (tank-at s t freshView h))
 
 -- no such tank
-pub anchors-1 : (h : House) (t room : ℕ) → 8 ≤ t → refusedSays 1 ≡ askAt h t (refusedSays 1) (λ v. orRefused (anchorsNumber room v) (allAnchorsSay (length (anchors v)) v))
+pub anchors-1 : (h : House) (t room : ℕ) → 8 ≤ t → refusedSays 1 ≡ askAt h t (refusedSays 1) (λ v. orRefused (anchorsNumber room v) (allAnchorsSay v))
 anchors-1 h t room k = rw (le-leb 8 t k)
 
 -- too little room, or all of them
-module _ (h : House) (t room : ℕ) (l : Listed) (k : t < 8) (said : l ≡ askAt h t noList (λ v. filledBeside 0 (anchors v))) where
+module _ (h : House) (t : ℕ) (l : Listed) (k : t < 8) (said : l ≡ askAt h t noList (λ v. filledBeside 0 (anchors v))) where
   abbrev all : List Anchor
   all = anchors (tankAt h t)
 
-  counted : l .count ≡ length all
+  pub counted : l .count ≡ length all
   counted = ap (λ (x : Listed). x .count) (said ∙ ap (λ (b : Bool). cond b noList (filledBeside 0 all)) (lt-leb 8 t k))
 
   there : (says : View → Pieces) → askAt h t (refusedSays 1) says ≡ says (tankAt h t)
   there says = ap (λ (b : Bool). cond b (refusedSays 1) (says (tankAt h t))) (lt-leb 8 t k)
 
-  pub anchors-11 : room < l .count → refusedSays 11 ≡ askAt h t (refusedSays 1) (λ v. orRefused (anchorsNumber room v) (allAnchorsSay (length (anchors v)) v))
+  pub anchors-11 : (room : ℕ) → room < l .count → refusedSays 11 ≡ askAt h t (refusedSays 1) (λ v. orRefused (anchorsNumber room v) (allAnchorsSay v))
   unfolding listRefusal
-  anchors-11 g = sym (there (λ v. orRefused (anchorsNumber room v) (allAnchorsSay (length (anchors v)) v)) ∙ ap (λ (b : Bool). orRefused (cond b 11 0) (allAnchorsSay (length all) (tankAt h t))) (lt-ltb room (length all) (omega (arith, counted))))
+  anchors-11 room g = sym (there (λ v. orRefused (anchorsNumber room v) (allAnchorsSay v)) ∙ ap (λ (b : Bool). orRefused (cond b 11 0) (allAnchorsSay (tankAt h t))) (lt-ltb room (length all) (omega (arith, counted))))
 
-  pub anchors-all : l .count ≤ room → allAnchorsSay (l .count) (tankAt h t) ≡ askAt h t (refusedSays 1) (λ v. orRefused (anchorsNumber room v) (allAnchorsSay (length (anchors v)) v))
+  pub anchors-all : (room : ℕ) → l .count ≤ room → allAnchorsSay (tankAt h t) ≡ askAt h t (refusedSays 1) (λ v. orRefused (anchorsNumber room v) (allAnchorsSay v))
   unfolding listRefusal
-  anchors-all g =
-      ap (λ (n : ℕ). allAnchorsSay n (tankAt h t)) counted
-      ∙ sym (there (λ v. orRefused (anchorsNumber room v) (allAnchorsSay (length (anchors v)) v)) ∙ ap (λ (b : Bool). orRefused (cond b 11 0) (allAnchorsSay (length all) (tankAt h t))) (le-ltb room (length all) (omega (arith, counted))))
+  anchors-all room g =
+      sym (there (λ v. orRefused (anchorsNumber room v) (allAnchorsSay v)) ∙ ap (λ (b : Bool). orRefused (cond b 11 0) (allAnchorsSay (tankAt h t))) (le-ltb room (length all) (omega (arith, counted))))

@@ -3,7 +3,7 @@ use mathlib.Core.Path.{_≡_}
 use mathlib.Core.Bool.{false}
 use mathlib.Core.List.{List, [], _∷_, _++_}
 use Prim.Native.Nat.{ℕ, _+_, _%_, _^_}
-use lib.ListN.{length, take}
+use lib.ListN.{length}
 use Rattle.styles.specs.Answers.{stylesOf}
 use Rattle.questions.specs.declared.Asked.{Asked}
 use Rattle.questions.specs.declared.Shown.{Shown}
@@ -22,8 +22,8 @@ use Rattle.script.specs.declared.Call.{Call}
 use Rattle.script.specs.declared.Op.{Op}
 use Rattle.script.specs.Args.{numberAt, markOf, identityOf}
 use Rattle.script.specs.Bytes.{bytes}
-use Rattle.answers.specs.Waiting.{Adds}
-use Rattle.answers.specs.Replies.{Pieces, field, refusedSays, orRefused, acceptedSays, stylesSay, firstSays, countSays, touchedSays, toldSays, shownSays, askedSays, setSays, sharedSays, neededSays, listSays, anchorsSay}
+use Rattle.answers.specs.Waiting.{Pieces, Adds}
+use Rattle.answers.specs.Replies.{field, refusedSays, orRefused, acceptedSays, stylesSay, firstSays, countSays, touchedSays, toldSays, shownSays, askedSays, setSays, sharedSays, neededSays, listSays, anchorsSay}
 use Rattle.clerk.specs.declared.Done.{Done}
 
 -- ---- What a call speaks of, by the order of its op's fields
@@ -31,34 +31,39 @@ use Rattle.clerk.specs.declared.Done.{Done}
 abbrev pub tankFor : Call → ℕ
 tankFor c = numberAt c 0
 
--- a range, and what follows it
+-- where a range starts
 abbrev pub startIn : Call → ℕ
 startIn c = numberAt c 1
 
+-- and where it ends
 abbrev pub endIn : Call → ℕ
 endIn c = numberAt c 2
 
--- a key at a place
+-- a key at a place; what was read has no more than 16 bits (Grammar: holdsOf), so that the remainder is the number itself
 abbrev pub keyAt : Call → ℕ → ℕ
 keyAt c i = numberAt c i % 2 ^ 16
 
--- the settings of an `open`: a share and a limit for each tank
+-- a share, and the limit behind it
 abbrev pub settingAt : Call → ℕ → Setting
 settingAt c i = record { share = numberAt c i; limit = numberAt c (i + 1) }
 
+-- the settings of an `open`: eight such pairs
 abbrev pub settingsOf : Call → List Setting
 settingsOf c = settingAt c 0 ∷ settingAt c 2 ∷ settingAt c 4 ∷ settingAt c 6 ∷ settingAt c 8 ∷ settingAt c 10 ∷ settingAt c 12 ∷ settingAt c 14 ∷ []
 
--- the edits, as the rules have them
+-- the edits, as the rules have them: a mark on a range
 abbrev pub annotation : Call → Edit
 annotation c = annotating (startIn c) (endIn c) (markOf c)
 
+-- so many new positions at a place
 abbrev pub insertion : Call → Edit
 insertion c = inserting (numberAt c 1) (numberAt c 2)
 
+-- a range less
 abbrev pub deletion : Call → Edit
 deletion c = deleting (startIn c) (endIn c)
 
+-- a mark taken off, backward from a last position
 abbrev pub removal : Call → Edit
 removal c = removing (identityOf c) (numberAt c 4)
 
@@ -92,9 +97,9 @@ afterOp Op.Anchors h c = h
 unfoldable pub wholeSays : House → ℕ → ℕ → Pieces
 wholeSays h t room = askAt h t (refusedSays 1) (λ v. orRefused (wholeNumber room v) (listSays t (wholeList v)))
 
--- the count of a tank's anchors and that many of them
-abbrev pub allAnchorsSay : ℕ → View → Pieces
-allAnchorsSay n v = field (bytes "anchors=") n ++ anchorsSay (take n (anchors v))
+-- the count of a tank's anchors, and all of them
+abbrev pub allAnchorsSay : View → Pieces
+allAnchorsSay v = field (bytes "anchors=") (length (anchors v)) ++ anchorsSay (anchors v)
 
 -- a row for each op
 unfoldable pub saysOf : Op → House → Call → Pieces
@@ -119,7 +124,7 @@ saysOf Op.Stretches h c = askAt h (tankFor c) (refusedSays 1) (λ v. orRefused (
 saysOf Op.StretchesNeeded h c = neededSays (askAt h (tankFor c) noList (rangeNeeded (startIn c) (endIn c)))
 saysOf Op.Whole h c = wholeSays h (tankFor c) (numberAt c 1)
 saysOf Op.WholeNeeded h c = neededSays (askAt h (tankFor c) noList (λ v. filledBeside 0 (wholeList v)))
-saysOf Op.Anchors h c = askAt h (tankFor c) (refusedSays 1) (λ v. orRefused (anchorsNumber (numberAt c 1) v) (allAnchorsSay (length (anchors v)) v))
+saysOf Op.Anchors h c = askAt h (tankFor c) (refusedSays 1) (λ v. orRefused (anchorsNumber (numberAt c 1) v) (allAnchorsSay v))
 
 -- a call performed as one of an op: the next state, and its answer behind what waits
 pub record Performs (op : Op) (s : Tanks) (c : Call) (buffer : List ℕ) (at : ℕ) (r : Done) (out : List ℕ) : Type 0 where

@@ -1,21 +1,24 @@
--- A run of the clerk, byte by byte: what the input so far has made of the tanks, and what was said.
+-- A run of the clerk, byte by byte: what the input so far has made of the tanks, where the script stands, and which answers still wait to be written.
 use mathlib.Core.Path.{_≡_}
 use mathlib.Core.Bool.{Bool, true, false, cond}
 use mathlib.Core.List.{List, [], _∷_}
-use Prim.Native.Nat.{ℕ}
+use Prim.Native.Nat.{ℕ, _-_, _^_}
 use lib.Dec.{eqb}
-use lib.ListN.{length}
+use lib.ListN.{length, replicate}
+use Rattle.tanks.specs.declared.Setting.{Setting}
 use Rattle.tanks.specs.declared.Tanks.{Tanks}
-use Rattle.tanks.specs.House.{House}
+use Rattle.tanks.specs.House.{House, opening}
 use Rattle.tanks.specs.Pool.{meaning, Sound}
 use Rattle.script.specs.declared.Call.{Call}
 use Rattle.script.specs.declared.Ending.{Ending}
 use Rattle.script.specs.declared.Event.{Event}
+use Rattle.script.specs.declared.Op.{Op}
 use Rattle.script.specs.declared.Reader.{Reader}
 use Rattle.script.specs.Bytes.{bytes}
-use Rattle.script.specs.Lines.{State, stateOf, countedOf, afterOf, bringsOf, readOf, endingOf}
-use Rattle.answers.specs.Waiting.{Waiting, waiting, withAll}
-use Rattle.answers.specs.Replies.{Pieces, field}
+use Rattle.script.specs.Reading.{freshOf}
+use Rattle.script.specs.Lines.{State, readerAt, stateOf, countedOf, afterOf, bringsOf, readOf, endingOf}
+use Rattle.answers.specs.Waiting.{Pieces, Waiting, waiting, withAll}
+use Rattle.answers.specs.Replies.{field}
 use Rattle.clerk.specs.declared.Eaten.{Eaten}
 use Rattle.clerk.specs.declared.Stand.{Stand}
 use Rattle.clerk.specs.Calls.{afterOp, saysOf}
@@ -51,11 +54,12 @@ unfoldable pub afterBytes : Course → List ℕ → Course
 afterBytes x [] = x
 afterBytes x (byte ∷ more) = afterBytes (afterByte x byte) more
 
--- at the end of the input: in the middle of a line or a group it is a bad line
+-- how an input ends: in the middle of a line or a group it is a bad line
 abbrev pub endedAs : Ending → Course → Course
 endedAs Ending.Clean x = record { house = x .house; reader = x .reader; waits = x .waits; over = true }
 endedAs Ending.Cut x = record { house = x .house; reader = x .reader; waits = withAll (x .waits) (malformedSays (x .reader)); over = true }
 
+-- the course at the end of the input
 unfoldable pub atEnd : Course → Course
 atEnd x = endedAs (endingOf (x .reader)) x
 
@@ -92,16 +96,41 @@ unfoldable pub afterReads : Course → List (List ℕ) → Course
 afterReads x [] = x
 afterReads x (input ∷ inputs) = afterReads (written (afterRead x input)) inputs
 
--- some reads lead from one place to another
-pub record Leads (x y : Course) : Type 0 where
+-- so many reads lead from one place to another
+pub record Leads (reads : ℕ) (x y : Course) : Type 0 where
   pub inputs : List (List ℕ)
+  pub count : length inputs ≡ reads
   pub is : y ≡ afterReads x inputs
 
 -- a run that goes on, with nothing waiting
 abbrev pub going : Tanks → Reader → List ℕ → Course
 going s reader buffer = record { house = meaning s; reader = stateOf reader; waits = waiting buffer 0; over = false }
 
--- a run, whatever its reads gave
+-- more reads are not made: there is no run that uses them up
+abbrev pub mostReads : ℕ
+mostReads = 2 ^ 64 - 1
+
+-- a run, whatever its reads gave: it goes on until it is over
 pub record Runs (s : Tanks) (first : Reader) (buffer : List ℕ) (r : Eaten) (out : List ℕ) : Type 0 where
   pub sound : Sound (r .tanks)
-  pub leads : Leads (going s first buffer) (courseOf (r .tanks) (r .stand) out)
+  pub reads : ℕ
+  pub leads : Leads reads (going s first buffer) (courseOf (r .tanks) (r .stand) out)
+  pub ends : r .stand .over ≡ false → reads ≡ mostReads
+
+-- ---- A whole run
+-- before the first `open` each tank has share 1 and limit 1
+abbrev pub ones : List Setting
+ones = replicate 8 (record { share = 1; limit = 1 })
+
+-- where a run begins: fresh tanks, at the start of a script, with nothing waiting
+abbrev pub beginning : List ℕ → Course
+beginning buffer = record { house = opening ones; reader = stateOf (readerAt (freshOf Op.Nothing) 0); waits = waiting buffer 0; over = false }
+
+-- a run from its beginning to its end, in a buffer of its own
+pub record RunsWhole (r : Eaten) : Type 0 where
+  pub buffer : List ℕ
+  pub out : List ℕ
+  pub sound : Sound (r .tanks)
+  pub reads : ℕ
+  pub leads : Leads reads (beginning buffer) (courseOf (r .tanks) (r .stand) out)
+  pub ends : r .stand .over ≡ false → reads ≡ mostReads

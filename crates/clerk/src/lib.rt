@@ -11,7 +11,7 @@ ghost use Rattle.script.specs.Lines.{stateOf};
 ghost use Rattle.tanks.specs.Pool.{Sound};
 ghost use Rattle.answers.specs.Waiting.{Adds};
 ghost use Rattle.clerk.specs.Calls.{Performs};
-ghost use Rattle.clerk.specs.Course.{malformedSays, Eats, Closes, Reads, Runs};
+ghost use Rattle.clerk.specs.Course.{malformedSays, Eats, Closes, Reads, Runs, RunsWhole};
 use answers::say;
 use edits::annotated;
 use edits::deleted;
@@ -34,16 +34,16 @@ pub struct Done {
 }
 
 // Where a run stands but for the tanks: the reader, how much of the output waits, and whether it is over.
-struct Stand {
-    reader: Reader,
-    at: usize,
-    over: bool,
+pub struct Stand {
+    pub reader: Reader,
+    pub at: usize,
+    pub over: bool,
 }
 
-// The bytes of a read, eaten.
-struct Eaten {
-    tanks: Tanks,
-    stand: Stand,
+// The tanks, and where the run stands, after some of the input.
+pub struct Eaten {
+    pub tanks: Tanks,
+    pub stand: Stand,
 }
 
 // A stand from which nothing waits.
@@ -210,11 +210,13 @@ fn all(s: Tanks, first: Reader, out: &mut [u8]) -> Eaten
     standing(tanks, reader, 0, false)
 }
 
-// Reads calls from standard input to its end, and writes their answers to standard output. Before the first `open` the state is
-// that of eight pairs (1, 1).
-pub fn run() {
+// Reads calls from standard input to its end, and writes their answers to standard output; answers where that led. Before
+// the first `open` the state is that of eight pairs (1, 1).
+pub fn run() -> Eaten
+    ensures { λ r. ⌜ RunsWhole r ⌝ }
+{
     let mut out = io::large_buffer();
     let o = tanks::open([Setting { share: 1, limit: 1 }; 8]);
     let s = o.tanks;
-    all(s, script::begin(), &mut out);
+    all(s, script::begin(), &mut out)
 }

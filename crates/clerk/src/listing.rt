@@ -1,5 +1,4 @@
 // Calls that ask for a list: stretches, the whole tank, anchors, and what they take.
-ghost use mathlib.Core.Bool.{cond};
 ghost use mathlib.Core.Path.{_≡_};
 ghost use Prim.Native.Nat.{_≤_, _<_, min};
 ghost use lib.ListN.{length, take};
@@ -8,13 +7,13 @@ ghost use Rattle.script.specs.Args.{numberAt};
 ghost use Rattle.tank.specs.State as state;
 ghost use Rattle.tanks.specs.House.{tankAt};
 ghost use Rattle.tanks.specs.Pool.{Sound, meaning};
-ghost use Rattle.lists.specs.Anchors.{Stands, rest};
+ghost use Rattle.lists.specs.Anchors.{anchors, Stands, rest};
 ghost use Rattle.answers.specs.Waiting.{Adds};
 ghost use Rattle.answers.specs.Replies.{anchorsSay};
 ghost use Rattle.clerk.specs.Calls.{saysOf, wholeSays, allAnchorsSay};
 use answers::put_anchor;
+use answers::put_list;
 use answers::put_needed;
-use answers::put_stretches;
 use answers::refuse;
 use answers::say;
 use lists::anchors::AnchorCursor;
@@ -22,12 +21,6 @@ use lists::anchors::NextAnchor;
 use script::Call;
 use tank::Tank;
 use tanks::Tanks;
-
-fn wide(n: usize) -> u64
-    ensures { λ r. ⌜ r ≡ n ⌝ }
-{
-    n as u64
-}
 
 // As many places as were named, and no more than there are: no list takes more than 1,515.
 fn places(room: u64) -> usize
@@ -47,11 +40,7 @@ fn range_in(s: Tanks, call: Call, part: &mut [u64], out: &mut [u8], at: usize) -
 {
     let n = call.numbers;
     let l = ask::list_range(s, n[0], n[1], n[2], part);
-    if l.number == 0 {
-        let count = l.count;
-        return put_stretches(out, at, n[0], &part[..count]);
-    }
-    refuse(out, at, l.number)
+    put_list(out, at, n[0], l, part)
 }
 
 fn range_of(s: Tanks, call: Call, buf: &mut [u64], out: &mut [u8], at: usize) -> usize
@@ -89,11 +78,7 @@ fn whole_in(s: Tanks, tank: u64, room: u64, part: &mut [u64], out: &mut [u8], at
     ensures { λ r. ⌜ Adds (now (out .entry)) at (wholeSays (meaning s) tank room) r (now (out .exit)) ⌝ }
 {
     let l = ask::list_whole(s, tank, part);
-    if l.number == 0 {
-        let count = l.count;
-        return put_stretches(out, at, tank, &part[..count]);
-    }
-    refuse(out, at, l.number)
+    put_list(out, at, tank, l, part)
 }
 
 fn whole_of(s: Tanks, tank: u64, room: u64, buf: &mut [u64], out: &mut [u8], at: usize) -> usize
@@ -151,15 +136,15 @@ fn narrow(tank: u64) -> usize
     tank as usize
 }
 
-// The anchors of a tank that there is.
+// The anchors of a tank that there is, of which the count is known.
 fn all_anchors(s: Tanks, tank: u64, count: usize, out: &mut [u8], at: usize) -> usize
-    requires { ⌜ (Sound s) × (tank < 8) ⌝ }
+    requires { ⌜ (Sound s) × (tank < 8) × (count ≡ length (anchors (tankAt (meaning s) tank))) ⌝ }
     requires { ⌜ 512 ≤ length (now out) ⌝ }
-    ensures { λ r. ⌜ Adds (now (out .entry)) at (allAnchorsSay count (tankAt (meaning s) tank)) r (now (out .exit)) ⌝ }
+    ensures { λ r. ⌜ Adds (now (out .entry)) at (allAnchorsSay (tankAt (meaning s) tank)) r (now (out .exit)) ⌝ }
 {
     let t = s.take(narrow(tank));
     let c = lists::anchors::first_anchor(t);
-    let k = say(out, at, b"anchors=", wide(count));
+    let k = say(out, at, b"anchors=", text::wide(count));
     put_anchors(out, k, t, c, count)
 }
 
@@ -177,7 +162,7 @@ pub fn anchors(s: Tanks, call: Call, out: &mut [u8], at: usize) -> usize
     }
     let l = ask::anchors_needed(s, tank);
     let count = l.count;
-    if room < wide(count) {
+    if room < text::wide(count) {
         return refuse(out, at, 11);
     }
     all_anchors(s, tank, count, out, at)

@@ -23,8 +23,8 @@ use Rattle.script.specs.declared.Field.{Field}
 use Rattle.script.specs.declared.Op.{Op}
 use Rattle.script.specs.declared.ReadOp.{ReadOp}
 use Rattle.script.specs.declared.ReadValue.{ReadValue}
-use Rattle.script.specs.Grammar.{nameOf, opName}
-use Rattle.script.specs.Reading.{withinOf, numberOf, opAmong, ops, opNamed, valueOf}
+use Rattle.script.specs.Grammar.{ops, nameOf, opName}
+use Rattle.script.specs.Reading.{withinOf, numberOf, opAmong, opNamed, valueOf}
 use Rattle.script.specs.Writing.{kindOf, valueWord}
 
 -- ---- a field's number

@@ -9,6 +9,8 @@ use Rattle.script.specs.declared.Call.{Call}
 abbrev pub numberAt : Call → ℕ → ℕ
 numberAt c i = getD (c .numbers) i 0
 
+-- A number that was read is within its field's width (Grammar: holdsOf), so that a remainder below is the number itself.
+
 -- the mark of an annotate: key, lamport, peer and flags are its fields 3 to 6
 abbrev pub markOf : Call → Mark
 markOf c = record { key = numberAt c 3 % 2 ^ 16; flags = numberAt c 6 % 2 ^ 8; lamport = numberAt c 4 % 2 ^ 32; peer = numberAt c 5; value = c .value }

@@ -11,6 +11,10 @@ use Rattle.script.specs.declared.Kind.{Kind}
 use Rattle.script.specs.declared.Name.{Name}
 use Rattle.script.specs.Bytes.{bytes}
 
+-- the ops that a script can name
+abbrev pub ops : List Op
+ops = Op.Open ∷ Op.Annotate ∷ Op.Insert ∷ Op.Delete ∷ Op.Remove ∷ Op.Length ∷ Op.Touched ∷ Op.Runs ∷ Op.Value ∷ Op.HasKey ∷ Op.AllValue ∷ Op.Same ∷ Op.Marks ∷ Op.Inherit ∷ Op.Mark ∷ Op.Inherited ∷ Op.Stretches ∷ Op.StretchesNeeded ∷ Op.Whole ∷ Op.WholeNeeded ∷ Op.Anchors ∷ []
+
 -- the name of an op; between two groups there is none
 abbrev pub opName : Op → List ℕ
 opName Op.Nothing = []

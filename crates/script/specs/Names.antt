@@ -1,18 +1,30 @@
 -- The names of all ops in one text, a line each, and so those of all fields.
 use mathlib.Core.Path.{_≡_}
-use mathlib.Core.List.{List}
+use mathlib.Core.List.{List, [], _∷_, _++_, map}
 use Prim.Native.Nat.{ℕ, _≤_}
 use lib.ListN.{length, drop}
+use Rattle.script.specs.declared.Op.{Op}
+use Rattle.script.specs.declared.Field.{Field}
+use Rattle.script.specs.declared.Field.the-variants.{Done, OpName, Tank, Start, End, At, Len, Key, Lamport, Peer, Last, Flags, Value, Rank, Room}
 use Rattle.script.specs.Bytes.{bytes}
+use Rattle.script.specs.Grammar.{ops, opName, fieldsOf, nameOf}
 use Rattle.script.specs.Lines.{lineFront}
+
+-- names one behind the other, a newline between two
+unfoldable pub together : List (List ℕ) → List ℕ
+together [] = []
+together (name ∷ []) = name
+together (name ∷ more ∷ names) = name ++ bytes "\n" ++ together (more ∷ names)
 
 -- the ops' names, the empty one in front
 unfoldable pub opNames : List ℕ
-opNames = bytes "\nopen\nannotate\ninsert\ndelete\nremove\nlength\ntouched\nruns\nvalue\nhas_key\nall_value\nsame\nmarks\ninherit\nmark\ninherited\nstretches\nstretches_needed\nwhole\nwhole_needed\nanchors"
+unfolding together
+opNames = together (map opName (Op.Nothing ∷ ops))
 
 -- the fields' names, the empty one in front
 unfoldable pub fieldNames : List ℕ
-fieldNames = bytes "\nop=\ntank=\nstart=\nend=\nat=\nlen=\nkey=\nlamport=\npeer=\nlast=\nflags=\nkind=\nvalue=\nrank=\nroom=\nshare0=\nlimit0=\nshare1=\nlimit1=\nshare2=\nlimit2=\nshare3=\nlimit3=\nshare4=\nlimit4=\nshare5=\nlimit5=\nshare6=\nlimit6=\nshare7=\nlimit7="
+unfolding together
+fieldNames = together (map nameOf (Done ∷ OpName ∷ Tank ∷ Start ∷ End ∷ At ∷ Len ∷ Key ∷ Lamport ∷ Peer ∷ Last ∷ Flags ∷ Field.Kind ∷ Value ∷ Rank ∷ Room ∷ fieldsOf Op.Open))
 
 -- a name of at most 16 bytes stands in the text from a place on, up to its line's end
 pub record NameAt (all : List ℕ) (at : ℕ) (t : List ℕ) : Type 0 where

@@ -23,7 +23,7 @@ use Rattle.script.specs.declared.ReadOp.{ReadOp}
 use Rattle.script.specs.declared.ReadValue.{ReadValue}
 use Rattle.script.specs.declared.Start.{Start}
 use Rattle.script.specs.Bytes.{bytes}
-use Rattle.script.specs.Grammar.{opName, kindName, nameOf, fieldAt, holdsOf, progressOf}
+use Rattle.script.specs.Grammar.{ops, opName, kindName, nameOf, fieldAt, holdsOf, progressOf}
 
 -- where the value starts in a field's line
 unfoldable pub startOf : Field → List ℕ → Start
@@ -41,10 +41,6 @@ withinOf most (Parsed.Number n) = cond (leb n most) (Parsed.Number n) Parsed.Bad
 -- the number of a field's line
 unfoldable pub numberOf : Field → ℕ → List ℕ → Parsed
 numberOf f most line = afterName f Parsed.Bad (λ t. withinOf most (decimalOf t)) line
-
--- the ops that a script can name
-abbrev pub ops : List Op
-ops = Op.Open ∷ Op.Annotate ∷ Op.Insert ∷ Op.Delete ∷ Op.Remove ∷ Op.Length ∷ Op.Touched ∷ Op.Runs ∷ Op.Value ∷ Op.HasKey ∷ Op.AllValue ∷ Op.Same ∷ Op.Marks ∷ Op.Inherit ∷ Op.Mark ∷ Op.Inherited ∷ Op.Stretches ∷ Op.StretchesNeeded ∷ Op.Whole ∷ Op.WholeNeeded ∷ Op.Anchors ∷ []
 
 -- the first op of a list with a name, or what there is otherwise
 abbrev pub opAmong : List Op → List ℕ → ReadOp → ReadOp

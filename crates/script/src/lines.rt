@@ -20,7 +20,7 @@ use super::fields::field_holds;
 use super::reading::idle;
 use super::reading::read_line;
 
-fn least(a: usize, b: usize) -> usize
+pub fn least(a: usize, b: usize) -> usize
     ensures { λ r. ⌜ r ≡ min a b ⌝ }
 {
     if a < b { a } else { b }

@@ -1,12 +1,13 @@
 // Answers put line by line into a buffer, and written out where its room runs short.
 ghost use mathlib.Core.Path.{_≡_};
-ghost use Prim.Native.Nat.{_+_, _≤_};
+ghost use Prim.Native.Nat.{_+_, _≤_, min};
 ghost use lib.ListN.{length};
 ghost use Rattle.script.specs.Writing.{Puts, freeAt, lineText, fieldText, kindOf, valueWord, valueText, markText};
 ghost use Rattle.script.specs.Bytes.{bytes};
 ghost use Rattle.script.specs.Grammar.{kindName, spelledOf};
 use super::Kind;
 use super::Name;
+use super::lines::least;
 use super::names::kind_name;
 use super::values::bits_of;
 use styles::Mark;
@@ -99,47 +100,27 @@ pub fn put_value(out: &mut [u8], at: usize, v: Value) -> usize
     text::put(out, c, b"\n")
 }
 
-fn wide8(x: u8) -> u64
-    ensures { λ r. ⌜ r ≡ x ⌝ }
-{
-    x as u64
-}
-
-fn wide16(x: u16) -> u64
-    ensures { λ r. ⌜ r ≡ x ⌝ }
-{
-    x as u64
-}
-
-fn wide32(x: u32) -> u64
-    ensures { λ r. ⌜ r ≡ x ⌝ }
-{
-    x as u64
-}
-
 // Puts the six lines of a mark.
 pub fn put_mark(out: &mut [u8], at: usize, m: Mark) -> usize
     requires { ⌜ at + 157 ≤ length (now out) ⌝ }
     ensures { λ r. ⌜ Puts (now (out .entry)) at (markText m) 157 r (now (out .exit)) ⌝ }
 {
-    let a = put_field(out, at, b"key=", wide16(m.key));
-    let b = put_field(out, a, b"lamport=", wide32(m.lamport));
+    let a = put_field(out, at, b"key=", text::wide16(m.key));
+    let b = put_field(out, a, b"lamport=", text::wide32(m.lamport));
     let c = put_field(out, b, b"peer=", m.peer);
-    let d = put_field(out, c, b"flags=", wide8(m.flags));
+    let d = put_field(out, c, b"flags=", text::wide8(m.flags));
     let v = m.value;
     put_value(out, d, v)
 }
 
-fn least(a: usize, b: usize) -> usize
-    ensures { λ r. ⌜ (r ≤ a) × (r ≤ b) ⌝ }
+// Writes the front of a buffer out, up to a place, or up to its end where the place is past it; answers how many bytes
+// that were.
+pub fn emit(out: &[u8], at: usize) -> usize
+    ensures { λ r. ⌜ r ≡ min at (length (now (out .entry))) ⌝ }
 {
-    if a < b { a } else { b }
-}
-
-// Writes the front of a buffer out, up to a place; up to its end where the place is past it.
-pub fn emit(out: &[u8], at: usize) {
     let n = least(at, out.len());
     io::write_all(1, &out[..n]);
+    n
 }
 
 // A place with so much room behind it: what waits in front is written out where there is less.

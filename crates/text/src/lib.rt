@@ -1,4 +1,6 @@
 // Numbers as text, on parts of lines: what is accepted is exactly what is printed.
+mod widths; // widths.rt: narrower numbers as 64 bits
+
 ghost use mathlib.Core.Path.{_≡_};
 ghost use Prim.Native.Nat.{_+_, _-_, _*_, _≤_, _<_};
 ghost use lib.ListN.{length};
@@ -6,6 +8,10 @@ ghost use Rattle.io.specs.Digits.{glyph as glyphOf};
 ghost use Rattle.text.specs.Signed.{plusOf, minusOf, signedOf, sizeOf, signedText};
 ghost use Rattle.text.specs.Starts.{startsOf, sameOf};
 ghost use Rattle.text.specs.Number.{digitOf, stepOf, numberFrom, decimalOf, hexOf, decimalText, hexText, put as putOf};
+pub use widths::wide;
+pub use widths::wide8;
+pub use widths::wide16;
+pub use widths::wide32;
 
 // A number that was read, or none.
 pub enum Parsed {
@@ -25,17 +31,11 @@ enum Size {
     Minus(u64),
 }
 
-fn wide(c: u8) -> u64
-    ensures { λ r. ⌜ (r ≡ c) × (r < 256) ⌝ }
-{
-    c as u64
-}
-
 // The digit that a glyph stands for.
 fn digit(c: u8) -> u64
     ensures { λ r. ⌜ (r ≡ digitOf c) × (r ≤ 168) ⌝ }
 {
-    let w = wide(c);
+    let w = wide8(c);
     if w < 48 {
         return 0;
     }
@@ -64,7 +64,7 @@ fn step(base: u64, v: u64, c: u8) -> Parsed
     if d >= base {
         return Parsed::Bad;
     }
-    if glyph(d) != wide(c) {
+    if glyph(d) != wide8(c) {
         return Parsed::Bad;
     }
     if v > (18446744073709551615 - d) / base {

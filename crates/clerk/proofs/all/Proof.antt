@@ -1,12 +1,13 @@
--- The measure is the count of turns that are left. The reads so far lead from the beginning to where the run is.
+-- The measure is the count of turns that are left. As many reads as turns were made lead from the beginning to where the run is.
+use Prim.Native.Nat.{_-_, _≤_}
 use borrow.Author.Needs.{needs}
 use lib.ListN.{length}
-use mathlib.Core.Bool.{Bool, true, false}
+use mathlib.Core.Bool.{Bool}
 use mathlib.Core.Path.{_≡_, ap, sym}
 use native.Mathlib.Omega.{arith}
 use Rattle.answers.specs.Waiting.{waiting}
-use Rattle.clerk.proofs.Ends.{leads-none, leads-more, leads-on, runs-as}
-use Rattle.clerk.specs.Course.{Leads, going}
+use Rattle.clerk.proofs.Ends.{leads-none, leads-as, leads-more, leads-on, not-false, runs-as}
+use Rattle.clerk.specs.Course.{Course, Leads, going}
 use Rattle.clerk.specs.declared.Stand.{Stand}
 use Rattle.script.specs.Lines.{stateOf}
 use Rattle.tanks.specs.Pool.{Sound, meaning}
@@ -14,13 +15,13 @@ use Rattle.clerk.proofs.all.Statement.{statement}
 use Rattle.clerk.proofs.all.Tie as tie
 
 abbrev Inv-loop : tie.InvT-loop
-Inv-loop out₀ tanks₀ reader₀ turns₀ out tanks reader turns = (length out ≡ length out₀) × Sound tanks × Leads (going tanks₀ reader₀ out₀) (going tanks reader out)
+Inv-loop out₀ tanks₀ reader₀ turns₀ out tanks reader turns = (length out ≡ length out₀) × Sound tanks × (turns ≤ turns₀) × Leads (turns₀ - turns) (going tanks₀ reader₀ out₀) (going tanks reader out)
 
 abbrev μ-loop : tie.MeasureT-loop
 μ-loop out₀ tanks₀ reader₀ turns₀ out tanks reader turns = turns
 
 loop-holds : tie.Need-loop-holds Inv-loop μ-loop
-loop-holds c = (search needs, search needs, leads-none _)
+loop-holds c = (search needs, search needs, search needs, leads-as (omega arith) (leads-none _))
 
 turn-requires : tie.Need-turn-requires Inv-loop μ-loop
 turn-requires c κs = ((search needs, ap (λ (st : Stand). st .over) (c .before .fresh .ensures)), search needs)
@@ -33,16 +34,23 @@ same-length : tie.Need-same-length Inv-loop μ-loop
 same-length c = after-turn (c .before .before .before .before .before .before .before .before .before)
 
 returns : tie.Need-returns Inv-loop μ-loop
-returns c = let e = c .before .before .before .before .before .before .before .before .before .turn in runs-as _ (e .ensures .sound) (c .standing .ensures) (leads-more _ (c .before .before .before .before .before .before .before .before .before .before .before .fresh .ensures) (c .before .before .before .before .before .before .before .before .before .before .before .before .before .loop .inv .2) (c .before .before .before .before .before .before .before .before .before .turn .ensures) (ap (λ (b : Bool). record { house = meaning (e .result .tanks); reader = stateOf (e .result .stand .reader); waits = waiting (e .last .1 .1 .0) 0; over = b }) (sym (c .before .if1 .taken))))
+returns c =
+    let w = c .before .before .before .before .before .before .before .before .before .before .before .before .before .loop in
+    let e = c .before .before .before .before .before .before .before .before .before .turn in
+    let over = ap {B = Course} (λ (b : Bool). record { house = meaning (e .result .tanks); reader = stateOf (e .result .stand .reader); waits = waiting (e .last .1 .1 .0) 0; over = b }) (sym (c .before .if1 .taken)) in
+    runs-as _ (e .ensures .sound) (c .standing .ensures) (leads-more _ (c .before .before .before .before .before .before .before .before .before .before .before .fresh .ensures) (w .inv .3) (e .ensures) over) not-false
 
 loop-less : tie.Need-loop-less Inv-loop μ-loop
 loop-less c = omega arith
 
 loop-again : tie.Need-loop-again Inv-loop μ-loop
-loop-again c = (search needs, c .before .before .before .before .before .before .before .before .turn .ensures .sound, leads-on _ (c .before .before .before .before .before .before .before .before .before .before .fresh .ensures) (c .before .before .before .before .before .before .before .before .before .before .before .before .loop .inv .2) (c .before .before .before .before .before .before .before .before .turn .ensures) (c .if1 .left))
+loop-again c =
+    let w = c .before .before .before .before .before .before .before .before .before .before .before .before .loop in
+    let e = c .before .before .before .before .before .before .before .before .turn in
+    (search needs, e .ensures .sound, omega arith, leads-as (omega arith) (leads-on _ (c .before .before .before .before .before .before .before .before .before .before .fresh .ensures) (w .inv .3) (e .ensures) (c .if1 .left)))
 
 returns-2 : tie.Need-returns-2 Inv-loop μ-loop
-returns-2 c = let w = c .before .before .loop in runs-as _ (w .inv .1) (c .standing2 .ensures) (w .inv .2)
+returns-2 c = let w = c .before .before .loop in runs-as _ (w .inv .1) (c .standing2 .ensures) (w .inv .3) (λ e. omega arith)
 
 pub all-spec : {M : Type 1} → statement M
 all-spec = tie.close (tie.spec Inv-loop μ-loop loop-holds (λ c κs. search needs) turn-requires (λ c κs. search needs) (λ c κs. search needs) same-length returns (λ c. search needs) loop-less loop-again (λ c κs. search needs) (λ c. search needs) returns-2)

@@ -5,7 +5,7 @@ use Rattle.text.proofs.Steps.{digit-low, digit-high}
 use Rattle.text.proofs.digit.Statement.{statement}
 use Rattle.text.proofs.digit.Tie as tie
 
-wide-requires : tie.Need-wide-requires
+wide-requires : tie.Need-wide8-requires
 wide-requires c κs = search needs
 
 returns : tie.Need-returns

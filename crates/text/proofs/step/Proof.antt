@@ -12,7 +12,7 @@ use Rattle.text.proofs.step.Reads as reads
 use Rattle.text.proofs.step.Lts as lts
 use Rattle.text.proofs.digit.Reads as digit-reads
 use Rattle.text.proofs.glyph.Reads as glyph-reads
-use Rattle.text.proofs.wide.Reads as wide-reads
+use Rattle.text.proofs.widths.wide8.Reads as wide-reads
 
 glyph-is : {c d g w : ℕ} → d ≡ digitOf c → g ≡ glyph d → w ≡ c → glyph (digitOf c) ≡ c → g ≡ w
 glyph-is {c} {d} {g} {w} a b e f = b ∙ ap (λ (x : ℕ). glyph x) a ∙ f ∙ sym e
@@ -29,14 +29,14 @@ returns c = bad-digit _ _ _ _ (c .before .digit .ensures .0) (c .if1 .taken)
 glyph-requires : tie.Need-glyph-requires
 glyph-requires c κs = search needs
 
-wide-requires : tie.Need-wide-requires
+wide-requires : tie.Need-wide8-requires
 wide-requires c κs = search needs
 
 returns-2 : tie.Need-returns-2
 returns-2 c =
     let w = c .before in
     let d = w .before .before .before .digit in
-    bad-glyph _ _ _ _ (d .ensures .0) (w .before .before .if1 .left) (λ e. c .if2 .taken (glyph-is (d .ensures .0) (w .before .glyph .ensures) (w .wide .ensures .0) e))
+    bad-glyph _ _ _ _ (d .ensures .0) (w .before .before .if1 .left) (λ e. c .if2 .taken (glyph-is (d .ensures .0) (w .before .glyph .ensures) (w .wide8 .ensures .0) e))
 
 sub-if3 : tie.Need-sub-if3
 sub-if3 c = search needs
@@ -48,7 +48,7 @@ returns-3 : tie.Need-returns-3
 returns-3 c =
     let w = c .before .before in
     let d = w .before .before .before .digit in
-    bad-wide _ _ _ _ (d .ensures .0) (w .before .before .if1 .left) (is-glyph (d .ensures .0) (w .before .glyph .ensures) (w .wide .ensures .0) (c .before .if2 .left))
+    bad-wide _ _ _ _ (d .ensures .0) (w .before .before .if1 .left) (is-glyph (d .ensures .0) (w .before .glyph .ensures) (w .wide8 .ensures .0) (c .before .if2 .left))
     (rw (d .ensures .0) at (fits-not _ _ _ (w .before .before .before .before .pre) (d .ensures .1) (c .if3 .taken)))
 
 mul-t6 : tie.Need-mul-t6
@@ -67,7 +67,7 @@ returns-4 : tie.Need-returns-4
 returns-4 c =
     let w = c .before .before in
     let d = w .before .before .before .digit in
-    good _ _ _ _ (d .ensures .0) (w .before .before .if1 .left) (is-glyph (d .ensures .0) (w .before .glyph .ensures) (w .wide .ensures .0) (c .before .if2 .left))
+    good _ _ _ _ (d .ensures .0) (w .before .before .if1 .left) (is-glyph (d .ensures .0) (w .before .glyph .ensures) (w .wide8 .ensures .0) (c .before .if2 .left))
     (rw (d .ensures .0) at (fits _ _ _ (w .before .before .before .before .pre) (d .ensures .1) (c .if3 .left)))
 
 pub step-spec : {M : Type 1} → statement M

@@ -1,24 +1,23 @@
--- The count, and that many of the tank that was taken out.
+-- The count, and the anchors of the tank that was taken out.
 use borrow.Author.Needs.{needs}
-use lib.ListN.{take}
-use mathlib.Core.List.{List}
 use mathlib.Core.Path.{ap, _∙_}
 use Rattle.answers.proofs.Laws.{and-then, adds-as}
 use Rattle.answers.specs.Replies.{field, anchorsSay}
-use Rattle.clerk.proofs.Lists.{taken-anchors}
-use Rattle.lists.specs.declared.anchors.Anchor.{Anchor}
+use Rattle.clerk.proofs.Lists.{taken-anchors, take-whole}
 use Rattle.script.specs.Bytes.{bytes}
 use Rattle.clerk.proofs.listing.all_anchors.Statement.{statement}
 use Rattle.clerk.proofs.listing.all_anchors.Tie as tie
 
 returns : tie.Need-returns
 returns c =
-    let a = c .before .before .before .before .before .before .before .before .before .before .before .before .before .before .args in
+    let s = c .before .before .before .before .before .before .before .before .before .before .before .before .before .before in
+    let a = s .args in
     let t = c .before .before .before .before .before .before .before .before .before .before .before in
-    let same = c .before .before .before .before .before .before .before .before .before .before .first-anchor .ensures .1 ∙ taken-anchors (a .s) (a .tank) _ _ (c .before .before .before .before .before .before .before .before .before .before .before .before .before .before .pre .0 .1) (t .before .narrow .ensures) (t .take .ensures) in
+    let known = s .pre .0 in
+    let same = c .before .before .before .before .before .before .before .before .before .before .first-anchor .ensures .1 ∙ taken-anchors (a .s) (a .tank) _ _ (known .1) (t .before .narrow .ensures) (t .take .ensures) in
     and-then
-    (adds-as (ap (field (bytes "anchors=")) (c .before .before .before .before .before .before .before .wide .ensures)) (c .before .before .before .before .before .before .say .ensures))
-    (adds-as (ap (λ (l : List Anchor). anchorsSay (take (a .count) l)) same) (c .before .before .put-anchors .ensures))
+    (adds-as (ap (field (bytes "anchors=")) (c .before .before .before .before .before .before .before .wide .ensures ∙ known .2)) (c .before .before .before .before .before .before .say .ensures))
+    (adds-as (ap anchorsSay (take-whole (a .count) _ _ same (known .2))) (c .before .before .put-anchors .ensures))
 
 pub all-anchors-spec : {M : Type 1} → statement M
 all-anchors-spec = tie.close (tie.spec (λ c κs. search needs) (λ c κs. search needs) (λ c κs. search needs) (λ c. search needs) (λ c κs. search needs) (λ c κs. search needs) (λ c κs. search needs) (λ c. search needs) returns)

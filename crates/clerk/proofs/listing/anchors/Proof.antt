@@ -2,8 +2,8 @@
 use borrow.Author.Needs.{needs}
 use native.Mathlib.Omega.{arith}
 use Rattle.answers.proofs.Laws.{adds-as}
-use Rattle.clerk.proofs.Lists.{anchors-1, anchors-11, anchors-all}
-use Rattle.clerk.specs.Calls.{saysOf}
+use Rattle.clerk.proofs.Lists.{anchors-1, counted, anchors-11, anchors-all}
+use Rattle.clerk.specs.Calls.{tankFor, saysOf}
 use Rattle.script.specs.Args.{numberAt}
 use Rattle.tanks.specs.Pool.{meaning}
 use Rattle.clerk.proofs.listing.anchors.Statement.{statement}
@@ -15,11 +15,17 @@ returns c = let a = c .before .before .before .before .before .before .before .a
 
 returns-2 : tie.Need-returns-2
 unfolding saysOf
-returns-2 c = let a = c .before .before .before .before .before .before .before .before .before .before .args in let w = c .before .before .before .before .before in adds-as (anchors-11 (meaning (a .s)) (numberAt (a .call) 0) (numberAt (a .call) 1) _ (c .before .before .before .before .before .before .before .if1 .left) (w .before .anchors-needed .ensures) (omega (arith, w .wide .ensures, c .before .before .before .before .if2 .taken))) (c .before .before .refuse2 .ensures)
+returns-2 c = let a = c .before .before .before .before .before .before .before .before .before .before .args in let w = c .before .before .before .before .before in adds-as (anchors-11 (meaning (a .s)) (tankFor (a .call)) _ (c .before .before .before .before .before .before .before .if1 .left) (w .before .anchors-needed .ensures) (numberAt (a .call) 1) (omega (arith, w .wide .ensures, c .before .before .before .before .if2 .taken))) (c .before .before .refuse2 .ensures)
 
 returns-3 : tie.Need-returns-3
 unfolding saysOf
-returns-3 c = let a = c .before .before .before .before .before .before .before .before .before .before .args in let w = c .before .before .before .before .before in adds-as (anchors-all (meaning (a .s)) (numberAt (a .call) 0) (numberAt (a .call) 1) _ (c .before .before .before .before .before .before .before .if1 .left) (w .before .anchors-needed .ensures) (omega (arith, w .wide .ensures, c .before .before .before .before .if2 .left))) (c .before .before .all-anchors .ensures)
+returns-3 c = let a = c .before .before .before .before .before .before .before .before .before .before .args in let w = c .before .before .before .before .before in adds-as (anchors-all (meaning (a .s)) (tankFor (a .call)) _ (c .before .before .before .before .before .before .before .if1 .left) (w .before .anchors-needed .ensures) (numberAt (a .call) 1) (omega (arith, w .wide .ensures, c .before .before .before .before .if2 .left))) (c .before .before .all-anchors .ensures)
+
+-- the count that was answered is that of the tank
+all-anchors-requires : tie.Need-all-anchors-requires
+all-anchors-requires c κs =
+    let a = c .before .before .before .before .before .before .before .args in
+    ((search needs, search needs, counted (meaning (a .s)) (tankFor (a .call)) _ (c .before .before .before .before .if1 .left) (c .before .before .before .anchors-needed .ensures)), search needs)
 
 pub anchors-spec : {M : Type 1} → statement M
-anchors-spec = tie.close (tie.spec (λ c. search needs) (λ c. search needs) (λ c κs. search needs) (λ c. search needs) returns (λ c κs. search needs) (λ c κs. search needs) (λ c κs. search needs) (λ c. search needs) returns-2 (λ c κs. search needs) (λ c. search needs) returns-3)
+anchors-spec = tie.close (tie.spec (λ c. search needs) (λ c. search needs) (λ c κs. search needs) (λ c. search needs) returns (λ c κs. search needs) (λ c κs. search needs) (λ c κs. search needs) (λ c. search needs) returns-2 all-anchors-requires (λ c. search needs) returns-3)

@@ -2,23 +2,23 @@
 use Prim.Native.Nat.{_-_}
 use borrow.Author.Needs.{needs}
 use lib.ListN.{length, take}
-use mathlib.Core.Path.{_≡_, refl, _∙_}
+use mathlib.Core.Path.{_≡_}
 use native.Mathlib.Omega.{arith}
+use Rattle.answers.proofs.Laws.{Left, left-all, left-more, left-none}
 use Rattle.answers.specs.Replies.{anchorsSay}
-use Rattle.answers.specs.Waiting.{waiting, withAll}
-use Rattle.clerk.proofs.Lists.{anchor-turn, anchor-none, take-none}
+use Rattle.clerk.proofs.Lists.{anchor-more, anchor-none, take-none}
 use Rattle.lists.specs.Anchors.{Stands, Steps, rest}
 use Rattle.clerk.proofs.listing.put_anchors.Statement.{statement}
 use Rattle.clerk.proofs.listing.put_anchors.Tie as tie
 
 abbrev Inv-loop : tie.InvT-loop
-Inv-loop out₀ at t left k₀ c₀ i₀ out k c i = (length out ≡ length out₀) × Stands t c × (withAll (waiting out k) (anchorsSay (take i (rest t c))) ≡ withAll (waiting out₀ k₀) (anchorsSay (take i₀ (rest t c₀))))
+Inv-loop out₀ at t left k₀ c₀ i₀ out k c i = (length out ≡ length out₀) × Stands t c × Left out₀ k₀ (anchorsSay (take i₀ (rest t c₀))) k out (anchorsSay (take i (rest t c)))
 
 abbrev μ-loop : tie.MeasureT-loop
 μ-loop out₀ at t left k₀ c₀ i₀ out k c i = i
 
 loop-holds : tie.Need-loop-holds Inv-loop μ-loop
-loop-holds c = (search needs, search needs, refl)
+loop-holds c = (search needs, search needs, left-all _ _ _)
 
 returns : tie.Need-returns Inv-loop μ-loop
 unfolding Steps
@@ -26,7 +26,7 @@ returns c =
     let w = c .before .before .before .before .loop in
     let t = c .before .before .before .before .before .before .args .t in
     let over = rw (c .enum-told .given .1) at (c .before .before .next-anchor .ensures) in
-    anchor-none _ _ _ (take (w .i) (rest t (w .c))) (take-none (w .i) (rest t (w .c)) over) (w .inv .2)
+    left-none (anchor-none (take (w .i) (rest t (w .c))) (take-none (w .i) (rest t (w .c)) over)) (w .inv .2)
 
 loop-again : tie.Need-loop-again Inv-loop μ-loop
 unfolding Steps
@@ -36,14 +36,14 @@ loop-again c =
     let w = c .before .before .before .before .before .before .before .before .before .loop in
     let t = c .before .before .before .before .before .before .before .before .before .before .before .args .t in
     let step = rw (a .a .given .1) at (n .next-anchor .ensures) in
-    (search needs, step .1, anchor-turn (w .i) (rest t (w .c)) _ (c .before .before .before .before .before .before .before .before .loop-test .taken) (step .0) (c .before .before .put-anchor .ensures) ∙ w .inv .2)
+    (search needs, step .1, left-more (anchor-more (w .i) (rest t (w .c)) _ _ (c .before .before .before .before .before .before .before .before .loop-test .taken) (step .0)) (c .before .before .put-anchor .ensures) (w .inv .2))
 
 returns-2 : tie.Need-returns-2 Inv-loop μ-loop
 returns-2 c =
     let w = c .before .loop in
     let t = c .before .before .before .args .t in
     let zero : w .i ≡ 0 = omega arith in
-    anchor-none _ _ _ (take (w .i) (rest t (w .c))) (rw zero) (w .inv .2)
+    left-none (anchor-none (take (w .i) (rest t (w .c))) (rw zero)) (w .inv .2)
 
 pub put-anchors-spec : {M : Type 1} → statement M
 put-anchors-spec = tie.close (tie.spec Inv-loop μ-loop loop-holds (λ c κs. search needs) (λ c. search needs) (λ c. search needs) (λ c. search needs) returns (λ c κs. search needs) (λ c. search needs) (λ c. search needs) loop-again (λ c. search needs) returns-2)

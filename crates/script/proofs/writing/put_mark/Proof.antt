@@ -18,7 +18,7 @@ returns c =
     let p = q .before .before .before .before .before .before in
     let key = puts-as (ap (fieldText (bytes "key=")) (p .before .wide16 .ensures)) (p .put-field .ensures) in
     let lamport = puts-as (ap (fieldText (bytes "lamport=")) (q .before .wide32 .ensures)) (q .put-field2 .ensures) in
-    let flags = puts-as (ap (fieldText (bytes "flags=")) (s .before .wide8 .ensures)) (s .put-field4 .ensures) in
+    let flags = puts-as (ap (fieldText (bytes "flags=")) (s .before .wide8 .ensures .0)) (s .put-field4 .ensures) in
     puts-then (omega arith) (puts-then (omega arith) (puts-then (omega arith) (puts-then (omega arith) key lamport) (r .put-field3 .ensures)) flags) (v .put-value .ensures)
 
 pub put-mark-spec : {M : Type 1} → statement M
