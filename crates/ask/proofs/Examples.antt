@@ -22,8 +22,8 @@ use Rattle.lists.proofs.AnchorsOnRuns.{edges, anchorsOn, anchors-on}
 use Rattle.questions.specs.declared.Told.the-variants.{Refused}
 use Rattle.questions.specs.Questions.{yesNo, yesNoRefusal, rangeContainsKey}
 use Rattle.tanks.specs.declared.Setting.{Setting}
-use Rattle.tanks.specs.Settings.{fit, shares, accepted as settingsFit, claims, judgement}
-use Rattle.tanks.specs.House.{House, tankAt, openNumber, noTank, refusalAt, setInserted, firstRemoved}
+use Rattle.tanks.specs.Settings.{allKeepRule, shares, accepted as settingsFit, claims, judgement}
+use Rattle.tanks.specs.House.{House, tankAt, openNumber, noTank, refusalAt, insertedSetAt, removedFirstAt}
 use Rattle.tanks.specs.Pool.{tankNumbers}
 use Rattle.tanks.proofs.OnRuns.{Kept, fresh, keptAt, heldOn, viewOn, houseOn, numberAt, allAfter, may, Way, step, steps, Fit, AllFit, all-fresh, opening-on, tank-on, held-on, number-on, after-fit, after-on, step-clear, steps-clear, steps-on}
 use Rattle.ask.specs.Examples.{Answer, refused, accepted, gives, first, reply, answer, marksAt, Look, Looks, winners, Line, given, call, holds, containsKey, wins, anchored, Says, leaves, AllSaid, Case, Holds, AllHold, A, B, C, table}
@@ -49,7 +49,7 @@ unfolding replyOn
 answerOn n e v = cond (eqb n 0) (replyOn n e v) (refused n)
 
 answer-by : (h : House) (t : ℕ) (e : Edit) → answer h t e ≡ answerOn (refusalAt h t e) e (tankAt h t)
-unfolding answerOn reply setInserted firstRemoved
+unfolding answerOn reply insertedSetAt removedFirstAt
 answer-by h t (annotating a b m) = refl
 answer-by h t (inserting pos len) = refl
 answer-by h t (deleting a b) = refl
@@ -215,7 +215,7 @@ all-hold (c ∷ cs) e =
     (case-holds c here, all-hold cs there)
 
 pub examples : AllHold table
-unfolding table found claimed abc settingsFit fit shares
+unfolding table found claimed abc settingsFit allKeepRule shares
     numberAt allAfter step steps may judgement claims known numberOn runsAfter touchedAfter ranges rangeOf anchorsOn edges anchorsOf
     altered deleted inserted copyRuns pushRun joinRun changing gather commonAt setAt total
     pick withBit placeOf member stands numbers clash sameContent common hasKey winner winners

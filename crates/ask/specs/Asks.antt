@@ -5,7 +5,7 @@ use Rattle.lists.specs.declared.Listed.{Listed}
 use Rattle.tank.specs.Rules.{View}
 use Rattle.tanks.specs.House.{House, noTank, tankAt}
 
--- 1 where there is no such tank; else what the question says of it
+-- of a tank that there is, what the question says of it; of no such tank (refusal 1), what is handed in for that
 abbrev pub askAt : {R : Type 0} → House → ℕ → R → (View → R) → R
 askAt h t refused asks = cond (noTank t) refused (asks (tankAt h t))
 

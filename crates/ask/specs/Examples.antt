@@ -20,7 +20,7 @@ use Rattle.questions.specs.Questions.{rangeContainsKey}
 use Rattle.tank.specs.Rules.{View, within, freshLength, runsHeld, Edit, annotating, inserting, deleting, removing}
 use Rattle.tanks.specs.declared.Setting.{Setting}
 use Rattle.tanks.specs.Settings.{claims}
-use Rattle.tanks.specs.House.{House, tankAt, held, openNumber, opening, refusalAt, afterAt, setInserted, firstRemoved, Call, afterAll}
+use Rattle.tanks.specs.House.{House, tankAt, held, openNumber, opening, refusalAt, afterAt, insertedSetAt, removedFirstAt, Call, afterAll}
 use Rattle.tanks.specs.Pool.{tankNumbers}
 use Rattle.ask.specs.Asks.{askAt}
 
@@ -35,9 +35,9 @@ pub data Answer : Type 0 where
 -- what an accepted call answers: an insertion its set, a removal the first position, annotate and delete no more than accepted
 unfoldable pub reply : House → ℕ → Edit → Answer
 reply h t (annotating a b m) = accepted
-reply h t (inserting pos len) = gives (setInserted h t pos len)
+reply h t (inserting pos len) = gives (insertedSetAt h t pos len)
 reply h t (deleting a b) = accepted
-reply h t (removing id last) = first (firstRemoved h t id last)
+reply h t (removing id last) = first (removedFirstAt h t id last)
 
 -- what a call answers: its refusal's number, or what an accepted call does
 abbrev pub answer : House → ℕ → Edit → Answer
@@ -144,17 +144,13 @@ B = mark 1 5 2
 abbrev pub C : Mark
 C = mark 2 3 1
 
--- T, a fresh tank's length
-abbrev pub T : ℕ
-T = freshLength
-
 -- these marks on a .. b
 abbrev pub on : ℕ → ℕ → List Mark → Range
 on a b ms = record { start = a; end = b; marks = ms }
 
--- length, runs, marks
+-- length, how many runs, marks; a fresh tank's length, T, is `freshLength`
 abbrev pub look : ℕ → ℕ → List Range → Look
-look length runs marks = record { length = length; runs = runs; marks = marks }
+look l n rs = record { length = l; runs = n; marks = rs }
 
 -- eight pairs of this share and this limit
 abbrev pub opened : ℕ → ℕ → List Line → Case
@@ -170,7 +166,7 @@ edit = call 0
 
 -- A on 10..20, with which most of them begin
 abbrev pub first-A : Line
-first-A = edit (annotating 10 20 A) accepted (look T 3 (on 10 20 (A ∷ []) ∷ []))
+first-A = edit (annotating 10 20 A) accepted (look freshLength 3 (on 10 20 (A ∷ []) ∷ []))
 
 -- A on n positions, every second one from p on: 2n runs where p is 0, and 2n + 1 where it is 1
 unfoldable pub dots : ℕ → ℕ → List Range
@@ -184,7 +180,7 @@ laying t (r ∷ rs) = record { tank = t; edit = annotating (r .start) (r .end) A
 
 -- A on the last position makes a run more
 abbrev pub last-A : Edit
-last-A = annotating (T - 1) T A
+last-A = annotating (freshLength - 1) freshLength A
 
 -- ---- The table
 -- the twelve numbered examples in their order; the tenth takes two lines of the table
@@ -192,7 +188,7 @@ unfoldable pub table : List Case
 unfolding dots laying
 table =
     -- 1. Insert 5, len 3: empty set, length T.
-    alone (edit (inserting 5 3) (gives []) (look T 1 []) ∷ [])
+    alone (edit (inserting 5 3) (gives []) (look freshLength 1 []) ∷ [])
     -- 2. A on 10..20: 3 runs, start at 10, end at 19.
     ∷ alone (first-A ∷ anchored 0 (anchorOf 10 Start A ∷ anchorOf 19 End A ∷ []) ∷ [])
     -- 3. Then insert 15, len 4: {A}, A on 10..24, length 4611686018427387907.
@@ -202,27 +198,27 @@ table =
     -- 5. A on 10..20, C on 15..25: 5 runs. Insert 15, len 2: {A}, still 5.
     ∷ alone
     (first-A
-    ∷ edit (annotating 15 25 C) accepted (look T 5 (on 10 15 (A ∷ []) ∷ on 15 20 (A ∷ C ∷ []) ∷ on 20 25 (C ∷ []) ∷ []))
+    ∷ edit (annotating 15 25 C) accepted (look freshLength 5 (on 10 15 (A ∷ []) ∷ on 15 20 (A ∷ C ∷ []) ∷ on 20 25 (C ∷ []) ∷ []))
     ∷ edit (inserting 15 2) (gives (A ∷ [])) (look 4611686018427387905 5 (on 10 17 (A ∷ []) ∷ on 17 22 (A ∷ C ∷ []) ∷ on 22 27 (C ∷ []) ∷ []))
     ∷ [])
     -- 6. A on 10..20, C on 20..30: 4 runs. Insert 20, len 1: empty, 5 runs.
     ∷ alone
     (first-A
-    ∷ edit (annotating 20 30 C) accepted (look T 4 (on 10 20 (A ∷ []) ∷ on 20 30 (C ∷ []) ∷ []))
+    ∷ edit (annotating 20 30 C) accepted (look freshLength 4 (on 10 20 (A ∷ []) ∷ on 20 30 (C ∷ []) ∷ []))
     ∷ edit (inserting 20 1) (gives []) (look 4611686018427387904 5 (on 10 20 (A ∷ []) ∷ on 21 31 (C ∷ []) ∷ []))
     ∷ [])
     -- 7. A and B on 10..20: B wins key 1.
     ∷ alone
-    (first-A ∷ edit (annotating 10 20 B) accepted (look T 3 (on 10 20 (A ∷ B ∷ []) ∷ [])) ∷ wins 0 1 10 (replicate 10 (Shows B)) ∷ [])
+    (first-A ∷ edit (annotating 10 20 B) accepted (look freshLength 3 (on 10 20 (A ∷ B ∷ []) ∷ [])) ∷ wins 0 1 10 (replicate 10 (Shows B)) ∷ [])
     -- 8. A on 10..20, delete 10..20: 1 run, length 4611686018427387893. Insert 0, len 10: length T.
     ∷ alone
-    (first-A ∷ edit (deleting 10 20) accepted (look 4611686018427387893 1 []) ∷ edit (inserting 0 10) (gives []) (look T 1 []) ∷ [])
+    (first-A ∷ edit (deleting 10 20) accepted (look 4611686018427387893 1 []) ∷ edit (inserting 0 10) (gives []) (look freshLength 1 []) ∷ [])
     -- 9. A on 10..20, remove from 19: answer 10, 1 run.
-    ∷ alone (first-A ∷ edit (removing (idOf A) 19) (first 10) (look T 1 []) ∷ [])
+    ∷ alone (first-A ∷ edit (removing (idOf A) 19) (first 10) (look freshLength 1 []) ∷ [])
     -- 10. Remove from 14 instead: answer 10, A on 15..20.
-    ∷ alone (first-A ∷ edit (removing (idOf A) 14) (first 10) (look T 3 (on 15 20 (A ∷ []) ∷ [])) ∷ [])
+    ∷ alone (first-A ∷ edit (removing (idOf A) 14) (first 10) (look freshLength 3 (on 15 20 (A ∷ []) ∷ [])) ∷ [])
     -- From 5: answer 6.
-    ∷ alone (first-A ∷ edit (removing (idOf A) 5) (first 6) (look T 3 (on 10 20 (A ∷ []) ∷ [])) ∷ [])
+    ∷ alone (first-A ∷ edit (removing (idOf A) 5) (first 6) (look freshLength 3 (on 10 20 (A ∷ []) ∷ [])) ∷ [])
     -- 11. A on 10..20. Key 1 in 20..30: no. In 19..20: yes. In 5..5: no.
     ∷ alone (first-A ∷ containsKey 0 20 30 1 No ∷ containsKey 0 19 20 1 Yes ∷ containsKey 0 5 5 1 No ∷ [])
     -- 12. Shares 40, limits 200. Tank 0 holds 200, tank 1 holds 72, tank 3 holds 39, the rest 40: sum 512.
@@ -234,9 +230,9 @@ table =
     ∷ given (laying 3 (dots 1 19))
     ∷ given (laying 4 (dots 0 20) ++ laying 5 (dots 0 20) ++ laying 6 (dots 0 20) ++ laying 7 (dots 0 20))
     ∷ holds (200 ∷ 72 ∷ 40 ∷ 39 ∷ 40 ∷ 40 ∷ 40 ∷ 40 ∷ []) 512
-    ∷ call 2 last-A (refused 10) (look T 40 (dots 0 20))
-    ∷ call 0 last-A (refused 9) (look T 200 (dots 0 100))
-    ∷ call 3 last-A accepted (look T 40 (dots 1 19 ++ on (T - 1) T (A ∷ []) ∷ []))
+    ∷ call 2 last-A (refused 10) (look freshLength 40 (dots 0 20))
+    ∷ call 0 last-A (refused 9) (look freshLength 200 (dots 0 100))
+    ∷ call 3 last-A accepted (look freshLength 40 (dots 1 19 ++ on (freshLength - 1) freshLength (A ∷ []) ∷ []))
     ∷ holds (200 ∷ 72 ∷ 40 ∷ 40 ∷ 40 ∷ 40 ∷ 40 ∷ 40 ∷ []) 512
     ∷ [])
     ∷ []

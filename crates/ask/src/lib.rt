@@ -4,9 +4,9 @@ ghost use mathlib.Core.Bool.{cond, false};
 ghost use mathlib.Core.List.{[]};
 ghost use Prim.Native.Nat.{_<_};
 ghost use lib.ListN.{length};
-ghost use Rattle.lists.specs.Lists.{rangeList, wholeList, rangeNeeded, rangeNumber, wholeNumber, unlessRefused, filledBeside};
+ghost use Rattle.lists.specs.Lists.{rangeList, wholeList, rangeNeeded, wholeNeeded, rangeNumber, wholeNumber, unlessRefused, filledBeside};
 ghost use Rattle.runs.specs.Stretches.{inFront};
-ghost use Rattle.lists.specs.Anchors.{anchors, anchorsNumber};
+ghost use Rattle.lists.specs.Anchors.{anchors, anchorsNeeded, anchorsNumber};
 ghost use Rattle.tanks.specs.Contracts.{Taken};
 ghost use Rattle.tanks.specs.House.{askNumber, noTank};
 ghost use Rattle.tanks.specs.Pool.{meaning, Sound};
@@ -180,7 +180,7 @@ pub fn stretches_needed(s: Tanks, tank: u64, start: u64, end: u64) -> Listed
 // How many u64 the list of the whole tank takes.
 pub fn whole_needed(s: Tanks, tank: u64) -> Listed
     requires { ⌜ Sound s ⌝ }
-    ensures { λ r. ⌜ r ≡ askAt (meaning s) tank noList (λ v. filledBeside 0 (wholeList v)) ⌝ }
+    ensures { λ r. ⌜ r ≡ askAt (meaning s) tank noList wholeNeeded ⌝ }
 {
     if 8 <= tank {
         return no_list();
@@ -191,7 +191,7 @@ pub fn whole_needed(s: Tanks, tank: u64) -> Listed
 // How many anchors the tank has.
 pub fn anchors_needed(s: Tanks, tank: u64) -> Listed
     requires { ⌜ Sound s ⌝ }
-    ensures { λ r. ⌜ r ≡ askAt (meaning s) tank noList (λ v. filledBeside 0 (anchors v)) ⌝ }
+    ensures { λ r. ⌜ r ≡ askAt (meaning s) tank noList anchorsNeeded ⌝ }
 {
     if 8 <= tank {
         return no_list();

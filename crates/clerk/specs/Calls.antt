@@ -14,7 +14,7 @@ use Rattle.lists.specs.Anchors.{anchors, anchorsNumber}
 use Rattle.tank.specs.Rules.{View, Edit, annotating, inserting, deleting, removing}
 use Rattle.tanks.specs.declared.Setting.{Setting}
 use Rattle.tanks.specs.declared.Tanks.{Tanks}
-use Rattle.tanks.specs.House.{House, tankAt, held, openNumber, opening, askNumber, refusalAt, afterAt, setInserted, firstRemoved}
+use Rattle.tanks.specs.House.{House, tankAt, held, openNumber, opening, askNumber, refusalAt, afterAt, insertedSetAt, removedFirstAt}
 use Rattle.tanks.specs.Pool.{meaning, Sound}
 use Rattle.tanks.specs.Contracts.{counts, says}
 use Rattle.ask.specs.Asks.{askAt, noList}
@@ -106,9 +106,9 @@ unfoldable pub saysOf : Op → House → Call → Pieces
 saysOf Op.Nothing h c = []
 saysOf Op.Open h c = acceptedSays (openNumber (settingsOf c))
 saysOf Op.Annotate h c = acceptedSays (refusalAt h (tankFor c) (annotation c))
-saysOf Op.Insert h c = orRefused (refusalAt h (tankFor c) (insertion c)) (stylesSay (stylesOf (setInserted h (tankFor c) (numberAt c 1) (numberAt c 2))))
+saysOf Op.Insert h c = orRefused (refusalAt h (tankFor c) (insertion c)) (stylesSay (stylesOf (insertedSetAt h (tankFor c) (numberAt c 1) (numberAt c 2))))
 saysOf Op.Delete h c = acceptedSays (refusalAt h (tankFor c) (deletion c))
-saysOf Op.Remove h c = firstSays (refusalAt h (tankFor c) (removal c)) (firstRemoved h (tankFor c) (identityOf c) (numberAt c 4))
+saysOf Op.Remove h c = firstSays (refusalAt h (tankFor c) (removal c)) (removedFirstAt h (tankFor c) (identityOf c) (numberAt c 4))
 saysOf Op.Length h c = countSays (bytes "length=") (counts (askNumber (tankFor c)) (tankAt h (tankFor c) .length))
 saysOf Op.Touched h c = touchedSays (says (askNumber (tankFor c)) (tankAt h (tankFor c) .touched))
 saysOf Op.Runs h c = countSays (bytes "runs=") (counts (askNumber (tankFor c)) (held h (tankFor c)))

@@ -12,7 +12,7 @@ use lib.Seq.{length-take-le, getD-take, getD-drop, getD-set-same, getD-set-other
 use borrow.Author.Tests.{eq-eqb, ne-eqb}
 use Rattle.richtext.specs.Bytes.{same}
 use Rattle.config.specs.Names.{holdsColon}
-use Rattle.config.specs.Table.{Named, Table, find, place, entered, refuses, insert, styleFor}
+use Rattle.config.specs.Table.{Named, Table, find, place, entered, refuses, withEntry, styleFor}
 use Rattle.config.specs.Meaning.{blankEntry, noEntry, entryOf, nameIn, namedOf, styleIn, configured, entryAt, stored, Tidy, Sound, Means, Inserts}
 use Rattle.config.specs.declared.Entry.{Entry}
 use Rattle.config.specs.declared.MaybeStyle.{MaybeStyle}
@@ -128,7 +128,7 @@ module _ (m : StyleConfigMap) (s : Sound m) (k : List ℕ) (v : StyleConfig) (sh
       → map namedOf (take n (set (m .entries) at (entryOf k v))) ≡ entered k v (configured m .entries)
       → drop n (set (m .entries) at (entryOf k v)) ≡ replicate (32 - n) blankEntry
       → refuses k (configured m) ≡ false
-      → Means (insert k v (configured m)) (record { entries = set (m .entries) at (entryOf k v); count = n; «default_style» = m .«default_style» })
+      → Means (withEntry k v (configured m)) (record { entries = set (m .entries) at (entryOf k v); count = n; «default_style» = m .«default_style» })
   placed at n h f a rest r =
       record {
         sound =

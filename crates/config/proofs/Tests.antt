@@ -9,13 +9,13 @@ use Rattle.richtext.specs.Bytes.{same}
 use Rattle.richtext.specs.Flags.{flagOf}
 use Rattle.richtext.specs.declared.ExpandType.the-variants.{Before, After, Both, None}
 use Rattle.config.specs.Names.{holdsColon, cut}
-use Rattle.config.specs.Table.{known, find, entered, once, refuses, insert, withDefault}
-use Rattle.config.specs.BuiltIn.{growing, bold, link, comment, builtIns, builtIn}
+use Rattle.config.specs.Table.{known, find, entered, once, refuses, withEntry, withDefault}
+use Rattle.config.specs.BuiltIn.{growing, boldName, linkName, commentName, builtIns, builtIn}
 use Rattle.config.specs.Answers.{getSays, flagSays, unmarkSays}
 
 -- comment:17, and a name of n bytes x
 comment17 : List ℕ
-comment17 = comment ++ 58 ∷ 49 ∷ 55 ∷ []
+comment17 = commentName ++ 58 ∷ 49 ∷ 55 ∷ []
 
 xs : ℕ → List ℕ
 xs n = replicate n 120
@@ -52,16 +52,16 @@ get-32 : getSays (xs 32) (builtIn 7) ≡ record { refusal = 0; value = none }
 unfolding xs find same orElse
 get-32 = refl
 
-flag-33 : flagSays (comment ++ 58 ∷ xs 25) (builtIn 7) ≡ record { refusal = 19; value = none }
+flag-33 : flagSays (commentName ++ 58 ∷ xs 25) (builtIn 7) ≡ record { refusal = 19; value = none }
 unfolding xs
 flag-33 = refl
 
 -- a known name is replaced where it stands, a new one comes last
-replaced : insert bold (record { expand = Both }) (builtIn 1) ≡ record { entries = growing bold Both ∷ []; default = none }
+replaced : withEntry boldName (record { expand = Both }) (builtIn 1) ≡ record { entries = growing boldName Both ∷ []; default = none }
 unfolding holdsColon known entered same
 replaced = refl
 
-appended : insert link (record { expand = None }) (builtIn 1) ≡ record { entries = growing bold After ∷ growing link None ∷ []; default = none }
+appended : withEntry linkName (record { expand = None }) (builtIn 1) ≡ record { entries = growing boldName After ∷ growing linkName None ∷ []; default = none }
 unfolding holdsColon known entered same
 appended = refl
 

@@ -12,43 +12,43 @@ abbrev pub growing : List ℕ → ExpandType → Named
 growing k t = record { name = k; style = record { expand = t } }
 
 -- bold
-abbrev pub bold : List ℕ
-bold = 98 ∷ 111 ∷ 108 ∷ 100 ∷ []
+abbrev pub boldName : List ℕ
+boldName = 98 ∷ 111 ∷ 108 ∷ 100 ∷ []
 
 -- italic
-abbrev pub italic : List ℕ
-italic = 105 ∷ 116 ∷ 97 ∷ 108 ∷ 105 ∷ 99 ∷ []
+abbrev pub italicName : List ℕ
+italicName = 105 ∷ 116 ∷ 97 ∷ 108 ∷ 105 ∷ 99 ∷ []
 
 -- underline
-abbrev pub underline : List ℕ
-underline = 117 ∷ 110 ∷ 100 ∷ 101 ∷ 114 ∷ 108 ∷ 105 ∷ 110 ∷ 101 ∷ []
+abbrev pub underlineName : List ℕ
+underlineName = 117 ∷ 110 ∷ 100 ∷ 101 ∷ 114 ∷ 108 ∷ 105 ∷ 110 ∷ 101 ∷ []
 
 -- link
-abbrev pub link : List ℕ
-link = 108 ∷ 105 ∷ 110 ∷ 107 ∷ []
+abbrev pub linkName : List ℕ
+linkName = 108 ∷ 105 ∷ 110 ∷ 107 ∷ []
 
 -- highlight
-abbrev pub highlight : List ℕ
-highlight = 104 ∷ 105 ∷ 103 ∷ 104 ∷ 108 ∷ 105 ∷ 103 ∷ 104 ∷ 116 ∷ []
+abbrev pub highlightName : List ℕ
+highlightName = 104 ∷ 105 ∷ 103 ∷ 104 ∷ 108 ∷ 105 ∷ 103 ∷ 104 ∷ 116 ∷ []
 
 -- comment
-abbrev pub comment : List ℕ
-comment = 99 ∷ 111 ∷ 109 ∷ 109 ∷ 101 ∷ 110 ∷ 116 ∷ []
+abbrev pub commentName : List ℕ
+commentName = 99 ∷ 111 ∷ 109 ∷ 109 ∷ 101 ∷ 110 ∷ 116 ∷ []
 
 -- code
-abbrev pub code : List ℕ
-code = 99 ∷ 111 ∷ 100 ∷ 101 ∷ []
+abbrev pub codeName : List ℕ
+codeName = 99 ∷ 111 ∷ 100 ∷ 101 ∷ []
 
 -- bold, italic and underline grow after; link, highlight, comment and code do not grow
 abbrev pub builtIns : List Named
 builtIns =
-    growing bold After
-    ∷ growing italic After
-    ∷ growing underline After
-    ∷ growing link None
-    ∷ growing highlight None
-    ∷ growing comment None
-    ∷ growing code None
+    growing boldName After
+    ∷ growing italicName After
+    ∷ growing underlineName After
+    ∷ growing linkName None
+    ∷ growing highlightName None
+    ∷ growing commentName None
+    ∷ growing codeName None
     ∷ []
 
 -- the first n of them, with no default

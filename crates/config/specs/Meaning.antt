@@ -8,7 +8,7 @@ use lib.ListN.{length, getD, take, drop, set, replicate}
 use lib.Dec.{eqb}
 use Rattle.richtext.specs.declared.ExpandType.the-variants.{Before}
 use Rattle.config.specs.Names.{holdsColon, zeros}
-use Rattle.config.specs.Table.{Named, Table, once, insert, refuses}
+use Rattle.config.specs.Table.{Named, Table, once, withEntry, refuses}
 use Rattle.config.specs.Answers.{number}
 use Rattle.config.specs.declared.Entry.{Entry}
 use Rattle.config.specs.declared.Inserted.{Inserted}
@@ -82,4 +82,4 @@ pub record Means (t : Table) (m : StyleConfigMap) : Type 0 where
 -- what an insertion hands back: 19 or 0, and the table after it
 pub record Inserts (m : StyleConfigMap) (k : List ℕ) (s : StyleConfig) (r : Inserted) : Type 0 where
   pub refusal : r .refusal ≡ number (refuses k (configured m))
-  pub map : Means (insert k s (configured m)) (r .map)
+  pub map : Means (withEntry k s (configured m)) (r .map)

@@ -54,8 +54,8 @@ abbrev pub refuses : List ℕ → Table → Bool
 refuses k t = tooLong k || (holdsColon k || cond (known k (t .entries)) false (leb 32 (length (t .entries))))
 
 -- the table after an insertion: as it was where that is refused
-abbrev pub insert : List ℕ → StyleConfig → Table → Table
-insert k s t = cond (refuses k t) t (record { entries = entered k s (t .entries); default = t .default })
+abbrev pub withEntry : List ℕ → StyleConfig → Table → Table
+withEntry k s t = cond (refuses k t) t (record { entries = entered k s (t .entries); default = t .default })
 
 -- with another default, or none
 abbrev pub withDefault : Option StyleConfig → Table → Table

@@ -6,7 +6,7 @@ ghost use Prim.Native.Nat.{_-_, _≤_, _<_};
 ghost use lib.ListN.{length};
 ghost use Rattle.richtext.specs.Bytes.{same};
 ghost use Rattle.config.specs.Names.{cut, zeros};
-ghost use Rattle.config.specs.Table.{emptyTable, insert, place, styleFor, withDefault};
+ghost use Rattle.config.specs.Table.{emptyTable, place, styleFor, withDefault, withEntry};
 ghost use Rattle.config.specs.BuiltIn.{builtIn};
 ghost use Rattle.config.specs.Answers.{said, saidFlag, asked, getSays, flagSays, unmarkSays};
 ghost use Rattle.config.specs.Meaning.{entryOf, nameIn, styleIn, configured, stored, Tidy, Sound, Means, Inserts};
@@ -201,7 +201,7 @@ impl StyleConfigMap {
     // The table after an insertion, refused or not.
     fn with(self, key: &[u8], expand: ExpandType) -> StyleConfigMap
         requires { ⌜ Sound self ⌝ }
-        ensures { λ r. ⌜ Means (insert (now (key .entry)) (record { expand = expand }) (configured self)) r ⌝ }
+        ensures { λ r. ⌜ Means (withEntry (now (key .entry)) (record { expand = expand }) (configured self)) r ⌝ }
     {
         self.insert(key, StyleConfig { expand }).map
     }

@@ -2,7 +2,7 @@
 use Prim.Native.Nat.{ℕ, zero, suc, _+_, _-_, _≤_, _<_, _^_}
 use mathlib.Core.Path.{_≡_}
 use mathlib.Core.Bool.{cond, not}
-use mathlib.Core.List.{List, [], _∷_, _++_}
+use mathlib.Core.List.{List, [], _∷_, _++_, map}
 use lib.Bits.{bitAnd}
 use lib.Dec.{ltb}
 use lib.ListN.{length}
@@ -12,6 +12,7 @@ use Rattle.styles.specs.Marks.{member, only}
 use Rattle.styles.specs.Bits.{pick}
 use Rattle.runs.specs.Runs.{runs, total}
 use Rattle.tank.specs.declared.Tank.{Tank}
+use Rattle.lists.specs.declared.Listed.{Listed}
 use Rattle.lists.specs.declared.anchors.Anchor.{Anchor}
 use Rattle.lists.specs.declared.anchors.AnchorCursor.{AnchorCursor}
 use Rattle.richtext.specs.declared.AnchorType.{AnchorType}
@@ -20,7 +21,7 @@ use Rattle.lists.specs.declared.anchors.NextAnchor.{NextAnchor}
 use Rattle.lists.specs.declared.anchors.NextAnchor.the-variants.{NoMore, Found}
 use Rattle.tank.specs.Rules.{View}
 use Rattle.tank.specs.State.{tableOf, view}
-use Rattle.lists.specs.Lists.{listRefusal}
+use Rattle.lists.specs.Lists.{listRefusal, filledBeside}
 
 -- ---- The list
 -- the marks of the first set whose identity the second does not carry
@@ -42,8 +43,7 @@ anchorOf p side m = record { at = p; side = side; key = m .key; lamport = m .lam
 
 -- one for each mark of a set, in its order: by key, lamport, peer
 unfoldable pub anchorsOf : ℕ → AnchorType → List Mark → List Anchor
-anchorsOf p side [] = []
-anchorsOf p side (m ∷ ms) = anchorOf p side m ∷ anchorsOf p side ms
+anchorsOf p side ms = map (anchorOf p side) ms
 
 -- at a boundary first the ends, at the last position carrying the mark, then the starts, at the first
 unfoldable pub boundary : ℕ → View → List Anchor
@@ -58,6 +58,10 @@ boundaries p (suc n) v = boundary p v ++ boundaries (suc p) n v
 -- a whole tank's anchors: the boundaries 0 to length
 unfoldable pub anchors : View → List Anchor
 anchors v = boundaries 0 (suc (v .length)) v
+
+-- the count of records needed: asked without a list, so never 11
+abbrev pub anchorsNeeded : View → Listed
+anchorsNeeded v = filledBeside 0 (anchors v)
 
 -- what a list of anchors gives where the caller lends `room` records: a lower number, or 11, or 0
 abbrev pub anchorsAfter : ℕ → ℕ → View → ℕ

@@ -42,7 +42,7 @@ rangeList a b v = asNumbers 0 (stretchesOver a b v)
 unfoldable pub wholeList : View → List ℕ
 wholeList v = asNumbers 1 (stretchesOver 0 (v .length) v)
 
--- 4: range end over the length; an empty range is not asked
+-- 4: range end over the length; an empty range is refused nothing, wherever it lies
 unfoldable pub rangeRefusal : ℕ → ℕ → View → ℕ
 rangeRefusal a b v = cond (leb b a) 0 (cond (ltb (v .length) b) 4 0)
 
@@ -54,13 +54,17 @@ listRefusal lower room needed = cond (eqb lower 0) (cond (ltb room needed) 11 0)
 abbrev pub unlessRefused : {A : Type 0} → ℕ → List A → List A
 unlessRefused number xs = cond (eqb number 0) xs []
 
--- a number, and how many places of the buffer are filled beside it
+-- a number, and how many places the list fills, or would fill; 0 beside a refusal
 abbrev pub filledBeside : {A : Type 0} → ℕ → List A → Listed
 filledBeside number xs = record { number = number; count = length (unlessRefused number xs) }
 
 -- the count needed for a range: asked without a buffer, so never 11
 abbrev pub rangeNeeded : ℕ → ℕ → View → Listed
 rangeNeeded a b v = filledBeside (rangeRefusal a b v) (rangeList a b v)
+
+-- and for the whole tank, which is refused nothing
+abbrev pub wholeNeeded : View → Listed
+wholeNeeded v = filledBeside 0 (wholeList v)
 
 -- the number that a list over a range gives where the buffer has `room` places
 abbrev pub rangeNumber : ℕ → ℕ → ℕ → View → ℕ

@@ -24,7 +24,7 @@ use Rattle.questions.specs.declared.Told.the-variants as told
 use Rattle.tank.specs.Rules.{View, forInsert}
 
 -- ---- Answers: for each case its number, 0 or a refusal's, and what stands beside it
--- yes or no; refused: no
+-- yes or no; refused: the number, with neither beside it
 abbrev pub toldOf : ℕ → Bool → Told
 toldOf zero true = told.Yes
 toldOf zero false = told.No
@@ -86,7 +86,7 @@ styleForInsert pos j v = askedOf (insertRefusal pos v) (rankOf (forInsert pos v)
 -- ---- The two yes/no questions over a .. b
 -- an empty range is refused nothing; 4: range end over the length; 6: the value asked for is NaN
 unfoldable pub yesNoRefusal : ℕ → ℕ → Bool → View → ℕ
-yesNoRefusal a b nan v = cond (leb b a) 0 (cond (ltb (v .length) b) 4 (cond nan 6 0))
+yesNoRefusal a b noNumber v = cond (leb b a) 0 (cond (ltb (v .length) b) 4 (cond noNumber 6 0))
 
 -- no for an empty range, and for an untouched tank
 unfoldable pub yesNo : ℕ → ℕ → Bool → View → Bool

@@ -8,7 +8,7 @@ use lib.Dec.{eqb}
 use lib.ListN.{length}
 use borrow.Author.Tests.{eq-eqb, ne-eqb}
 use Rattle.runs.specs.Runs.{Run, total, setAt, Other, Canon}
-use Rattle.runs.specs.Positions.{starts, stretches}
+use Rattle.runs.specs.Positions.{starts, stretchCount}
 use Rattle.runs.proofs.Laws.{at-in, at-last}
 
 -- the positions p and p + 1 have one set
@@ -21,15 +21,15 @@ unfolding starts
 starts-ext f g zero h = refl
 starts-ext f g (suc p) h = rw (h p (omega arith))
 
-pub stretches-ext : (f g : ℕ → Bool) (n : ℕ) → ((p : ℕ) → suc p < n → f p ≡ g p) → stretches f n ≡ stretches g n
-unfolding stretches
-stretches-ext f g zero h = refl
-stretches-ext f g (suc n) h =
-    omega (arith, stretches-ext f g n (λ p k. h p (omega arith)), starts-ext f g n (λ p k. h p (omega arith)))
+pub stretch-count-ext : (f g : ℕ → Bool) (n : ℕ) → ((p : ℕ) → suc p < n → f p ≡ g p) → stretchCount f n ≡ stretchCount g n
+unfolding stretchCount
+stretch-count-ext f g zero h = refl
+stretch-count-ext f g (suc n) h =
+    omega (arith, stretch-count-ext f g n (λ p k. h p (omega arith)), starts-ext f g n (λ p k. h p (omega arith)))
 
 -- positions that are all alike add the start of the first alone
-level : (f : ℕ → Bool) (n j : ℕ) → ((p : ℕ) → n ≤ p → p < n + j → f p ≡ true) → stretches f (n + suc j) ≡ stretches f n + starts f n
-unfolding stretches starts
+level : (f : ℕ → Bool) (n j : ℕ) → ((p : ℕ) → n ≤ p → p < n + j → f p ≡ true) → stretchCount f (n + suc j) ≡ stretchCount f n + starts f n
+unfolding stretchCount starts
 level f n zero h = let e : n + 1 ≡ suc n = omega arith in rw e
 level f n (suc j) h =
     let e : n + suc (suc j) ≡ suc (n + suc j) = omega arith in
@@ -51,8 +51,8 @@ last-starts r (z ∷ zs) c = go (total zs + z .len) refl (c .0) (c .2 .0) (c .1)
         let b : setAt (r ∷ z ∷ zs) (suc p) ≡ r .set = at-last r (z ∷ zs) (suc p) (omega arith) (omega arith) in
         simp (ne-eqb (setAt (r ∷ z ∷ zs) p) (setAt (r ∷ z ∷ zs) (suc p)) (λ x. d (sym a ∙ x ∙ b)))
 
-one-more : (r : Run) (rs : List Run) (l : ℕ) → r .len ≡ l → Canon (r ∷ rs) → stretches (alikeIn rs) (total rs) ≡ length rs
-    → stretches (alikeIn (r ∷ rs)) (total rs + l) ≡ suc (length rs)
+one-more : (r : Run) (rs : List Run) (l : ℕ) → r .len ≡ l → Canon (r ∷ rs) → stretchCount (alikeIn rs) (total rs) ≡ length rs
+    → stretchCount (alikeIn (r ∷ rs)) (total rs + l) ≡ suc (length rs)
 unfolding Canon
 one-more r rs zero e c h = let p = c .0 in absurd (omega arith)
 one-more r rs (suc j) e c h =
@@ -60,12 +60,12 @@ one-more r rs (suc j) e c h =
       arith,
       level (alikeIn (r ∷ rs)) (total rs) j
           (λ p a b. eq-eqb (setAt (r ∷ rs) p) (setAt (r ∷ rs) (suc p)) (at-last r rs p a (omega arith) ∙ sym (at-last r rs (suc p) (omega arith) (omega arith)))),
-      stretches-ext (alikeIn (r ∷ rs)) (alikeIn rs) (total rs)
+      stretch-count-ext (alikeIn (r ∷ rs)) (alikeIn rs) (total rs)
           (λ p k. λ i. eqb (at-in r rs p (omega arith) i) (at-in r rs (suc p) k i)),
       last-starts r rs c,
     )
 
-pub count-stretches : (rs : List Run) → Canon rs → length rs ≡ stretches (alikeIn rs) (total rs)
-unfolding Canon total stretches
+pub count-stretches : (rs : List Run) → Canon rs → length rs ≡ stretchCount (alikeIn rs) (total rs)
+unfolding Canon total stretchCount
 count-stretches [] c = refl
 count-stretches (r ∷ rs) c = sym (one-more r rs (r .len) refl c (sym (count-stretches rs (c .2))))

@@ -11,7 +11,7 @@ use Rattle.runs.specs.declared.scan.Test.the-variants.{Meets, Misses, Hi
 use Rattle.runs.specs.Runs.{Run, run, runs, total, setAt, Other, Canon, pushRun, joinRun, clip, copyRuns, changing, adding, sums, Found, SameBehind, Spare, mapRuns}
 use Rattle.runs.specs.Edits.{part, altered, deleted, inserted}
 use Rattle.runs.specs.Gather.{gather, Renumbered}
-use Rattle.runs.specs.Positions.{anyAt, allAt, stretchTo, starts, stretches, stretch, extended, stretchesAt, asNumbers}
+use Rattle.runs.specs.Positions.{anyAt, allAt, stretchTo, starts, stretchCount, stretch, extended, stretchesAt, asNumbers}
 use Rattle.runs.specs.Scan.{meets, topIn, shows, passes, commonAt, walked}
 use Rattle.runs.specs.Count.{tallyOf}
 use Rattle.runs.specs.Stretches.{clipped, entry, inFront, listed}
@@ -195,8 +195,8 @@ unfolding walked
 walks = (refl, refl, refl)
 
 -- ---- counts
-two-stretches : stretches (alikeIn t) 15 ≡ 2
-unfolding stretches starts setAt t
+two-stretches : stretchCount (alikeIn t) 15 ≡ 2
+unfolding stretchCount starts setAt t
 two-stretches = refl
 
 tallied : tallyOf t ≡ record { count = 2; last = 2 }

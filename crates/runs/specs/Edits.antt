@@ -1,4 +1,5 @@
--- The edits of a run list, each as copies of parts of it.
+-- The edits of a run list, each as copies of parts of it. What they do position by position is `at-altered`, `at-deleted` and `at-inserted`
+-- (proofs/EditLaws).
 use Prim.Native.Nat.{ℕ, _≤_, _<_, _^_}
 use mathlib.Core.Path.{_≡_}
 use mathlib.Core.List.{List, []}

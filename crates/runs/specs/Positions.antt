@@ -27,9 +27,9 @@ starts alike zero = 1
 starts alike (suc p) = cond (alike p) 0 1
 
 -- how many of the first n positions start a stretch
-unfoldable pub stretches : (ℕ → Bool) → ℕ → ℕ
-stretches alike zero = 0
-stretches alike (suc n) = stretches alike n + starts alike n
+unfoldable pub stretchCount : (ℕ → Bool) → ℕ → ℕ
+stretchCount alike zero = 0
+stretchCount alike (suc n) = stretchCount alike n + starts alike n
 
 -- the positions start .. end, which have as many marks each
 pub record Stretch : Type 0 where

@@ -1,5 +1,4 @@
--- A run-length list, LAST RUN FIRST: the head of the list is the run that ends the tank. So a push looks at the head alone, and the runs of
--- two parallel slices grow by a cons where the code's count grows by one.
+-- A run-length list, LAST RUN FIRST: the head of the list is the run that ends the tank, so that one run more is one cons more.
 use Prim.Native.Nat.{ℕ, zero, suc, _+_, _-_, _≤_, _<_, _^_, min, max}
 use mathlib.Core.Path.{_≡_}
 use mathlib.Core.Bool.{cond}
@@ -70,9 +69,9 @@ unfoldable pub mapRuns : (ℕ → ℕ) → List Run → List Run
 mapRuns f [] = []
 mapRuns f (r ∷ rs) = run (r .len) (f (r .set)) ∷ mapRuns f rs
 
--- a set with the bits of `bits` in it, and without those of `drop`
+-- a set with the bits of `bits` in it, and without those of `gone`
 unfoldable pub changing : ℕ → ℕ → ℕ → ℕ
-changing bits drop s = bitOr s bits - bitAnd (bitOr s bits) drop
+changing bits gone s = bitOr s bits - bitAnd (bitOr s bits) gone
 
 -- a set with more bits in it
 abbrev pub adding : ℕ → ℕ → ℕ

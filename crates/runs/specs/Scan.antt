@@ -23,14 +23,14 @@ topIn (suc k) u v = cond (hasBit k u) (hasBit k v) (topIn k u v)
 abbrev pub shows : ℕ → ℕ → ℕ → Bool
 shows first second s = topIn 64 (bitAnd s first) second
 
--- what a scan looks for
+-- the set passes the test
 unfoldable pub passes : Test → ℕ → Bool
 passes (Meets mask) s = meets mask s
 passes (Misses mask) s = not (meets mask s)
 passes (Hides first second) s = not (shows first second s)
 passes (Differs other) s = not (eqb s other)
 
--- what the positions pos - 1 and pos have in common; nothing at the start
+-- the bits that positions pos - 1 and pos have in common: none at 0, and none at the end, since from there on the set is 0
 unfoldable pub commonAt : List Run → ℕ → ℕ
 commonAt rs zero = 0
 commonAt rs (suc p) = bitAnd (setAt rs p) (setAt rs (suc p))

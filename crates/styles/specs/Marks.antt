@@ -56,10 +56,10 @@ insertMark m [] = m ∷ []
 insertMark m (x ∷ xs) = insertStep (stands (idOf m) (idOf x)) m x xs (insertMark m xs)
 
 -- both sets together; an identity of both is as the second has it
-unfoldable pub union : List Mark → List Mark → List Mark
+unfoldable pub eitherOf : List Mark → List Mark → List Mark
 unfolding insertMark
-union [] ys = ys
-union (x ∷ xs) ys = insertMark x (union xs ys)
+eitherOf [] ys = ys
+eitherOf (x ∷ xs) ys = insertMark x (eitherOf xs ys)
 
 -- the set without an identity
 unfoldable pub removeMark : Identity → List Mark → List Mark

@@ -1,4 +1,5 @@
--- The order of identities: by key, then lamport, then peer. All else asks `stands` alone.
+-- The order of identities: by key, then lamport, then peer. Sets are sorted by it; the winner for a key goes by its last two steps
+-- (Marks: `later`).
 use Prim.Native.Nat.{ℕ}
 use mathlib.Core.Bool.{Bool, true, false, cond}
 use lib.Dec.{ltb, eqb}

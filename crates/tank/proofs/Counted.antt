@@ -11,11 +11,11 @@ use Rattle.styles.specs.Marks.{Sorted}
 use Rattle.styles.specs.Bits.{pick}
 use Rattle.styles.proofs.SameLaws.{same-pick}
 use Rattle.runs.specs.Runs.{Run, total, setAt, Canon}
-use Rattle.runs.specs.Positions.{stretches}
+use Rattle.runs.specs.Positions.{stretchCount}
 use Rattle.runs.specs.Gather.{gather}
 use Rattle.runs.proofs.Laws.{at-past}
 use Rattle.runs.proofs.GatherLaws.{set-within}
-use Rattle.runs.proofs.StretchLaws.{alikeIn, stretches-ext, count-stretches}
+use Rattle.runs.proofs.StretchLaws.{alikeIn, stretch-count-ext, count-stretches}
 use Rattle.tank.specs.Rules.{alike}
 
 -- a set at a position is no more than all sets together
@@ -31,5 +31,5 @@ module _ (ms : List Mark) (rs : List Run) (sorted : Sorted ms) (inside : gather 
   pub alike-is : (p : ℕ) → alike (λ q. pick ms (setAt rs q)) p ≡ alikeIn rs p
   alike-is p = same-pick ms (setAt rs p) (setAt rs (suc p)) sorted (at-inside rs (length ms) p inside) (at-inside rs (length ms) (suc p) inside)
 
-  pub counted : Canon rs → stretches (alike (λ p. pick ms (setAt rs p))) (total rs) ≡ length rs
-  counted c = stretches-ext _ _ (total rs) (λ p h. alike-is p) ∙ sym (count-stretches rs c)
+  pub counted : Canon rs → stretchCount (alike (λ p. pick ms (setAt rs p))) (total rs) ≡ length rs
+  counted c = stretch-count-ext _ _ (total rs) (λ p h. alike-is p) ∙ sym (count-stretches rs c)

@@ -13,8 +13,8 @@ use Rattle.styles.specs.declared.Stand.the-variants.{Same}
 use Rattle.styles.specs.Marks.{sameMarks}
 use Rattle.styles.proofs.OrderLaws.{is-same-of, same-eq}
 use Rattle.styles.proofs.SameLaws.{same-marks-self}
-use Rattle.runs.specs.Positions.{starts, stretches}
-use Rattle.runs.proofs.StretchLaws.{stretches-ext}
+use Rattle.runs.specs.Positions.{starts, stretchCount}
+use Rattle.runs.proofs.StretchLaws.{stretch-count-ext}
 use Rattle.tank.specs.Rules.{View, afterDelete, alike, runsHeld}
 
 -- ---- sameness of sets passes along a chain
@@ -36,8 +36,8 @@ same-chain (x ∷ xs) (y ∷ ys) (z ∷ zs) e f =
     rw s (same-chain xs ys zs (p .1) (q .1))
 
 -- ---- starts among more positions
-more-starts : (f : ℕ → Bool) (n j : ℕ) → stretches f n ≤ stretches f (n + j)
-unfolding stretches
+more-starts : (f : ℕ → Bool) (n j : ℕ) → stretchCount f n ≤ stretchCount f (n + j)
+unfolding stretchCount
 more-starts f n zero = let e : n + 0 ≡ n = omega arith in rw e (omega arith)
 more-starts f n (suc j) = let e : n + suc j ≡ suc (n + j) = omega arith in rw e (omega (arith, more-starts f n j))
 
@@ -55,15 +55,15 @@ starts-one f (suc n) = cond-one (f n)
     cond-one false = omega arith
 
 -- where no stretch starts behind position a, up to a + j, those two have one set
-along : (at : ℕ → List Mark) (a j : ℕ) → stretches (alike at) (suc a + j) ≡ stretches (alike at) (suc a) → sameMarks (at a) (at (a + j)) ≡ true
-unfolding stretches starts
+along : (at : ℕ → List Mark) (a j : ℕ) → stretchCount (alike at) (suc a + j) ≡ stretchCount (alike at) (suc a) → sameMarks (at a) (at (a + j)) ≡ true
+unfolding stretchCount starts
 along at a zero e = let z : a + 0 ≡ a = omega arith in rw z (same-marks-self (at a))
 along at a (suc j) e =
     let g : suc a + suc j ≡ suc (suc (a + j)) = omega arith in
     let k : suc a + j ≡ suc (a + j) = omega arith in
     let up = more-starts (alike at) (suc a) j in
-    let e′ : stretches (alike at) (suc (suc (a + j))) ≡ stretches (alike at) (suc a) = ap (stretches (alike at)) (sym g) ∙ e in
-    let k′ : stretches (alike at) (suc a + j) ≡ stretches (alike at) (suc (a + j)) = ap (stretches (alike at)) k in
+    let e′ : stretchCount (alike at) (suc (suc (a + j))) ≡ stretchCount (alike at) (suc a) = ap (stretchCount (alike at)) (sym g) ∙ e in
+    let k′ : stretchCount (alike at) (suc a + j) ≡ stretchCount (alike at) (suc (a + j)) = ap (stretchCount (alike at)) k in
     let last = no-start (alike at (a + j)) (omega arith) in
     let rest = along at a j (omega arith) in
     let z : a + suc j ≡ suc (a + j) = omega arith in
@@ -81,8 +81,8 @@ module _ (at : ℕ → List Mark) (a d : ℕ) where
   cut-from p h = rw (le-ltb p a h)
 
   -- what stands before the cut has the starts it had
-  starts-before : stretches (alike cut) a ≡ stretches (alike at) a
-  starts-before = stretches-ext (alike cut) (alike at) a (λ p h. ap₂ sameMarks (cut-before p (omega arith)) (cut-before (suc p) h))
+  starts-before : stretchCount (alike cut) a ≡ stretchCount (alike at) a
+  starts-before = stretch-count-ext (alike cut) (alike at) a (λ p h. ap₂ sameMarks (cut-before p (omega arith)) (cut-before (suc p) h))
 
   -- behind the cut a position starts a stretch exactly where it did
   starts-behind : (k : ℕ) → starts (alike cut) (a + suc k) ≡ starts (alike at) (a + d + suc k)
@@ -97,8 +97,8 @@ module _ (at : ℕ → List Mark) (a d : ℕ) where
       rw (e, g, s)
 
 -- the first position behind the cut starts a stretch only where it did or one of those cut out
-cut-meets : (at : ℕ → List Mark) (a d : ℕ) → stretches (alike (cut at a d)) a + starts (alike (cut at a d)) a ≤ stretches (alike at) (a + d + 1)
-unfolding starts stretches
+cut-meets : (at : ℕ → List Mark) (a d : ℕ) → stretchCount (alike (cut at a d)) a + starts (alike (cut at a d)) a ≤ stretchCount (alike at) (a + d + 1)
+unfolding starts stretchCount
 cut-meets at zero d = let e : 0 + d + 1 ≡ 1 + d = omega arith in rw e (more-starts (alike at) 1 d)
 cut-meets at (suc a) d =
     let same = starts-before at (suc a) d in
@@ -106,7 +106,7 @@ cut-meets at (suc a) d =
     let one = starts-one (alike (cut at (suc a) d)) (suc a) in
     let e : suc a + (d + 1) ≡ suc a + d + 1 = omega arith in
     rw (← e)
-    (elim (ℕ-discrete (stretches (alike at) (suc a + (d + 1))) (stretches (alike at) (suc a))) [
+    (elim (ℕ-discrete (stretchCount (alike at) (suc a + (d + 1))) (stretchCount (alike at) (suc a))) [
       | no ne ↦ omega arith
       | yes z ↦
           let g : suc a + d ≡ a + (d + 1) = omega arith in
@@ -116,8 +116,8 @@ cut-meets at (suc a) d =
     ])
 
 -- so however far one counts behind the cut, there are no more stretches than there were
-cut-fewer : (at : ℕ → List Mark) (a d k : ℕ) → stretches (alike (cut at a d)) (a + k) ≤ stretches (alike at) (a + d + k)
-unfolding stretches
+cut-fewer : (at : ℕ → List Mark) (a d k : ℕ) → stretchCount (alike (cut at a d)) (a + k) ≤ stretchCount (alike at) (a + d + k)
+unfolding stretchCount
 cut-fewer at a d zero =
     let e : a + 0 ≡ a = omega arith in
     let g : a + d + 0 ≡ a + d = omega arith in
@@ -139,8 +139,8 @@ delete-fewer a b v up fits = go (v .touched)
         let g : a + (b - a) + (v .length - b) ≡ v .length = omega arith in
         omega (
           arith,
-          ap (stretches (alike (cut (v .at) a (b - a)))) e,
-          ap (stretches (alike (v .at))) g,
+          ap (stretchCount (alike (cut (v .at) a (b - a)))) e,
+          ap (stretchCount (alike (v .at))) g,
           cut-fewer (v .at) a (b - a) (v .length - b),
         )
 

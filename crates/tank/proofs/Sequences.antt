@@ -1,5 +1,5 @@
 -- Calls in a row, refused ones among them, on the rules alone: touched never turns back, and a touched tank's length is the sum of what was inserted and deleted.
-use Prim.Native.Nat.{ℕ, _+_, _-_}
+use Prim.Native.Nat.{ℕ, _+_}
 use mathlib.Core.Path.{_≡_, refl, sym, ap, _∙_, subst}
 use mathlib.Core.Bool.{Bool, true, false, cond, _&&_}
 use mathlib.Core.List.{List, [], _∷_, _++_}
@@ -9,50 +9,8 @@ use borrow.Author.Tests.{ltb-false, eqb-true}
 use Rattle.styles.specs.declared.Identity.{Identity}
 use Rattle.styles.specs.Marks.{removeMark}
 use Rattle.tank.specs.Rules.{View, within, freshLength, freshView, Edit, annotating, inserting, deleting, removing, afterAnnotate, afterInsert, afterDelete, afterRemove, stripped, after, empty, over, long, notNumber, clashes, full, refusal}
+use Rattle.tank.specs.Sequences.{OwnCall, accepted, afterOne, afterCalls, gained, lost, sumOf, annotates, First, touchedBy}
 use Rattle.tank.proofs.ViewLaws.{view-ext}
-
--- a call: an edit, and whether it is granted where many tanks share the runs (refusals 9 and 10 are not this tank's)
-pub record Call : Type 0 where
-  pub edit : Edit
-  pub granted : Bool
-
--- granted, and none of refusals 3 to 8
-abbrev pub accepted : Call → View → Bool
-accepted c v = c .granted && eqb (refusal (c .edit) v) 0
-
--- the tank after a call: a refused one leaves it as it was
-abbrev pub afterOne : Call → View → View
-afterOne c v = cond (accepted c v) (after (c .edit) v) v
-
--- the tank after calls in a row
-unfoldable pub afterCalls : List Call → View → View
-afterCalls [] v = v
-afterCalls (c ∷ cs) v = afterCalls cs (afterOne c v)
-
--- what an edit adds to a touched tank's length, and what it takes from it
-unfoldable pub gained : Edit → ℕ
-gained (annotating a b m) = 0
-gained (inserting pos len) = len
-gained (deleting a b) = 0
-gained (removing id last) = 0
-
-unfoldable pub lost : Edit → ℕ
-lost (annotating a b m) = 0
-lost (inserting pos len) = 0
-lost (deleting a b) = b - a
-lost (removing id last) = 0
-
--- the sum over the accepted calls
-unfoldable pub sumOf : (Edit → ℕ) → List Call → View → ℕ
-sumOf f [] v = 0
-sumOf f (c ∷ cs) v = cond (accepted c v) (f (c .edit)) 0 + sumOf f cs (afterOne c v)
-
--- the edit is an annotate
-unfoldable pub annotates : Edit → Bool
-annotates (annotating a b m) = true
-annotates (inserting pos len) = false
-annotates (deleting a b) = false
-annotates (removing id last) = false
 
 no-path : {A : Type 0} → false ≡ true → A
 no-path e = absurd (subst T (sym e) tt)
@@ -67,7 +25,7 @@ accepted-fits e v = go (empty e) (over e v) (cond (long e v) 5 (cond (notNumber 
     go false true n h = absurd (omega arith)
     go false false n h = (refl, refl)
 
-module _ (Q : Bool → Type 0) (c : Call) (v : View) (refused : Q false) (made : over (c .edit) v ≡ false → Q true) where
+module _ (Q : Bool → Type 0) (c : OwnCall) (v : View) (refused : Q false) (made : over (c .edit) v ≡ false → Q true) where
   call-by : Q (accepted c v)
   call-by = go (c .granted) (eqb (refusal (c .edit) v) 0) (λ h. made (accepted-fits (c .edit) v (eqb-true (refusal (c .edit) v) 0 h) .1))
     where
@@ -88,20 +46,20 @@ edit-grows (inserting pos len) v t o = simp t (record { touched = refl; length =
 edit-grows (deleting a b) v t o = let h = ltb-false (v .length) b o in simp t (record { touched = refl; length = omega arith })
 edit-grows (removing id last) v t o = record { touched = t; length = refl }
 
-call-grows : (c : Call) (v : View) → v .touched ≡ true
+call-grows : (c : OwnCall) (v : View) → v .touched ≡ true
     → Grows (cond (accepted c v) (gained (c .edit)) 0) (cond (accepted c v) (lost (c .edit)) 0) v (afterOne c v)
 call-grows c v t =
     call-by (λ b. Grows (cond b (gained (c .edit)) 0) (cond b (lost (c .edit)) 0) v (cond b (after (c .edit) v) v)) c v
     (record { touched = t; length = refl }) (edit-grows (c .edit) v t)
 
 -- ---- touched never turns back
-pub touched-stays : (cs : List Call) (v : View) → v .touched ≡ true → (afterCalls cs v) .touched ≡ true
+pub touched-stays : (cs : List OwnCall) (v : View) → v .touched ≡ true → (afterCalls cs v) .touched ≡ true
 unfolding afterCalls
 touched-stays [] v t = t
 touched-stays (c ∷ cs) v t = touched-stays cs (afterOne c v) (call-grows c v t .touched)
 
 -- ---- a touched tank's length: what it was, plus all lengths inserted and less all deleted
-pub length-law : (cs : List Call) (v : View) → v .touched ≡ true → (afterCalls cs v) .length + sumOf lost cs v ≡ v .length + sumOf gained cs v
+pub length-law : (cs : List OwnCall) (v : View) → v .touched ≡ true → (afterCalls cs v) .length + sumOf lost cs v ≡ v .length + sumOf gained cs v
 unfolding afterCalls sumOf
 length-law [] v t = refl
 length-law (c ∷ cs) v t =
@@ -118,7 +76,7 @@ strip-fresh id a b = view-ext _ _ refl refl (λ p. same (within a b p))
     same true = refl
     same false = refl
 
-data OnFresh (c : Call) : Type 0 where
+data OnFresh (c : OwnCall) : Type 0 where
   idle : afterOne c freshView ≡ freshView → OnFresh c
   first : accepted c freshView ≡ true → annotates (c .edit) ≡ true → OnFresh c
 
@@ -129,7 +87,7 @@ edit-fresh (inserting pos len) h = refl
 edit-fresh (deleting a b) h = refl
 edit-fresh (removing id last) h = strip-fresh id _ _
 
-on-fresh : (c : Call) → OnFresh c
+on-fresh : (c : OwnCall) → OnFresh c
 on-fresh c = go (accepted c freshView) (annotates (c .edit)) refl refl
   where
     go : (a b : Bool) → accepted c freshView ≡ a → annotates (c .edit) ≡ b → OnFresh c
@@ -148,11 +106,11 @@ edit-touches (inserting pos len) h = no-path h
 edit-touches (deleting a b) h = no-path h
 edit-touches (removing id last) h = no-path h
 
-call-touches : (c : Call) → accepted c freshView ≡ true → annotates (c .edit) ≡ true → Touches (afterOne c freshView)
+call-touches : (c : OwnCall) → accepted c freshView ≡ true → annotates (c .edit) ≡ true → Touches (afterOne c freshView)
 call-touches c g h = simp g (edit-touches (c .edit) h)
 
 -- a fresh tank that calls leave untouched is still the fresh one
-pub untouched-fresh : (cs : List Call) → (afterCalls cs freshView) .touched ≡ false → afterCalls cs freshView ≡ freshView
+pub untouched-fresh : (cs : List OwnCall) → (afterCalls cs freshView) .touched ≡ false → afterCalls cs freshView ≡ freshView
 unfolding afterCalls
 untouched-fresh [] t = refl
 untouched-fresh (c ∷ cs) t =
@@ -162,21 +120,8 @@ untouched-fresh (c ∷ cs) t =
     ]
 
 -- ---- the first accepted annotate of a fresh tank, among calls in a row
-pub record First (cs : List Call) : Type 0 where
-  pub before : List Call
-  pub call : Call
-  pub later : List Call
-  pub split : cs ≡ before ++ (call ∷ later)
-  pub untouched : (afterCalls before freshView) .touched ≡ false
-  pub annotate : annotates (call .edit) ≡ true
-  pub made : accepted call (afterCalls before freshView) ≡ true
-
--- the tank right after it
-abbrev pub touchedBy : {cs : List Call} → First cs → View
-touchedBy f = afterOne (f .call) (afterCalls (f .before) freshView)
-
 -- where a tank is touched there is one
-pub has-first : (cs : List Call) → (afterCalls cs freshView) .touched ≡ true → First cs
+pub has-first : (cs : List OwnCall) → (afterCalls cs freshView) .touched ≡ true → First cs
 unfolding afterCalls freshView
 has-first [] t = no-path t
 has-first (c ∷ cs) t =
@@ -195,13 +140,13 @@ has-first (c ∷ cs) t =
       | first g h ↦ record { before = []; call = c; later = cs; split = refl; untouched = refl; annotate = h; made = g }
     ]
 
-calls-append : (xs ys : List Call) (v : View) → afterCalls (xs ++ ys) v ≡ afterCalls ys (afterCalls xs v)
+calls-append : (xs ys : List OwnCall) (v : View) → afterCalls (xs ++ ys) v ≡ afterCalls ys (afterCalls xs v)
 unfolding afterCalls
 calls-append [] ys v = refl
 calls-append (x ∷ xs) ys v = calls-append xs ys (afterOne x v)
 
 -- ---- the length is T, plus all lengths inserted and less all deleted by the accepted calls since then
-module _ {cs : List Call} (f : First cs) where
+module _ {cs : List OwnCall} (f : First cs) where
   now-touched : Touches (touchedBy f)
   now-touched =
       let e = untouched-fresh (f .before) (f .untouched) in

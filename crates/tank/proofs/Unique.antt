@@ -16,7 +16,7 @@ use Rattle.runs.proofs.Laws.{unique, length-runs}
 use Rattle.runs.proofs.BehindLaws.{entries}
 use Rattle.tank.specs.declared.Tank.{Tank}
 use Rattle.tank.specs.Rules.{alike, carried, gathered, runsHeld, View}
-use Rattle.runs.specs.Positions.{stretches}
+use Rattle.runs.specs.Positions.{stretchCount}
 use Rattle.tank.specs.State.{runsOf, tableOf, view, Laid, Formed}
 use Rattle.tank.proofs.Counted.{at-inside, counted}
 use Rattle.tank.proofs.Carried.{gathered-is}
@@ -32,7 +32,7 @@ inside-table {t} f = rw (table-length f) (f .inside)
 pub runs-held : {t : Tank} → Laid t → runsHeld (view t) ≡ t .runs
 unfolding view
 runs-held {t} f =
-    ap (stretches (alike (λ p. pick (tableOf t) (setAt (runsOf t) p)))) (f .sum)
+    ap (stretchCount (alike (λ p. pick (tableOf t) (setAt (runsOf t) p)))) (f .sum)
     ∙ counted (tableOf t) (runsOf t) (f .sorted) (inside-table f) (f .canon)
     ∙ length-runs (t .lens) (t .sets) (t .runs)
 

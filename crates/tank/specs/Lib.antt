@@ -1,3 +1,4 @@
 pub mod Rules
+pub mod Sequences
 pub mod State
 pub mod Steps

@@ -5,14 +5,15 @@ use mathlib.Core.Bool.{Bool, true, false, cond, _&&_, not}
 use mathlib.Core.List.{List, [], _∷_}
 use lib.Dec.{ltb, leb, eqb}
 use lib.ListN.{length}
-use Rattle.runs.specs.Positions.{stretches, stretchTo}
+use Rattle.runs.specs.Positions.{stretchCount, stretchTo}
 use Rattle.styles.specs.declared.Identity.{Identity}
 use Rattle.styles.specs.declared.Mark.{Mark}
 use Rattle.styles.specs.Order.{idOf, sameId}
 use Rattle.styles.specs.Values.{valueNan}
-use Rattle.styles.specs.Marks.{member, insertMark, removeMark, union, common, sameMarks, sameContent}
+use Rattle.styles.specs.Marks.{member, insertMark, removeMark, eitherOf, common, sameMarks, sameContent}
 
--- a length, touched or not, and the marks at each position: none from the length on
+-- a length, touched or not, and the marks at each position. No rule asks for those from the length on; in a tank reached from a fresh one
+-- there are none
 pub record View : Type 0 where
   pub length : ℕ
   pub touched : Bool
@@ -88,13 +89,13 @@ alike at p = sameMarks (at p) (at (suc p))
 
 -- how many stretches the positions below the length have
 abbrev pub runsHeld : View → ℕ
-runsHeld v = stretches (alike (v .at)) (v .length)
+runsHeld v = stretchCount (alike (v .at)) (v .length)
 
 -- ---- The marks that a tank carries: those of any position
 -- the marks of the first n positions together
 unfoldable pub gathered : (ℕ → List Mark) → ℕ → List Mark
 gathered at zero = []
-gathered at (suc n) = union (at n) (gathered at n)
+gathered at (suc n) = eitherOf (at n) (gathered at n)
 
 -- those of all positions below the length
 abbrev pub carried : View → List Mark

@@ -34,7 +34,8 @@ unfoldable pub Numbers : List Mark → Type 0
 Numbers [] = Unit {0}
 Numbers (m ∷ ms) = (valueNan (m .value) ≡ false) × Numbers ms
 
--- runs in joined form over a sorted table, blank behind both; while an edit is under way the table may have marks that no position carries
+-- runs in joined form over a sorted table, blank behind both; while an edit is under way the table may have marks that no position carries.
+-- There are 514 places for runs: the 512 that all tanks share, and two that an edit may add before it is judged
 pub record Laid (t : Tank) : Type 0 where
   pub most : t .runs ≤ 514
   pub canon : Canon (runsOf t)
@@ -56,7 +57,7 @@ pub record Formed (t : Tank) : Type 0 where
   pub whole : gather (runsOf t) ≡ 2 ^ t .marks - 1
   pub fresh : t .touched ≡ false → runsOf t ≡ run freshLength 0 ∷ []
 
--- what a caller holds: a tank in form, with runs that all tanks have room for
+-- what a caller holds: a tank in form, of no more runs than the eight tanks share
 pub record Sound (t : Tank) : Type 0 where
   pub formed : Formed t
   pub within : t .runs ≤ 512

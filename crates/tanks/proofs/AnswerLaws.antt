@@ -12,7 +12,7 @@ use Rattle.tank.specs.State.{view}
 use Rattle.tanks.specs.declared.Done.{Done}
 use Rattle.tanks.specs.declared.Performed.{Performed}
 use Rattle.tanks.specs.declared.Tanks.{Tanks}
-use Rattle.tanks.specs.House.{tankAt, refusalAt, setInserted, firstRemoved}
+use Rattle.tanks.specs.House.{tankAt, refusalAt, insertedSetAt, removedFirstAt}
 use Rattle.tanks.specs.Pool.{tankOf, meaning}
 use Rattle.tanks.specs.Contracts.{CalledAt, Taken, setBeside, firstBeside, PerformedAs, DoneAt}
 use Rattle.tanks.proofs.SettingLaws.{first-zero}
@@ -28,43 +28,43 @@ module _ (s : Tanks) (t : ℕ) where
   own-view x u h same taken = ap view (taken .is ∙ ap (tankOf s) same) ∙ sym (tank-at s t freshView h)
 
   set-done : (pos len : ℕ) (x : Tank) (u : ℕ) → t < 8 → u ≡ t → Taken s u x → refusalAt (meaning s) t (inserting pos len) ≡ 0
-      → insertedSet pos len (view x) ≡ setInserted (meaning s) t pos len
-  unfolding setInserted
+      → insertedSet pos len (view x) ≡ insertedSetAt (meaning s) t pos len
+  unfolding insertedSetAt
   set-done pos len x u h same taken z = rw (own-view x u h same taken, z, own-zero (inserting pos len) h z)
 
-  set-refused : (pos len : ℕ) → 0 < refusalAt (meaning s) t (inserting pos len) → [] ≡ setInserted (meaning s) t pos len
-  unfolding setInserted
+  set-refused : (pos len : ℕ) → 0 < refusalAt (meaning s) t (inserting pos len) → [] ≡ insertedSetAt (meaning s) t pos len
+  unfolding insertedSetAt
   set-refused pos len h = rw (ne-eqb (refusalAt (meaning s) t (inserting pos len)) 0 (λ z. omega arith))
 
   first-done : (id : Identity) (last : ℕ) (x : Tank) (u : ℕ) → t < 8 → u ≡ t → Taken s u x → refusalAt (meaning s) t (removing id last) ≡ 0
-      → removedFirst id last (view x) ≡ firstRemoved (meaning s) t id last
-  unfolding firstRemoved
+      → removedFirst id last (view x) ≡ removedFirstAt (meaning s) t id last
+  unfolding removedFirstAt
   first-done id last x u h same taken z = rw (own-view x u h same taken, z, own-zero (removing id last) h z)
 
-  first-refused : (id : Identity) (last : ℕ) → 0 < refusalAt (meaning s) t (removing id last) → 0 ≡ firstRemoved (meaning s) t id last
-  unfolding firstRemoved
+  first-refused : (id : Identity) (last : ℕ) → 0 < refusalAt (meaning s) t (removing id last) → 0 ≡ removedFirstAt (meaning s) t id last
+  unfolding removedFirstAt
   first-refused id last h = rw (ne-eqb (refusalAt (meaning s) t (removing id last)) 0 (λ z. omega arith))
 
   -- the same for every edit
-  set-beside : (e : Edit) (x : Tank) (u : ℕ) → t < 8 → u ≡ t → Taken s u x → refusalAt (meaning s) t e ≡ 0 → setBeside (λ pos len. insertedSet pos len (view x)) e ≡ setBeside (setInserted (meaning s) t) e
+  set-beside : (e : Edit) (x : Tank) (u : ℕ) → t < 8 → u ≡ t → Taken s u x → refusalAt (meaning s) t e ≡ 0 → setBeside (λ pos len. insertedSet pos len (view x)) e ≡ setBeside (insertedSetAt (meaning s) t) e
   set-beside (annotating a b m) x u h same taken z = refl
   set-beside (inserting pos len) x u h same taken z = set-done pos len x u h same taken z
   set-beside (deleting a b) x u h same taken z = refl
   set-beside (removing id last) x u h same taken z = refl
 
-  first-beside : (e : Edit) (x : Tank) (u : ℕ) → t < 8 → u ≡ t → Taken s u x → refusalAt (meaning s) t e ≡ 0 → firstBeside (λ id last. removedFirst id last (view x)) e ≡ firstBeside (firstRemoved (meaning s) t) e
+  first-beside : (e : Edit) (x : Tank) (u : ℕ) → t < 8 → u ≡ t → Taken s u x → refusalAt (meaning s) t e ≡ 0 → firstBeside (λ id last. removedFirst id last (view x)) e ≡ firstBeside (removedFirstAt (meaning s) t) e
   first-beside (annotating a b m) x u h same taken z = refl
   first-beside (inserting pos len) x u h same taken z = refl
   first-beside (deleting a b) x u h same taken z = refl
   first-beside (removing id last) x u h same taken z = first-done id last x u h same taken z
 
-  no-set : (e : Edit) → 0 < refusalAt (meaning s) t e → [] ≡ setBeside (setInserted (meaning s) t) e
+  no-set : (e : Edit) → 0 < refusalAt (meaning s) t e → [] ≡ setBeside (insertedSetAt (meaning s) t) e
   no-set (annotating a b m) h = refl
   no-set (inserting pos len) h = set-refused pos len h
   no-set (deleting a b) h = refl
   no-set (removing id last) h = refl
 
-  no-first : (e : Edit) → 0 < refusalAt (meaning s) t e → 0 ≡ firstBeside (firstRemoved (meaning s) t) e
+  no-first : (e : Edit) → 0 < refusalAt (meaning s) t e → 0 ≡ firstBeside (removedFirstAt (meaning s) t) e
   no-first (annotating a b m) h = refl
   no-first (inserting pos len) h = refl
   no-first (deleting a b) h = refl

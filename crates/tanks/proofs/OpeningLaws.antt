@@ -16,7 +16,7 @@ use Rattle.tanks.specs.declared.Setting.{Setting}
 use Rattle.tanks.specs.declared.Head.{Head}
 use Rattle.tanks.specs.declared.Run as pool
 use Rattle.tanks.specs.declared.Table.{Table}
-use Rattle.tanks.specs.Settings.{accepted, fit, shares, claims}
+use Rattle.tanks.specs.Settings.{accepted, allKeepRule, shares, claims}
 use Rattle.tanks.specs.House.{smallest, openNumber, opening}
 use Rattle.tanks.specs.Pool.{noHead, noRun, noTable, runsIn, laid, runsBelow, tankIn, tankOf, headOf, tableIn, meaning, Sound, freshly}
 use Rattle.tanks.specs.Contracts.{Opens}
@@ -103,7 +103,7 @@ module _ (st : List Setting) where
     }
 
 pub ones-ok : accepted (replicate 8 smallest) ≡ true
-unfolding accepted fit shares
+unfolding accepted allKeepRule shares
 ones-ok = refl
 
 pub opens-2 : (st : List Setting) → accepted st ≡ false → Opens st (record { number = 2; tanks = freshly (replicate 8 smallest) })

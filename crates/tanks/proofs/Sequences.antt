@@ -2,7 +2,7 @@
 use Prim.Native.Nat.{ℕ, _≤_, _<_}
 use mathlib.Core.Path.{_≡_, refl, ap, _∙_}
 use mathlib.Core.Bool.{true}
-use mathlib.Core.List.{List, [], _∷_}
+use mathlib.Core.List.{List}
 use native.Mathlib.Omega.{arith}
 use lib.ListN.{length}
 use Rattle.tank.specs.Rules.{Edit, deleting, runsHeld, after}
@@ -10,15 +10,11 @@ use Rattle.tanks.specs.declared.Setting.{Setting}
 use Rattle.tanks.specs.declared.Opened.{Opened}
 use Rattle.tanks.specs.declared.Tanks.{Tanks}
 use Rattle.tanks.specs.Settings.{shareOf, limitOf, accepted}
-use Rattle.tanks.specs.House.{House, tankAt, held, refusalAt, Call, afterAll}
+use Rattle.tanks.specs.House.{House, tankAt, held, refusalAt, Call, afterAll, reached}
 use Rattle.tanks.specs.Pool.{runsIn, meaning, Sound}
-use Rattle.tanks.specs.Contracts.{Opens, CalledAt}
+use Rattle.tanks.specs.Contracts.{Opens, CalledAt, Calls, none, call}
 use Rattle.tanks.proofs.MeaningLaws.{held-is}
-use Rattle.tanks.proofs.Theorems.{kept-sound, delete-free, reached, within-limits, never-9-or-10}
-
-pub data Calls : Tanks → List Call → Tanks → Type 0 where
-  none : {s : Tanks} → Calls s [] s
-  call : {s next last : Tanks} {c : Call} {cs : List Call} {number : ℕ} → CalledAt s (c .tank) (c .edit) number next → Calls next cs last → Calls s (c ∷ cs) last
+use Rattle.tanks.proofs.Theorems.{kept-sound, delete-free, within-limits, never-9-or-10}
 
 pub calls-mean : {s last : Tanks} {cs : List Call} → Calls s cs last → meaning last ≡ afterAll (meaning s) cs
 unfolding afterAll
@@ -34,7 +30,7 @@ pub delete-number : {s next : Tanks} {t a b number : ℕ} → Sound s → Called
 delete-number {s} {t = t} {a = a} {b = b} ok p = omega (arith, p .number-is, delete-free (meaning s) t a b (kept-sound s ok))
 
 module _ (st : List Setting) (l : length st ≡ 8) (ok : accepted st ≡ true) (r : Opened) (opened : Opens st r) (cs : List Call) (s : Tanks) (calls : Calls (r .tanks) cs s) where
-  means : meaning s ≡ reached st l ok cs
+  means : meaning s ≡ reached st cs
   unfolding reached
   means = calls-mean calls ∙ ap (λ (h : House). afterAll h cs) (opened .is)
 

@@ -14,7 +14,7 @@ use Rattle.tanks.specs.declared.Head.{Head}
 use Rattle.tanks.specs.declared.Tanks.{Tanks}
 use Rattle.tanks.specs.House.{first}
 use Rattle.tanks.specs.Pool.{tankIn, runsIn, runsBelow, tankOf, Sound}
-use Rattle.tanks.specs.Settings.{noSetting, shareOf, limitOf, fits, fit, shares, accepted, claims, heldAfter, judgement}
+use Rattle.tanks.specs.Settings.{noSetting, shareOf, limitOf, keepsRule, allKeepRule, shares, accepted, claims, heldAfter, judgement}
 use Rattle.tank.specs.declared.Tank.{Tank}
 use Rattle.tanks.specs.Contracts.{Taken, Judged, Small}
 use Rattle.tanks.proofs.LaidLaws.{below-next}
@@ -23,39 +23,39 @@ pub both : (a b : Bool) → a && b ≡ true → (a ≡ true) × (b ≡ true)
 both true b h = (refl, h)
 both false b h = (h, cc)
 
-pub record Fits (s : Setting) : Type 0 where
+pub record Keeps (s : Setting) : Type 0 where
   pub low : 1 ≤ s .share
   pub order : s .share ≤ s .limit
   pub high : s .limit ≤ 512
 
-pub fits-facts : (s : Setting) → fits s ≡ true → Fits s
-fits-facts s h =
+pub keeps-facts : (s : Setting) → keepsRule s ≡ true → Keeps s
+keeps-facts s h =
     let p = both (leb 1 (s .share)) (leb (s .share) (s .limit) && leb (s .limit) 512) h in
     let q = both (leb (s .share) (s .limit)) (leb (s .limit) 512) (p .1) in
     record { low = leb-true 1 (s .share) (p .0); order = leb-true (s .share) (s .limit) (q .0); high = leb-true (s .limit) 512 (q .1) }
 
-fit-at : (st : List Setting) (n u : ℕ) → fit st n ≡ true → u < n → Fits (getD st u noSetting)
-unfolding fit
-fit-at st zero u h g = absurd (omega arith)
-fit-at st (suc n) u h g =
-    let p = both (fit st n) (fits (getD st n noSetting)) h in
+all-keep-at : (st : List Setting) (n u : ℕ) → allKeepRule st n ≡ true → u < n → Keeps (getD st u noSetting)
+unfolding allKeepRule
+all-keep-at st zero u h g = absurd (omega arith)
+all-keep-at st (suc n) u h g =
+    let p = both (allKeepRule st n) (keepsRule (getD st n noSetting)) h in
     elim (decLt u n) [
-      | yes l ↦ fit-at st n u (p .0) l
-      | no l ↦ let e : u ≡ n = omega arith in rw e (fits-facts (getD st n noSetting) (p .1))
+      | yes l ↦ all-keep-at st n u (p .0) l
+      | no l ↦ let e : u ≡ n = omega arith in rw e (keeps-facts (getD st n noSetting) (p .1))
     ]
 
-pub fit-more : (st : List Setting) (n : ℕ) → fit st (n + 1) ≡ (fit st n && fits (getD st n noSetting))
-unfolding fit
-fit-more st n = rw add-one
+pub all-keep-more : (st : List Setting) (n : ℕ) → allKeepRule st (n + 1) ≡ (allKeepRule st n && keepsRule (getD st n noSetting))
+unfolding allKeepRule
+all-keep-more st n = rw add-one
 
--- one that does not fit spoils all
-pub fit-not : (st : List Setting) (n u : ℕ) → u < n → fits (getD st u noSetting) ≡ false → fit st n ≡ false
-unfolding fit
-fit-not st zero u g h = absurd (omega arith)
-fit-not st (suc n) u g h =
+-- one that does not keep it spoils all
+pub all-keep-not : (st : List Setting) (n u : ℕ) → u < n → keepsRule (getD st u noSetting) ≡ false → allKeepRule st n ≡ false
+unfolding allKeepRule
+all-keep-not st zero u g h = absurd (omega arith)
+all-keep-not st (suc n) u g h =
     elim (decLt u n) [
-      | yes l ↦ rw (fit-not st n u l h)
-      | no l ↦ let e : n ≡ u = omega arith in rw (e, h) (last (fit st u))
+      | yes l ↦ rw (all-keep-not st n u l h)
+      | no l ↦ let e : n ≡ u = omega arith in rw (e, h) (last (allKeepRule st u))
     ]
   where
     last : (b : Bool) → b && false ≡ false
@@ -67,13 +67,13 @@ unfolding shares
 shares-more st n = rw add-one
 
 module _ (st : List Setting) (ok : accepted st ≡ true) where
-  pub accepted-at : (u : ℕ) → u < 8 → Fits (getD st u noSetting)
+  pub accepted-at : (u : ℕ) → u < 8 → Keeps (getD st u noSetting)
   unfolding accepted
-  accepted-at u h = fit-at st 8 u (both (fit st 8) (leb (shares st 8) 512) ok .0) h
+  accepted-at u h = all-keep-at st 8 u (both (allKeepRule st 8) (leb (shares st 8) 512) ok .0) h
 
   pub accepted-sum : shares st 8 ≤ 512
   unfolding accepted
-  accepted-sum = leb-true (shares st 8) 512 (both (fit st 8) (leb (shares st 8) 512) ok .1)
+  accepted-sum = leb-true (shares st 8) 512 (both (allKeepRule st 8) (leb (shares st 8) 512) ok .1)
 
 -- ---- claims
 pub claims-more : (st : List Setting) (f : ℕ → ℕ) (n : ℕ) → claims st f (n + 1) ≡ claims st f n + max (f n) (shareOf st n)
@@ -136,21 +136,21 @@ module _ (s : Tanks) (ok : Sound s) where
   sound-judged = record { rule = ok .rule; limits = ok .limits }
 
 -- ---- the code's branches
-pub fits-last : (s : Setting) → 1 ≤ s .share → s .share ≤ s .limit → leb (s .limit) 512 ≡ fits s
-fits-last s h g = rw (le-leb 1 (s .share) h, le-leb (s .share) (s .limit) g)
+pub keeps-last : (s : Setting) → 1 ≤ s .share → s .share ≤ s .limit → leb (s .limit) 512 ≡ keepsRule s
+keeps-last s h g = rw (le-leb 1 (s .share) h, le-leb (s .share) (s .limit) g)
 
-pub fit-grown : (st : List Setting) (u : ℕ) → fit st u ≡ true → fits (getD st u noSetting) ≡ true → fit st (u + 1) ≡ true
-fit-grown st u h g = rw (fit-more st u, h) g
+pub all-keep-grown : (st : List Setting) (u : ℕ) → allKeepRule st u ≡ true → keepsRule (getD st u noSetting) ≡ true → allKeepRule st (u + 1) ≡ true
+all-keep-grown st u h g = rw (all-keep-more st u, h) g
 
-pub accepts-not : (st : List Setting) (u : ℕ) → u < 8 → fits (getD st u noSetting) ≡ false → false ≡ accepted st
+pub accepts-not : (st : List Setting) (u : ℕ) → u < 8 → keepsRule (getD st u noSetting) ≡ false → false ≡ accepted st
 unfolding accepted
-accepts-not st u h g = rw (fit-not st 8 u h g)
+accepts-not st u h g = rw (all-keep-not st 8 u h g)
 
-pub accepts-last : (st : List Setting) (sum u : ℕ) → u ≡ 8 → sum ≡ shares st u → fit st u ≡ true → leb sum 512 ≡ accepted st
+pub accepts-last : (st : List Setting) (sum u : ℕ) → u ≡ 8 → sum ≡ shares st u → allKeepRule st u ≡ true → leb sum 512 ≡ accepted st
 unfolding accepted
 accepts-last st sum u e p q =
     let p′ : sum ≡ shares st 8 = rw e at p in
-    let q′ : fit st 8 ≡ true = rw e at q in
+    let q′ : allKeepRule st 8 ≡ true = rw e at q in
     rw (p′, q′)
 
 module _ (st : List Setting) (held : ℕ → ℕ) (t n : ℕ) where

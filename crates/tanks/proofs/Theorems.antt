@@ -1,5 +1,5 @@
 -- Demand 3, over the rules of document 01: for accepted settings and any list of calls, refused ones among them.
-use Prim.Native.Nat.{ℕ, zero, suc, _+_, _≤_, _<_, max}
+use Prim.Native.Nat.{ℕ, zero, suc, _≤_, _<_, max}
 use mathlib.Core.Path.{_≡_, refl, sym, ap, _∙_, subst}
 use mathlib.Core.Bool.{Bool, true, false}
 use mathlib.Core.Logic.{_≢_}
@@ -16,7 +16,7 @@ use Rattle.tank.proofs.DeleteCount.{delete-fewer}
 use Rattle.tanks.specs.declared.Setting.{Setting}
 use Rattle.tanks.specs.declared.Tanks.{Tanks}
 use Rattle.tanks.specs.Settings.{shareOf, limitOf, accepted, claims, heldAfter, judgement}
-use Rattle.tanks.specs.House.{House, tankAt, held, smallest, opening, refusalAt, withTank, afterAt, setInserted, firstRemoved, Call, afterAll}
+use Rattle.tanks.specs.House.{House, tankAt, held, smallest, opening, refusalAt, withTank, afterAt, insertedSetAt, removedFirstAt, Call, afterAll, reached, holds, Ten}
 use Rattle.tanks.specs.Pool.{runsIn, meaning, Sound, freshly}
 use Rattle.tanks.proofs.SettingLaws.{cond-le, accepted-at, claims-cong, judge-9, judge-10, judge-0, judge-within, judge-sum, first-zero, second-zero}
 use Rattle.tanks.proofs.MeaningLaws.{at-each, held-is, tanks-length}
@@ -134,12 +134,6 @@ others-stay h t e u ne = go (outcome h t e)
     go (done t8 own j z) = rw (after-done h t e z) (getD-set-other (h .tanks) t u (after e (tankAt h t)) freshView ne)
 
 -- ---- refusal 10 comes exactly when no earlier one applies and the sum would pass 512
-pub record Ten (h : House) (t : ℕ) (e : Edit) : Type 0 where
-  pub tank : t < 8
-  pub own : refusal e (tankAt h t) ≡ 0
-  pub limit : runsHeld (after e (tankAt h t)) ≤ limitOf (h .settings) t
-  pub over : 512 < claims (h .settings) (heldAfter (held h) t (runsHeld (after e (tankAt h t)))) 8
-
 pub ten-then : (h : House) (t : ℕ) (e : Edit) → Ten h t e → refusalAt h t e ≡ 10
 ten-then h t e p = refusal-in h t e (p .tank) ∙ rw (p .own) (judge-10 (h .settings) (held h) t _ (p .limit) (p .over))
 
@@ -283,20 +277,16 @@ module _ (h : House) (t : ℕ) (e : Edit) (u : ℕ) (ne : u ≢ t) where
       ]
 
   pub set-stays : (pos len : ℕ) → refusalAt (afterAt h t e) u (inserting pos len) ≢ 10 → refusalAt h u (inserting pos len) ≢ 10
-      → setInserted (afterAt h t e) u pos len ≡ setInserted h u pos len
-  unfolding setInserted
+      → insertedSetAt (afterAt h t e) u pos len ≡ insertedSetAt h u pos len
+  unfolding insertedSetAt
   set-stays pos len p q = rw (number-stays (inserting pos len) p q, others-stay h t e u ne)
 
   pub first-stays : (id : Identity) (last : ℕ) → refusalAt (afterAt h t e) u (removing id last) ≢ 10 → refusalAt h u (removing id last) ≢ 10
-      → firstRemoved (afterAt h t e) u id last ≡ firstRemoved h u id last
-  unfolding firstRemoved
+      → removedFirstAt (afterAt h t e) u id last ≡ removedFirstAt h u id last
+  unfolding removedFirstAt
   first-stays id last p q = rw (number-stays (removing id last) p q, others-stay h t e u ne)
 
--- ---- how many runs the first n tanks hold
-unfoldable pub holds : (ℕ → ℕ) → ℕ → ℕ
-holds f zero = 0
-holds f (suc n) = holds f n + f n
-
+-- ---- the tanks hold no more runs than they claim
 holds-claims : (st : List Setting) (f : ℕ → ℕ) (n : ℕ) → holds f n ≤ claims st f n
 unfolding claims holds
 holds-claims st f zero = omega arith
@@ -304,32 +294,29 @@ holds-claims st f (suc n) = omega (arith, holds-claims st f n)
 
 -- ---- demand 3: opened with accepted settings, after any calls, refused ones among them
 module _ (st : List Setting) (l : length st ≡ 8) (ok : accepted st ≡ true) (cs : List Call) where
-  unfoldable pub reached : House
-  reached = afterAll (opening st) cs
-
-  pub reached-kept : Kept reached
+  pub reached-kept : Kept (reached st cs)
   unfolding reached
   reached-kept = kept-all (opening st) cs (kept-open st l)
 
-  reached-settings : reached .settings ≡ st
+  reached-settings : reached st cs .settings ≡ st
   unfolding reached
   reached-settings = settings-all (opening st) cs ∙ settings-open st ok
 
   -- no tank is over its limit
-  pub within-limits : (u : ℕ) → u < 8 → held reached u ≤ limitOf st u
+  pub within-limits : (u : ℕ) → u < 8 → held (reached st cs) u ≤ limitOf st u
   within-limits u h = rw reached-settings at (reached-kept .limits u h)
 
   -- the sum over tanks of max(runs, share) is within 512, and so are the runs
-  pub within-512 : claims st (held reached) 8 ≤ 512
+  pub within-512 : claims st (held (reached st cs)) 8 ≤ 512
   within-512 = rw reached-settings at (reached-kept .sum)
 
-  pub runs-512 : holds (held reached) 8 ≤ 512
-  runs-512 = omega (arith, holds-claims st (held reached) 8, within-512)
+  pub runs-512 : holds (held (reached st cs)) 8 ≤ 512
+  runs-512 = omega (arith, holds-claims st (held (reached st cs)) 8, within-512)
 
   -- an edit that leaves its tank at or under its share is refused by neither 9 nor 10
-  pub never-9-or-10 : (t : ℕ) (e : Edit) → t < 8 → runsHeld (after e (tankAt reached t)) ≤ shareOf st t → refusalAt reached t e ≤ 8
-  never-9-or-10 t e t8 le = share-free reached t e reached-kept t8 (rw reached-settings le) .1
+  pub never-9-or-10 : (t : ℕ) (e : Edit) → t < 8 → runsHeld (after e (tankAt (reached st cs) t)) ≤ shareOf st t → refusalAt (reached st cs) t e ≤ 8
+  never-9-or-10 t e t8 le = share-free (reached st cs) t e reached-kept t8 (rw reached-settings le) .1
 
   -- a deletion is refused by neither, however many runs the tanks hold
-  pub delete-never-9-or-10 : (t a b : ℕ) → refusalAt reached t (deleting a b) ≤ 4
-  delete-never-9-or-10 t a b = delete-free reached t a b reached-kept
+  pub delete-never-9-or-10 : (t a b : ℕ) → refusalAt (reached st cs) t (deleting a b) ≤ 4
+  delete-never-9-or-10 t a b = delete-free (reached st cs) t a b reached-kept

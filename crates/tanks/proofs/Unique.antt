@@ -21,7 +21,7 @@ use Rattle.tanks.specs.declared.Edited.{Edited}
 use Rattle.tanks.specs.declared.Inserted.{Inserted}
 use Rattle.tanks.specs.declared.Removed.{Removed}
 use Rattle.tanks.specs.declared.Done.{Done}
-use Rattle.tanks.specs.House.{House, setInserted, firstRemoved}
+use Rattle.tanks.specs.House.{House, insertedSetAt, removedFirstAt}
 use Rattle.tanks.specs.Pool.{noHead, noRun, noTable, runsIn, runsBelow, tankIn, tankOf, meaning, Sound}
 use Rattle.tanks.specs.Contracts.{Opens, CalledAt, DoneAt}
 use Rattle.tanks.proofs.LaidLaws.{laid-front}
@@ -135,13 +135,13 @@ pub one-edit : (s : Tanks) (t : ℕ) (e : Edit) (r r′ : Edited) → CalledAt s
 one-edit s t e r r′ p q = λ i. record { number = one-number p q i; tanks = one-next p q i }
 
 pub one-insert : (s : Tanks) (t pos len : ℕ) (r r′ : Inserted)
-    → CalledAt s t (inserting pos len) (r .number) (r .tanks) → r .styles ≡ stylesOf (setInserted (meaning s) t pos len)
-    → CalledAt s t (inserting pos len) (r′ .number) (r′ .tanks) → r′ .styles ≡ stylesOf (setInserted (meaning s) t pos len) → r ≡ r′
+    → CalledAt s t (inserting pos len) (r .number) (r .tanks) → r .styles ≡ stylesOf (insertedSetAt (meaning s) t pos len)
+    → CalledAt s t (inserting pos len) (r′ .number) (r′ .tanks) → r′ .styles ≡ stylesOf (insertedSetAt (meaning s) t pos len) → r ≡ r′
 one-insert s t pos len r r′ p a q b = let f = a ∙ sym b in λ i. record { number = one-number p q i; styles = f i; tanks = one-next p q i }
 
 pub one-remove : (s : Tanks) (t : ℕ) (id : Identity) (last : ℕ) (r r′ : Removed)
-    → CalledAt s t (removing id last) (r .number) (r .tanks) → r .first ≡ firstRemoved (meaning s) t id last
-    → CalledAt s t (removing id last) (r′ .number) (r′ .tanks) → r′ .first ≡ firstRemoved (meaning s) t id last → r ≡ r′
+    → CalledAt s t (removing id last) (r .number) (r .tanks) → r .first ≡ removedFirstAt (meaning s) t id last
+    → CalledAt s t (removing id last) (r′ .number) (r′ .tanks) → r′ .first ≡ removedFirstAt (meaning s) t id last → r ≡ r′
 one-remove s t id last r r′ p a q b = let f = a ∙ sym b in λ i. record { number = one-number p q i; first = f i; tanks = one-next p q i }
 
 -- whichever edit it is

@@ -1,8 +1,8 @@
--- What the functions of this crate promise and ask, each in one record.
+-- What the functions of this crate promise and ask.
 use Prim.Native.Nat.{ℕ, _≤_, _<_}
 use mathlib.Core.Path.{_≡_}
 use mathlib.Core.Bool.{Bool, true, cond}
-use mathlib.Core.List.{List, []}
+use mathlib.Core.List.{List, [], _∷_}
 use lib.Dec.{eqb}
 use Rattle.styles.specs.declared.Identity.{Identity}
 use Rattle.styles.specs.declared.Mark.{Mark}
@@ -20,7 +20,7 @@ use Rattle.tanks.specs.declared.Done.{Done}
 use Rattle.tanks.specs.declared.Count.{Count}
 use Rattle.tanks.specs.declared.YesNo.{YesNo}
 use Rattle.tanks.specs.Settings.{accepted, shareOf, limitOf}
-use Rattle.tanks.specs.House.{openNumber, opening, refusalAt, afterAt, setInserted, firstRemoved}
+use Rattle.tanks.specs.House.{openNumber, opening, refusalAt, afterAt, insertedSetAt, removedFirstAt, Call}
 use Rattle.tanks.specs.Pool.{runsIn, tankOf, meaning, Sound}
 
 -- ---- Public functions
@@ -48,23 +48,7 @@ counts = refusedOrGiven Count.Refused Count.Counts
 abbrev pub says : ℕ → Bool → YesNo
 says = refusedOrGiven YesNo.Refused YesNo.Says
 
--- ---- Inner functions
--- a tank taken out
-pub record Taken (s : Tanks) (t : ℕ) (x : Tank) : Type 0 where
-  pub is : x ≡ tankOf s t
-  pub sound : state.Sound x
-
--- what the judgement asks: settings that keep the rule, and no tank over its limit
-pub record Judged (st : List Setting) (hs : List Head) : Type 0 where
-  pub rule : accepted st ≡ true
-  pub limits : (t : ℕ) → t < 8 → runsIn hs t ≤ limitOf st t
-
--- what its sum asks, so that it fits
-pub record Small (st : List Setting) (hs : List Head) (n : ℕ) : Type 0 where
-  pub shares : (t : ℕ) → t < 8 → shareOf st t ≤ 512
-  pub runs : (t : ℕ) → t < 8 → runsIn hs t ≤ 512
-  pub more : n ≤ 512
-
+-- ---- edit, above which the four are thin, and take: public for the crates above
 -- an edit as the rules have it
 abbrev pub editOf : code.Edit → Edit
 editOf (code.Edit.Annotate start end mark) = annotating start end mark
@@ -86,14 +70,37 @@ firstBeside gives (inserting pos len) = 0
 firstBeside gives (deleting a b) = 0
 firstBeside gives (removing id last) = gives id last
 
+-- what an edit of tank t hands back
+pub record DoneAt (s : Tanks) (t : ℕ) (e : Edit) (r : Done) : Type 0 where
+  pub called : CalledAt s t e (r .number) (r .tanks)
+  pub styles-are : r .styles ≡ stylesOf (setBeside (insertedSetAt (meaning s) t) e)
+  pub first-is : r .first ≡ firstBeside (removedFirstAt (meaning s) t) e
+
+-- a tank taken out
+pub record Taken (s : Tanks) (t : ℕ) (x : Tank) : Type 0 where
+  pub is : x ≡ tankOf s t
+  pub sound : state.Sound x
+
+-- ---- Inner functions
+-- what the judgement asks: settings that keep the rule, and no tank over its limit
+pub record Judged (st : List Setting) (hs : List Head) : Type 0 where
+  pub rule : accepted st ≡ true
+  pub limits : (t : ℕ) → t < 8 → runsIn hs t ≤ limitOf st t
+
+-- what its sum asks, so that it fits
+pub record Small (st : List Setting) (hs : List Head) (n : ℕ) : Type 0 where
+  pub shares : (t : ℕ) → t < 8 → shareOf st t ≤ 512
+  pub runs : (t : ℕ) → t < 8 → runsIn hs t ≤ 512
+  pub more : n ≤ 512
+
 -- what an edit of a tank taken out hands back
 pub record PerformedAs (e : Edit) (x : Tank) (r : Performed) : Type 0 where
   pub called : state.Called e x (r .number) (r .tank)
   pub styles-are : r .styles ≡ stylesOf (setBeside (λ pos len. insertedSet pos len (state.view x)) e)
   pub first-is : r .first ≡ firstBeside (λ id last. removedFirst id last (state.view x)) e
 
--- what an edit of tank t hands back
-pub record DoneAt (s : Tanks) (t : ℕ) (e : Edit) (r : Done) : Type 0 where
-  pub called : CalledAt s t e (r .number) (r .tanks)
-  pub styles-are : r .styles ≡ stylesOf (setBeside (setInserted (meaning s) t) e)
-  pub first-is : r .first ≡ firstBeside (firstRemoved (meaning s) t) e
+-- ---- What the theorems speak of
+-- the code's own states, call after call: whatever the contracts allow from one state to the next, refused calls among them
+pub data Calls : Tanks → List Call → Tanks → Type 0 where
+  none : {s : Tanks} → Calls s [] s
+  call : {s next last : Tanks} {c : Call} {cs : List Call} {number : ℕ} → CalledAt s (c .tank) (c .edit) number next → Calls next cs last → Calls s (c ∷ cs) last

@@ -1,5 +1,6 @@
 -- Document 01 over eight tanks: the settings and what each tank means, with nothing of how they are stored.
-use Prim.Native.Nat.{ℕ}
+use Prim.Native.Nat.{ℕ, zero, suc, _+_, _≤_, _<_}
+use mathlib.Core.Path.{_≡_}
 use mathlib.Core.Bool.{Bool, cond}
 use mathlib.Core.List.{List, [], _∷_}
 use lib.Dec.{leb, eqb}
@@ -8,7 +9,7 @@ use Rattle.styles.specs.declared.Identity.{Identity}
 use Rattle.styles.specs.declared.Mark.{Mark}
 use Rattle.tank.specs.Rules.{View, freshView, runsHeld, Edit, inserting, removing, after, refusal, forInsert, backFrom}
 use Rattle.tanks.specs.declared.Setting.{Setting}
-use Rattle.tanks.specs.Settings.{accepted, judgement}
+use Rattle.tanks.specs.Settings.{limitOf, accepted, claims, heldAfter, judgement}
 
 -- the settings, and eight tanks
 pub record House : Type 0 where
@@ -45,7 +46,7 @@ opening st = freshHouse (cond (accepted st) st (replicate 8 smallest))
 abbrev pub noTank : ℕ → Bool
 noTank t = leb 8 t
 
--- a question of a whole tank is refused by 1 alone
+-- the questions for length, touched and runs are refused by 1 alone
 abbrev pub askNumber : ℕ → ℕ
 askNumber t = cond (noTank t) 1 0
 
@@ -70,12 +71,12 @@ unfoldable pub afterAt : House → ℕ → Edit → House
 afterAt h t e = cond (eqb (refusalAt h t e) 0) (withTank h t (after e (tankAt h t))) h
 
 -- the answer of an insert: the set that the new positions carry; refused: the empty one
-unfoldable pub setInserted : House → ℕ → ℕ → ℕ → List Mark
-setInserted h t pos len = cond (eqb (refusalAt h t (inserting pos len)) 0) (forInsert pos (tankAt h t)) []
+unfoldable pub insertedSetAt : House → ℕ → ℕ → ℕ → List Mark
+insertedSetAt h t pos len = cond (eqb (refusalAt h t (inserting pos len)) 0) (forInsert pos (tankAt h t)) []
 
 -- the answer of a removal: the first position of the stretch, or last + 1; refused: 0
-unfoldable pub firstRemoved : House → ℕ → Identity → ℕ → ℕ
-firstRemoved h t id last = cond (eqb (refusalAt h t (removing id last)) 0) (backFrom id last (tankAt h t)) 0
+unfoldable pub removedFirstAt : House → ℕ → Identity → ℕ → ℕ
+removedFirstAt h t id last = cond (eqb (refusalAt h t (removing id last)) 0) (backFrom id last (tankAt h t)) 0
 
 -- ---- Calls one after another, refused ones among them
 -- an edit, and the tank that it is for
@@ -87,3 +88,20 @@ pub record Call : Type 0 where
 unfoldable pub afterAll : House → List Call → House
 afterAll h [] = h
 afterAll h (c ∷ cs) = afterAll (afterAt h (c .tank) (c .edit)) cs
+
+-- ---- What the theorems speak of
+-- opened with these settings, after any calls, refused ones among them
+unfoldable pub reached : List Setting → List Call → House
+reached st cs = afterAll (opening st) cs
+
+-- how many runs the first n tanks hold
+unfoldable pub holds : (ℕ → ℕ) → ℕ → ℕ
+holds f zero = 0
+holds f (suc n) = holds f n + f n
+
+-- when 10 is due: no lower number applies, and the sum over tanks of max(runs after, share) would pass 512
+pub record Ten (h : House) (t : ℕ) (e : Edit) : Type 0 where
+  pub tank : t < 8
+  pub own : refusal e (tankAt h t) ≡ 0
+  pub limit : runsHeld (after e (tankAt h t)) ≤ limitOf (h .settings) t
+  pub over : 512 < claims (h .settings) (heldAfter (held h) t (runsHeld (after e (tankAt h t)))) 8

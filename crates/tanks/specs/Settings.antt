@@ -1,4 +1,5 @@
--- Document 01, "Numbers" and refusals 9 and 10: eight pairs of share and limit, and the judgement by how many runs each tank holds.
+-- Document 01, "Numbers" and refusals 2, 9 and 10: eight pairs of share and limit, the rule that they keep, and the judgement by how many
+-- runs each tank holds.
 use Prim.Native.Nat.{ℕ, zero, suc, _+_, max}
 use mathlib.Core.Bool.{Bool, true, cond, _&&_}
 use mathlib.Core.List.{List}
@@ -19,23 +20,23 @@ abbrev pub limitOf : List Setting → ℕ → ℕ
 limitOf st t = getD st t noSetting .limit
 
 -- ---- The settings' rule
--- 1 <= share <= limit <= 512
-abbrev pub fits : Setting → Bool
-fits s = leb 1 (s .share) && (leb (s .share) (s .limit) && leb (s .limit) 512)
+-- a pair keeps it: 1 <= share <= limit <= 512
+abbrev pub keepsRule : Setting → Bool
+keepsRule s = leb 1 (s .share) && (leb (s .share) (s .limit) && leb (s .limit) 512)
 
--- each of the first n pairs does
-unfoldable pub fit : List Setting → ℕ → Bool
-fit st zero = true
-fit st (suc n) = fit st n && fits (getD st n noSetting)
+-- each of the first n pairs keeps it
+unfoldable pub allKeepRule : List Setting → ℕ → Bool
+allKeepRule st zero = true
+allKeepRule st (suc n) = allKeepRule st n && keepsRule (getD st n noSetting)
 
 -- the sum of the first n shares
 unfoldable pub shares : List Setting → ℕ → ℕ
 shares st zero = 0
 shares st (suc n) = shares st n + shareOf st n
 
--- eight such pairs, the shares summing to at most 512
+-- eight pairs that keep it, the shares summing to at most 512
 unfoldable pub accepted : List Setting → Bool
-accepted st = fit st 8 && leb (shares st 8) 512
+accepted st = allKeepRule st 8 && leb (shares st 8) 512
 
 -- ---- Refusals 9 and 10, by how many runs each tank holds
 -- the sum over the first n tanks of max(runs, share)

@@ -8,7 +8,7 @@ ghost use Prim.Native.Nat.{_<_};
 ghost use Rattle.styles.specs.Answers.{stylesOf};
 ghost use Rattle.tank.specs.State as state;
 ghost use Rattle.tank.specs.Rules.{annotating, deleting, inserting, removing};
-ghost use Rattle.tanks.specs.House.{tankAt, held, setInserted, firstRemoved, askNumber};
+ghost use Rattle.tanks.specs.House.{tankAt, held, insertedSetAt, removedFirstAt, askNumber};
 ghost use Rattle.tanks.specs.Pool.{freshly, meaning, Sound};
 ghost use Rattle.tanks.specs.Contracts.{Opens, CalledAt, counts, says, Taken, editOf, PerformedAs, DoneAt};
 use pool::head_of;
@@ -319,7 +319,7 @@ impl Tanks {
     pub fn insert(self, tank: u64, pos: u64, len: u64) -> Inserted
         requires { ⌜ Sound self ⌝ }
         ensures { λ r. ⌜ CalledAt self tank (inserting pos len) (r .number) (r .tanks) ⌝ }
-        ensures { λ r. ⌜ r .styles ≡ stylesOf (setInserted (meaning self) tank pos len) ⌝ }
+        ensures { λ r. ⌜ r .styles ≡ stylesOf (insertedSetAt (meaning self) tank pos len) ⌝ }
     {
         let done = self.edit(tank, Edit::Insert(pos, len));
         let tanks = done.tanks;
@@ -335,7 +335,7 @@ impl Tanks {
     pub fn remove_style_scanning_backward(self, tank: u64, id: Identity, last: u64) -> Removed
         requires { ⌜ Sound self ⌝ }
         ensures { λ r. ⌜ CalledAt self tank (removing id last) (r .number) (r .tanks) ⌝ }
-        ensures { λ r. ⌜ r .first ≡ firstRemoved (meaning self) tank id last ⌝ }
+        ensures { λ r. ⌜ r .first ≡ removedFirstAt (meaning self) tank id last ⌝ }
     {
         let done = self.edit(tank, Edit::Remove(id, last));
         let tanks = done.tanks;

@@ -3,7 +3,7 @@ ghost use mathlib.Core.Path.{_≡_};
 ghost use mathlib.Core.Bool.{cond};
 ghost use Prim.Native.Nat.{_<_, max};
 ghost use lib.Dec.{eqb};
-ghost use Rattle.tanks.specs.Settings.{fits, accepted, claims, heldAfter, judgement};
+ghost use Rattle.tanks.specs.Settings.{keepsRule, accepted, claims, heldAfter, judgement};
 ghost use Rattle.tanks.specs.House.{first};
 ghost use Rattle.tanks.specs.Pool.{runsIn};
 ghost use Rattle.tanks.specs.Contracts.{Judged, Small};
@@ -29,8 +29,8 @@ fn larger(a: u64, b: u64) -> u64
 }
 
 // Whether a pair of share and limit keeps the rule.
-fn fits(s: Setting) -> bool
-    ensures { λ r. ⌜ r ≡ fits s ⌝ }
+fn keeps_rule(s: Setting) -> bool
+    ensures { λ r. ⌜ r ≡ keepsRule s ⌝ }
 {
     if s.share < 1 {
         return false;
@@ -49,7 +49,7 @@ pub fn accepts(settings: [Setting; 8]) -> bool
     let mut u = 0;
     while u < 8 {
         let s = settings[u];
-        if !fits(s) {
+        if !keeps_rule(s) {
             return false;
         }
         sum += s.share;

@@ -33,17 +33,17 @@ stepped-all {f} {h} {n} {m} s l = let e : n ≡ m = omega (arith, s .most, l) in
 -- ---- n of m turns are added up
 pub record Summed (f : ℕ → ℕ) (n m sum : ℕ) : Type 0 where
   pub most : n ≤ m
-  pub is : sum ≡ rules.sum f n
+  pub is : sum ≡ rules.summed f n
 
 pub summed-none : (f : ℕ → ℕ) (m : ℕ) → Summed f 0 m 0
-unfolding rules.sum
+unfolding rules.summed
 summed-none f m = record { most = omega arith; is = refl }
 
 pub summed-next : {f : ℕ → ℕ} {n m s x r : ℕ} → Summed f n m s → n < m → x ≡ f n → r ≡ (s + x) % 2 ^ 64 → Summed f (n + 1) m r
-unfolding rules.sum
+unfolding rules.summed
 summed-next s l e w = record { most = omega arith; is = rw add-one (rw (w, s .is, e)) }
 
-pub summed-all : {f : ℕ → ℕ} {n m s : ℕ} → Summed f n m s → m ≤ n → s ≡ rules.sum f m
+pub summed-all : {f : ℕ → ℕ} {n m s : ℕ} → Summed f n m s → m ≤ n → s ≡ rules.summed f m
 summed-all {f} {n} {m} s l = let e : n ≡ m = omega (arith, s .most, l) in rw (← e) (s .is)
 
 -- ---- The house that the last turn leaves

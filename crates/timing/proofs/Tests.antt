@@ -3,7 +3,7 @@ use Prim.Native.Nat.{_+_, _^_}
 use mathlib.Core.Path.{_≡_, refl}
 use Rattle.tank.specs.Rules.{inserting, removing}
 use Rattle.styles.specs.Order.{idOf}
-use Rattle.timing.specs.Work.{extra, spot, editAt, sum, timed}
+use Rattle.timing.specs.Work.{extra, spot, editAt, summed, timed}
 
 -- of 50 runs 49 are marked: turn 0 works on run 3, turn 1 on run 10, turn 7 on run 3 again
 spots : (spot 50 0 ≡ 30) × (spot 50 1 ≡ 100) × (spot 50 7 ≡ 30)
@@ -14,8 +14,8 @@ calls : (editAt 3 50 0 ≡ inserting 40 2) × (editAt 7 50 0 ≡ removing (idOf 
 calls = (refl, refl)
 
 -- the sum has 64 bits
-wraps : sum (λ k. 2 ^ 63 + k) 2 ≡ 1
-unfolding sum
+wraps : summed (λ k. 2 ^ 63 + k) 2 ≡ 1
+unfolding summed
 wraps = refl
 
 -- there is no work 11

@@ -6,14 +6,13 @@ use mathlib.Core.List.{List, _∷_}
 use lib.Dec.{ltb, eqb}
 use lib.IntN.{pos}
 use lib.ListN.{length, replicate}
-use Rattle.styles.specs.declared.Identity.{Identity}
 use Rattle.styles.specs.declared.Mark.{Mark}
 use Rattle.styles.specs.declared.Value.the-variants.{Null, Whole}
 use Rattle.styles.specs.Order.{idOf}
 use Rattle.styles.specs.Values.{sameValue}
 use Rattle.tank.specs.Rules.{Edit, annotating, inserting, deleting, removing}
 use Rattle.tanks.specs.declared.Setting.{Setting}
-use Rattle.tanks.specs.House.{House, tankAt, smallest, opening, afterAt, setInserted}
+use Rattle.tanks.specs.House.{House, tankAt, smallest, opening, afterAt, insertedSetAt}
 use Rattle.tanks.specs.Contracts.{setBeside}
 use Rattle.questions.specs.declared.Told.{Told}
 use Rattle.questions.specs.declared.Told.the-variants as told
@@ -90,7 +89,9 @@ spot runs turn = (turn % (runs - 1) * 7 + 3) % (runs - 1) * 10
 abbrev pub middle : ℕ → ℕ
 middle runs = (runs - 1) / 2 * 10
 
--- the edit of a turn: inside a run, wide, inside, between two runs, inside, across a boundary, from a run's end, from the marked part's end
+-- the edit of a turn. Work 0 lays the extra mark inside a run, 1 on the marked part but for its first and last position; 2 inserts inside a
+-- run, 3 between two runs; 4 deletes inside a run, 5 across a boundary; 6 removes the extra mark from the end of the run in the middle, 7 from
+-- that of the marked part
 abbrev pub editAt : ℕ → ℕ → ℕ → Edit
 editAt work runs turn =
     cond (eqb work 0) (annotating (spot runs turn + 3) (spot runs turn + 8) extra)
@@ -127,7 +128,7 @@ keyTo work runs turn = cond (eqb work 8) (spot runs turn + 6) (runs * 10 - 10)
 -- ---- What a call counts for
 -- an insertion, works 2 and 3: how many marks its answer holds; another edit: the tank's length after it
 abbrev pub counted : ℕ → Edit → House → ℕ
-counted work e h = cond (eqb (work / 2) 1) (length (setBeside (setInserted h 0) e)) (tankAt (afterAt h 0 e) 0 .length)
+counted work e h = cond (eqb (work / 2) 1) (length (setBeside (insertedSetAt h 0) e)) (tankAt (afterAt h 0 e) 0 .length)
 
 -- turn k of works 0 to 7
 abbrev pub editScore : ℕ → ℕ → House → ℕ → ℕ
@@ -155,9 +156,9 @@ valueScore runs marks h k = ifShown marks (valueAsked (spot runs k + 5) marks h)
 
 -- ---- The sums, in 64 bits
 -- of turns 0 to n - 1
-unfoldable pub sum : (ℕ → ℕ) → ℕ → ℕ
-sum score zero = 0
-sum score (suc n) = (sum score n + score n) % 2 ^ 64
+unfoldable pub summed : (ℕ → ℕ) → ℕ → ℕ
+summed score zero = 0
+summed score (suc n) = (summed score n + score n) % 2 ^ 64
 
 -- the house after the last of n turns; each of them meets the same house
 unfoldable pub left : (ℕ → Edit) → ℕ → House → House
@@ -167,11 +168,11 @@ left edit (suc n) h = afterAt h 0 (edit n)
 -- edits: at the end the last house is asked for a key which no mark has, so that a compiler can't leave the edits undone
 abbrev pub editSum : ℕ → ℕ → ℕ → House → ℕ
 editSum work runs turns h =
-    (sum (editScore work runs h) turns + oneIfYes (keyAsked 0 5000 999 (left (editAt work runs) turns h))) % 2 ^ 64
+    (summed (editScore work runs h) turns + oneIfYes (keyAsked 0 5000 999 (left (editAt work runs) turns h))) % 2 ^ 64
 
 -- the sum of a work on a tank of so many runs and marks; there is no other work
 abbrev pub timed : ℕ → ℕ → ℕ → ℕ → ℕ
 timed work runs marks turns =
     cond (ltb work 8) (editSum work runs turns (carrying work runs (built runs marks)))
-    (cond (ltb work 10) (sum (keyScore work runs (built runs marks)) turns)
-    (cond (eqb work 10) (sum (valueScore runs marks (built runs marks)) turns) 0))
+    (cond (ltb work 10) (summed (keyScore work runs (built runs marks)) turns)
+    (cond (eqb work 10) (summed (valueScore runs marks (built runs marks)) turns) 0))

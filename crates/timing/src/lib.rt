@@ -318,7 +318,7 @@ fn edits(work: u64, s: Tanks, runs: u64, turns: u64) -> u64
 fn keys(work: u64, s: Tanks, runs: u64, turns: u64) -> u64
     requires { ⌜ Sound s ⌝ }
     requires { ⌜ Sized runs ⌝ }
-    ensures { λ r. ⌜ r ≡ rules.sum (rules.keyScore work runs (meaning s)) turns ⌝ }
+    ensures { λ r. ⌜ r ≡ rules.summed (rules.keyScore work runs (meaning s)) turns ⌝ }
 {
     let mut sum = 0;
     let mut k = 0;
@@ -336,7 +336,7 @@ fn keys(work: u64, s: Tanks, runs: u64, turns: u64) -> u64
 fn values(s: Tanks, runs: u64, marks: u64, turns: u64) -> u64
     requires { ⌜ Sound s ⌝ }
     requires { ⌜ Sized runs × (marks ≤ 63) ⌝ }
-    ensures { λ r. ⌜ r ≡ rules.sum (rules.valueScore runs marks (meaning s)) turns ⌝ }
+    ensures { λ r. ⌜ r ≡ rules.summed (rules.valueScore runs marks (meaning s)) turns ⌝ }
 {
     let mut sum = 0;
     let mut k = 0;

@@ -3,8 +3,7 @@ use borrow.Author.Needs.{needs}
 use Prim.Native.Nat.{ℕ}
 use mathlib.Core.Path.{_≡_, _∙_}
 use Rattle.lists.specs.declared.Listed.{Listed}
-use Rattle.lists.specs.Lists.{filledBeside}
-use Rattle.lists.specs.Anchors.{anchors}
+use Rattle.lists.specs.Anchors.{anchorsNeeded}
 use Rattle.ask.specs.Asks.{noList}
 use Rattle.ask.proofs.AskLaws.{past, inside}
 use Rattle.ask.proofs.anchors_needed.Statement.{statement}
@@ -15,7 +14,7 @@ use Rattle.ask.proofs.anchors_needed.Lts as lts
 returns : tie.Need-returns
 returns c =
     let s = c .before .before in
-    past (s .args .s) (s .args .tank) noList (λ v. filledBeside 0 (anchors v)) (c .before .if1 .taken) (c .no-list .ensures)
+    past (s .args .s) (s .args .tank) noList anchorsNeeded (c .before .if1 .taken) (c .no-list .ensures)
 
 listed : (r : Listed) (a b : ℕ) → r .number ≡ a → r .count ≡ b → r ≡ record { number = a; count = b }
 listed r a b e g = λ i. record { number = e i; count = g i }
@@ -27,7 +26,7 @@ returns-2 c =
     let n = k .before in
     let e = n .before in
     let s = e .before in
-    inside (s .args .s) (s .args .tank) noList (λ v. filledBeside 0 (anchors v)) (n .narrow .result) (e .if1 .left) (n .narrow .ensures) (k .take .ensures)
+    inside (s .args .s) (s .args .tank) noList anchorsNeeded (n .narrow .result) (e .if1 .left) (n .narrow .ensures) (k .take .ensures)
     (listed _ _ _ (c .counted .ensures .0) (c .counted .ensures .1 ∙ w .anchors-needed .ensures))
 
 pub anchors-needed-spec : {M : Type 1} → statement M

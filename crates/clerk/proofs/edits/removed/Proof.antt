@@ -8,7 +8,7 @@ use Rattle.script.specs.Args.{numberAt}
 use Rattle.styles.specs.declared.Identity.{Identity}
 use Rattle.tank.specs.Rules.{removing}
 use Rattle.tanks.specs.Contracts.{CalledAt}
-use Rattle.tanks.specs.House.{firstRemoved}
+use Rattle.tanks.specs.House.{removedFirstAt}
 use Rattle.tanks.specs.Pool.{meaning}
 use Rattle.clerk.proofs.edits.removed.Statement.{statement}
 use Rattle.clerk.proofs.edits.removed.Tie as tie
@@ -21,7 +21,7 @@ returns c =
     let done =
     subst
     (λ (id : Identity). CalledAt (a .s) (numberAt (a .call) 0) (removing id (numberAt (a .call) 4)) (e .remove-style-scanning-backward .result .number) (e .remove-style-scanning-backward .result .tanks)
-    × (e .remove-style-scanning-backward .result .first ≡ firstRemoved (meaning (a .s)) (numberAt (a .call) 0) id (numberAt (a .call) 4)))
+    × (e .remove-style-scanning-backward .result .first ≡ removedFirstAt (meaning (a .s)) (numberAt (a .call) 0) id (numberAt (a .call) 4)))
     (e .before .identity-of .ensures)
     (e .remove-style-scanning-backward .ensures) in
     record { sound = done .0 .sound; is = done .0 .is; answer = adds-as (ap₂ firstSays (done .0 .number-is) (done .1)) (c .before .before .first-or .ensures) }

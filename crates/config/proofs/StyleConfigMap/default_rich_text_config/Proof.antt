@@ -4,8 +4,8 @@ use borrow.Author.Needs.{needs}
 use Rattle.richtext.specs.Bytes.{same}
 use Rattle.richtext.specs.declared.ExpandType.the-variants.{After, None}
 use Rattle.config.specs.Names.{holdsColon}
-use Rattle.config.specs.Table.{known, entered, insert}
-use Rattle.config.specs.BuiltIn.{growing, bold, italic, underline, link, highlight, comment, code, builtIn}
+use Rattle.config.specs.Table.{known, entered, withEntry}
+use Rattle.config.specs.BuiltIn.{growing, boldName, italicName, underlineName, linkName, highlightName, commentName, codeName, builtIn}
 use Rattle.config.specs.Meaning.{configured}
 use Rattle.config.proofs.StyleConfigMap.default_rich_text_config.Statement.{statement}
 use Rattle.config.proofs.StyleConfigMap.default_rich_text_config.Tie as tie
@@ -58,31 +58,31 @@ with-requires-7 c κs = search needs
 -- the names come one after the other
 after-1 : (c : tie.After-with) → configured (c .with .result) ≡ builtIn 1
 unfolding holdsColon known entered same
-after-1 c = c .with .ensures .means ∙ ap (insert bold (growing bold After .style)) (c .before .before .new .ensures .means)
+after-1 c = c .with .ensures .means ∙ ap (withEntry boldName (growing boldName After .style)) (c .before .before .new .ensures .means)
 
 after-2 : (c : tie.After-with2) → configured (c .with2 .result) ≡ builtIn 2
 unfolding holdsColon known entered same
-after-2 c = c .with2 .ensures .means ∙ ap (insert italic (growing italic After .style)) (after-1 (c .before .before))
+after-2 c = c .with2 .ensures .means ∙ ap (withEntry italicName (growing italicName After .style)) (after-1 (c .before .before))
 
 after-3 : (c : tie.After-with3) → configured (c .with3 .result) ≡ builtIn 3
 unfolding holdsColon known entered same
-after-3 c = c .with3 .ensures .means ∙ ap (insert underline (growing underline After .style)) (after-2 (c .before .before))
+after-3 c = c .with3 .ensures .means ∙ ap (withEntry underlineName (growing underlineName After .style)) (after-2 (c .before .before))
 
 after-4 : (c : tie.After-with4) → configured (c .with4 .result) ≡ builtIn 4
 unfolding holdsColon known entered same
-after-4 c = c .with4 .ensures .means ∙ ap (insert link (growing link None .style)) (after-3 (c .before .before))
+after-4 c = c .with4 .ensures .means ∙ ap (withEntry linkName (growing linkName None .style)) (after-3 (c .before .before))
 
 after-5 : (c : tie.After-with5) → configured (c .with5 .result) ≡ builtIn 5
 unfolding holdsColon known entered same
-after-5 c = c .with5 .ensures .means ∙ ap (insert highlight (growing highlight None .style)) (after-4 (c .before .before))
+after-5 c = c .with5 .ensures .means ∙ ap (withEntry highlightName (growing highlightName None .style)) (after-4 (c .before .before))
 
 after-6 : (c : tie.After-with6) → configured (c .with6 .result) ≡ builtIn 6
 unfolding holdsColon known entered same
-after-6 c = c .with6 .ensures .means ∙ ap (insert comment (growing comment None .style)) (after-5 (c .before .before))
+after-6 c = c .with6 .ensures .means ∙ ap (withEntry commentName (growing commentName None .style)) (after-5 (c .before .before))
 
 after-7 : (c : tie.After-with7) → configured (c .with7 .result) ≡ builtIn 7
 unfolding holdsColon known entered same
-after-7 c = c .with7 .ensures .means ∙ ap (insert code (growing code None .style)) (after-6 (c .before .before))
+after-7 c = c .with7 .ensures .means ∙ ap (withEntry codeName (growing codeName None .style)) (after-6 (c .before .before))
 
 returns : tie.Need-returns
 returns c = record { sound = c .with7 .ensures .sound; means = after-7 c }

@@ -6,23 +6,23 @@ use mathlib.Core.Path.{_≡_, refl, sym, _∙_}
 use mathlib.Core.Bool.{true}
 use lib.ListN.{getD}
 use borrow.Author.Tests.{not-true, not-false}
-use Rattle.tanks.specs.Settings.{noSetting, fits, fit, shares}
+use Rattle.tanks.specs.Settings.{noSetting, keepsRule, allKeepRule, shares}
 use Rattle.tanks.specs.Pool.{runsBelow}
-use Rattle.tanks.proofs.SettingLaws.{fits-facts, fit-grown, accepts-not, accepts-last, shares-more}
+use Rattle.tanks.proofs.SettingLaws.{keeps-facts, all-keep-grown, accepts-not, accepts-last, shares-more}
 use Rattle.tanks.proofs.settings.accepts.Statement.{statement}
 use Rattle.tanks.proofs.settings.accepts.Tie as tie
 use Rattle.tanks.proofs.settings.accepts.Reads as reads
 use Rattle.tanks.proofs.settings.accepts.Lts as lts
-use Rattle.tanks.proofs.settings.fits.Reads as fits-reads
+use Rattle.tanks.proofs.settings.keeps_rule.Reads as keeps-rule-reads
 
 abbrev Inv-loop : tie.InvT-loop
-Inv-loop settings sum₀ u₀ sum u = (u ≤ 8) × (sum ≡ shares settings u) × (sum ≤ 512 * u) × (fit settings u ≡ true)
+Inv-loop settings sum₀ u₀ sum u = (u ≤ 8) × (sum ≡ shares settings u) × (sum ≤ 512 * u) × (allKeepRule settings u ≡ true)
 
 abbrev μ-loop : tie.MeasureT-loop
 μ-loop settings sum₀ u₀ sum u = 8 - u
 
 loop-holds : tie.Need-loop-holds Inv-loop μ-loop
-unfolding shares fit
+unfolding shares allKeepRule
 loop-holds c = (omega arith, refl, omega arith, refl)
 
 mul-s : tie.Need-mul-s Inv-loop μ-loop
@@ -31,14 +31,14 @@ mul-s c = search needs
 array-copy-out-s : tie.Need-array-copy-out-s Inv-loop μ-loop
 array-copy-out-s c = search needs
 
-fits-requires : tie.Need-fits-requires Inv-loop μ-loop
-fits-requires c κs = search needs
+keeps-rule-requires : tie.Need-keeps-rule-requires Inv-loop μ-loop
+keeps-rule-requires c κs = search needs
 
 returns : tie.Need-returns Inv-loop μ-loop
-returns c = let l = c .before .before .before .before .loop in accepts-not (c .before .before .before .before .before .args .t1) (l .u) (omega arith) (sym (c .before .fits2 .ensures) ∙ not-true (c .before .fits2 .result) (c .if1 .taken))
+returns c = let l = c .before .before .before .before .loop in accepts-not (c .before .before .before .before .before .args .t1) (l .u) (omega arith) (sym (c .before .keeps-rule .ensures) ∙ not-true (c .before .keeps-rule .result) (c .if1 .taken))
 
 add-sum : tie.Need-add-sum Inv-loop μ-loop
-add-sum c = omega (arith, fits-facts (getD (c .before .before .before .before .before .before .args .t1) (c .before .before .before .before .before .loop .u) noSetting) (sym (c .before .before .fits2 .ensures) ∙ not-false (c .before .before .fits2 .result) (c .before .if1 .left)))
+add-sum c = omega (arith, keeps-facts (getD (c .before .before .before .before .before .before .args .t1) (c .before .before .before .before .before .loop .u) noSetting) (sym (c .before .before .keeps-rule .ensures) ∙ not-false (c .before .before .keeps-rule .result) (c .before .if1 .left)))
 
 add-u : tie.Need-add-u Inv-loop μ-loop
 add-u c = search needs
@@ -50,9 +50,9 @@ loop-again : tie.Need-loop-again Inv-loop μ-loop
 loop-again c =
     let st = c .before .before .before .before .before .before .args .t1 in
     let l = c .before .before .before .before .before .loop in
-    let ok : fits (getD st (l .u) noSetting) ≡ true = sym (c .before .before .fits2 .ensures) ∙ not-false (c .before .before .fits2 .result) (c .before .if1 .left) in
-    let f = fits-facts (getD st (l .u) noSetting) ok in
-    (omega arith, omega (arith, shares-more st (l .u)), omega (arith, f), fit-grown st (l .u) (l .inv .3) ok)
+    let ok : keepsRule (getD st (l .u) noSetting) ≡ true = sym (c .before .before .keeps-rule .ensures) ∙ not-false (c .before .before .keeps-rule .result) (c .before .if1 .left) in
+    let f = keeps-facts (getD st (l .u) noSetting) ok in
+    (omega arith, omega (arith, shares-more st (l .u)), omega (arith, f), all-keep-grown st (l .u) (l .inv .3) ok)
 
 returns-2 : tie.Need-returns-2 Inv-loop μ-loop
 returns-2 c = accepts-last (c .before .before .args .t1) (c .before .loop .sum) (c .before .loop .u) (omega arith) (c .before .loop .inv .1) (c .before .loop .inv .3)
@@ -66,7 +66,7 @@ accepts-spec =
     loop-holds
     mul-s
     array-copy-out-s
-    fits-requires
+    keeps-rule-requires
     returns
     add-sum
     add-u
