@@ -11,5 +11,7 @@ pub mod OpeningLaws
 pub mod Unique
 pub mod Theorems
 pub mod Sequences
+pub mod Lengths
+pub mod Sorted
 pub mod OnRuns
 pub mod Tests

@@ -1,0 +1,118 @@
+-- Document 01: a set is given by key, then lamport, then peer. So stand the marks at every position of every tank, and in the sets that are handed out.
+use Prim.Native.Nat.{ℕ, _+_, _-_, _<_}
+use mathlib.Core.Path.{_≡_, sym, subst}
+use mathlib.Core.Bool.{Bool, true, false, cond}
+use mathlib.Core.List.{List, [], _∷_}
+use native.Mathlib.Omega.{arith}
+use native.Mathlib.Decide.{decLt}
+use lib.Dec.{ltb, eqb}
+use lib.ListN.{length}
+use Rattle.styles.specs.declared.Mark.{Mark}
+use Rattle.styles.specs.Marks.{Sorted}
+use Rattle.styles.proofs.WalkLaws.{sorted-pick}
+use Rattle.styles.proofs.SetLaws.{sorted-insert, sorted-remove, sorted-common}
+use Rattle.tank.specs.declared.Tank.{Tank}
+use Rattle.tank.specs.Rules.{View, within, freshView, Edit, annotating, inserting, deleting, removing, afterAnnotate, inherited, afterInsert, forInsert, afterDelete, backFrom, stripped, afterRemove, after}
+use Rattle.tank.specs.State.{view, Laid, tableOf}
+use Rattle.tank.proofs.Sequences as one
+use Rattle.tanks.specs.declared.Setting.{Setting}
+use Rattle.tanks.specs.declared.Tanks.{Tanks}
+use Rattle.tanks.specs.Settings.{accepted}
+use Rattle.tanks.specs.House.{House, tankAt, refusalAt, setInserted, opening, Call}
+use Rattle.tanks.specs.Pool.{meaning, Sound, tankOf}
+use Rattle.tanks.proofs.MeaningLaws.{tank-at}
+use Rattle.tanks.proofs.CallLaws.{refusal-past}
+use Rattle.tanks.proofs.Theorems.{reached}
+use Rattle.tanks.proofs.Lengths.{callsOn, own-reached}
+
+-- every position of a tank has its marks sorted
+abbrev pub InOrder : View → Type 0
+InOrder v = (p : ℕ) → Sorted (v .at p)
+
+-- ---- the code's states
+-- the sets of a tank's runs are picked from one sorted table
+view-sorted : (x : Tank) → Laid x → InOrder (view x)
+unfolding view
+view-sorted x ok p = sorted-pick (tableOf x) _ (ok .sorted)
+
+-- the marks at every position of every tank of a sound state are sorted
+pub sets-sorted : (s : Tanks) → Sound s → (t p : ℕ) → t < 8 → Sorted (tankAt (meaning s) t .at p)
+sets-sorted s ok t p t8 = subst InOrder (sym (tank-at s t freshView t8)) (view-sorted (tankOf s t) (ok .each t t8 .laid)) p
+
+-- ---- the sets of the rules
+-- either of two sorted sets is sorted, whatever the test
+either-sorted : (b : Bool) (xs ys : List Mark) → Sorted xs → Sorted ys → Sorted (cond b xs ys)
+either-sorted true xs ys h k = h
+either-sorted false xs ys h k = k
+
+-- and so of two tanks
+either-order : (b : Bool) (u v : View) → InOrder u → InOrder v → InOrder (cond b u v)
+either-order true u v h k = h
+either-order false u v h k = k
+
+-- the empty set is sorted
+none-sorted : Sorted []
+unfolding Sorted
+none-sorted = tt
+
+-- what new positions inherit
+inherited-sorted : (pos : ℕ) (v : View) → InOrder v → Sorted (inherited pos v)
+unfolding inherited
+inherited-sorted pos v h =
+    either-sorted (eqb pos 0) [] _ none-sorted
+    (either-sorted (eqb pos (v .length)) [] _ none-sorted (sorted-common (v .at (pos - 1)) (v .at pos) (h (pos - 1))))
+
+-- the set for an insertion
+for-insert : (pos : ℕ) (v : View) → InOrder v → Sorted (forInsert pos v)
+unfolding forInsert
+for-insert pos v h = either-sorted (v .touched) (inherited pos v) [] (inherited-sorted pos v h) none-sorted
+
+-- ---- each edit keeps every position sorted
+edit-sorted : (e : Edit) (v : View) → InOrder v → InOrder (after e v)
+unfolding after afterAnnotate afterInsert afterDelete afterRemove stripped
+edit-sorted (annotating a b m) v h = λ p. either-sorted (within a b p) _ (v .at p) (sorted-insert m (v .at p) (h p)) (h p)
+edit-sorted (inserting pos len) v h =
+    either-order (v .touched) _ v
+    (λ p. either-sorted (ltb p pos) (v .at p) _ (h p) (either-sorted (ltb p (pos + len)) (inherited pos v) _ (inherited-sorted pos v h) (h (p - len))))
+    h
+edit-sorted (deleting a b) v h =
+    either-order (v .touched) _ v (λ p. either-sorted (ltb p a) (v .at p) _ (h p) (h (p + (b - a)))) h
+edit-sorted (removing id last) v h =
+    λ p. either-sorted (within (backFrom id last v) (last + 1) p) _ (v .at p) (sorted-remove id (v .at p) (h p)) (h p)
+
+-- so do calls in a row, refused ones among them
+calls-sorted : (cs : List one.Call) (v : View) → InOrder v → InOrder (one.afterCalls cs v)
+unfolding one.afterCalls
+calls-sorted [] v h = h
+calls-sorted (c ∷ cs) v h =
+    calls-sorted cs (one.afterOne c v) (either-order (one.accepted c v) (after (c .edit) v) v (edit-sorted (c .edit) v h) h)
+
+-- a fresh tank has no marks
+fresh-sorted : InOrder freshView
+unfolding freshView Sorted
+fresh-sorted p = tt
+
+-- the same of the rules' own states: for accepted settings and any list of calls, every position of every tank is sorted
+pub reached-sorted : (st : List Setting) (l : length st ≡ 8) (ok : accepted st ≡ true) (cs : List Call) (t p : ℕ) → t < 8
+    → Sorted (tankAt (reached st l ok cs) t .at p)
+reached-sorted st l ok cs t p t8 =
+    subst InOrder (sym (own-reached st l ok t t8 cs)) (calls-sorted (callsOn t (opening st) cs) freshView fresh-sorted) p
+
+-- ---- the sets that are handed out
+-- an insertion's answer, where its tank is sorted
+answer-sorted : (h : House) (t pos len : ℕ) → (t < 8 → InOrder (tankAt h t)) → Sorted (setInserted h t pos len)
+unfolding setInserted
+answer-sorted h t pos len ok =
+    elim (decLt t 8) [
+      | yes l ↦ either-sorted (eqb (refusalAt h t (inserting pos len)) 0) (forInsert pos (tankAt h t)) [] (for-insert pos (tankAt h t) (ok l)) none-sorted
+      | no l ↦ rw (refusal-past h t (inserting pos len) (omega arith)) none-sorted
+    ]
+
+module _ (s : Tanks) (ok : Sound s) where
+  -- the set that an insertion answers is sorted, accepted or refused
+  pub inserted-sorted : (t pos len : ℕ) → Sorted (setInserted (meaning s) t pos len)
+  inserted-sorted t pos len = answer-sorted (meaning s) t pos len (λ l p. sets-sorted s ok t p l)
+
+  -- so is the set for an insertion at a position, asked without editing
+  pub for-insert-sorted : (t pos : ℕ) → t < 8 → Sorted (forInsert pos (tankAt (meaning s) t))
+  for-insert-sorted t pos t8 = for-insert pos (tankAt (meaning s) t) (λ p. sets-sorted s ok t p t8)
