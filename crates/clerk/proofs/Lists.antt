@@ -13,7 +13,7 @@ use Rattle.runs.specs.Stretches.{inFront}
 use Rattle.lists.specs.declared.Listed.{Listed}
 use Rattle.lists.specs.declared.anchors.Anchor.{Anchor}
 use Rattle.lists.specs.Lists.{rangeList, wholeList, rangeRefusal, listRefusal, rangeNumber, wholeNumber, unlessRefused, filledBeside}
-use Rattle.lists.specs.Anchors.{anchors, anchorsNumber}
+use Rattle.lists.specs.Anchors.{anchors, anchorsNeeded, anchorsNumber}
 use Rattle.lists.proofs.ListLaws.{empty-list}
 use Rattle.tank.specs.declared.Tank.{Tank}
 use Rattle.tank.specs.Rules.{View, freshView}
@@ -123,7 +123,7 @@ pub anchors-1 : (h : House) (t room : ℕ) → 8 ≤ t → refusedSays 1 ≡ ask
 anchors-1 h t room k = rw (le-leb 8 t k)
 
 -- too little room, or all of them
-module _ (h : House) (t : ℕ) (l : Listed) (k : t < 8) (said : l ≡ askAt h t noList (λ v. filledBeside 0 (anchors v))) where
+module _ (h : House) (t : ℕ) (l : Listed) (k : t < 8) (said : l ≡ askAt h t noList anchorsNeeded) where
   abbrev all : List Anchor
   all = anchors (tankAt h t)
 

@@ -9,7 +9,7 @@ use Rattle.questions.specs.declared.Asked.{Asked}
 use Rattle.questions.specs.declared.Shown.{Shown}
 use Rattle.questions.specs.declared.Told.{Told}
 use Rattle.questions.specs.Questions.{setOf, sharedOf, valueAt, stylesAt, styleAt, stylesForInsert, styleForInsert, rangeContainsKey, rangeHasKeyValue, stylesOfRange}
-use Rattle.lists.specs.Lists.{rangeList, wholeList, rangeNeeded, rangeNumber, wholeNumber, filledBeside}
+use Rattle.lists.specs.Lists.{rangeList, wholeList, rangeNeeded, wholeNeeded, rangeNumber, wholeNumber}
 use Rattle.lists.specs.Anchors.{anchors, anchorsNumber}
 use Rattle.tank.specs.Rules.{View, Edit, annotating, inserting, deleting, removing}
 use Rattle.tanks.specs.declared.Setting.{Setting}
@@ -123,7 +123,7 @@ saysOf Op.Inherited h c = askedSays (askAt h (tankFor c) (Asked.Refused 1) (styl
 saysOf Op.Stretches h c = askAt h (tankFor c) (refusedSays 1) (λ v. orRefused (rangeNumber (startIn c) (endIn c) (numberAt c 3) v) (listSays (tankFor c) (rangeList (startIn c) (endIn c) v)))
 saysOf Op.StretchesNeeded h c = neededSays (askAt h (tankFor c) noList (rangeNeeded (startIn c) (endIn c)))
 saysOf Op.Whole h c = wholeSays h (tankFor c) (numberAt c 1)
-saysOf Op.WholeNeeded h c = neededSays (askAt h (tankFor c) noList (λ v. filledBeside 0 (wholeList v)))
+saysOf Op.WholeNeeded h c = neededSays (askAt h (tankFor c) noList wholeNeeded)
 saysOf Op.Anchors h c = askAt h (tankFor c) (refusedSays 1) (λ v. orRefused (anchorsNumber (numberAt c 1) v) (allAnchorsSay v))
 
 -- a call performed as one of an op: the next state, and its answer behind what waits

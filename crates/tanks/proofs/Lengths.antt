@@ -9,12 +9,13 @@ use lib.Dec.{eqb}
 use borrow.Author.Tests.{eqb-true, eqb-false, eq-eqb}
 use lib.ListN.{length, length-set, getD-replicate}
 use Rattle.tank.specs.Rules.{View, freshLength, freshView, runsHeld, Edit, annotating, inserting, deleting, removing, afterInsert, afterDelete, afterRemove, stripped, after, refusal}
+use Rattle.tank.specs.Sequences as own
 use Rattle.tank.proofs.Sequences as one
 use Rattle.tanks.specs.declared.Setting.{Setting}
 use Rattle.tanks.specs.Settings.{accepted, judgement}
-use Rattle.tanks.specs.House.{House, tankAt, held, opening, first, refusalAt, withTank, afterAt, Call, afterAll}
+use Rattle.tanks.specs.House.{House, tankAt, held, opening, first, refusalAt, withTank, afterAt, Call, afterAll, reached, sumOn, FirstOn, houseThen}
 use Rattle.tanks.proofs.CallLaws.{refusal-in}
-use Rattle.tanks.proofs.Theorems.{with-same, others-stay, reached, reached-kept}
+use Rattle.tanks.proofs.Theorems.{with-same, others-stay, reached-kept}
 
 -- ---- the calls on tank t
 -- neither 9 nor 10 applies: the edit would leave the tank within its limit, and the sum within 512
@@ -22,11 +23,11 @@ abbrev pub granted : House → ℕ → Edit → Bool
 granted h t e = eqb (judgement (h .settings) (held h) t (runsHeld (after e (tankAt h t)))) 0
 
 -- an edit on tank t, as a call on that tank alone
-abbrev pub ownCall : House → ℕ → Edit → one.Call
+abbrev pub ownCall : House → ℕ → Edit → own.OwnCall
 ownCall h t e = record { edit = e; granted = granted h t e }
 
 -- of calls one after another, those on tank t, each judged by the house as it then is
-unfoldable pub callsOn : ℕ → House → List Call → List one.Call
+unfoldable pub callsOn : ℕ → House → List Call → List own.OwnCall
 callsOn t h [] = []
 callsOn t h (c ∷ cs) =
     cond (eqb (c .tank) t)
@@ -45,7 +46,7 @@ first-both n m = go (eqb n 0) (eqb m 0) refl refl
     go false false e f = simp (e, f)
 
 -- a call is accepted by the house exactly where it is granted and the tank's own rules accept it
-pub accepted-own : (h : House) (t : ℕ) (e : Edit) → t < 8 → eqb (refusalAt h t e) 0 ≡ one.accepted (ownCall h t e) (tankAt h t)
+pub accepted-own : (h : House) (t : ℕ) (e : Edit) → t < 8 → eqb (refusalAt h t e) 0 ≡ own.accepted (ownCall h t e) (tankAt h t)
 accepted-own h t e t8 = ap (λ (n : ℕ). eqb n 0) (refusal-in h t e t8) ∙ first-both (refusal e (tankAt h t)) _
 
 -- no call changes how many tanks there are
@@ -68,24 +69,24 @@ module _ (h : House) (t : ℕ) (e : Edit) (t8 : t < 8) (eight : length (h .tanks
       go false = refl
 
   -- the same that its own call leaves
-  own-call : tankAt (afterAt h t e) t ≡ one.afterOne (ownCall h t e) (tankAt h t)
+  own-call : tankAt (afterAt h t e) t ≡ own.afterOne (ownCall h t e) (tankAt h t)
   own-call = tank-after ∙ ap (λ (b : Bool). cond b (after e (tankAt h t)) (tankAt h t)) (accepted-own h t e t8)
 
 -- a call on tank u, and then calls on tank t alone
-call-then : (h : House) (t u : ℕ) (e : Edit) → t < 8 → length (h .tanks) ≡ 8 → (xs : List one.Call)
-    → one.afterCalls xs (tankAt (afterAt h u e) t) ≡ one.afterCalls (cond (eqb u t) (ownCall h t e ∷ xs) xs) (tankAt h t)
-unfolding one.afterCalls
+call-then : (h : House) (t u : ℕ) (e : Edit) → t < 8 → length (h .tanks) ≡ 8 → (xs : List own.OwnCall)
+    → own.afterCalls xs (tankAt (afterAt h u e) t) ≡ own.afterCalls (cond (eqb u t) (ownCall h t e ∷ xs) xs) (tankAt h t)
+unfolding own.afterCalls
 call-then h t u e t8 eight xs = go (eqb u t) refl
   where
-    go : (b : Bool) → eqb u t ≡ b → one.afterCalls xs (tankAt (afterAt h u e) t) ≡ one.afterCalls (cond b (ownCall h t e ∷ xs) xs) (tankAt h t)
+    go : (b : Bool) → eqb u t ≡ b → own.afterCalls xs (tankAt (afterAt h u e) t) ≡ own.afterCalls (cond b (ownCall h t e ∷ xs) xs) (tankAt h t)
     go true s =
-        ap (λ (w : ℕ). one.afterCalls xs (tankAt (afterAt h w e) t)) (eqb-true u t s) ∙ ap (one.afterCalls xs) (own-call h t e t8 eight)
-    go false s = ap (one.afterCalls xs) (others-stay h u e t (λ z. eqb-false u t s (sym z)))
+        ap (λ (w : ℕ). own.afterCalls xs (tankAt (afterAt h w e) t)) (eqb-true u t s) ∙ ap (own.afterCalls xs) (own-call h t e t8 eight)
+    go false s = ap (own.afterCalls xs) (others-stay h u e t (λ z. eqb-false u t s (sym z)))
 
 -- ---- calls one after another: tank t is what the calls on it make of it
 pub own-calls : (h : House) (cs : List Call) (t : ℕ) → t < 8 → length (h .tanks) ≡ 8
-    → tankAt (afterAll h cs) t ≡ one.afterCalls (callsOn t h cs) (tankAt h t)
-unfolding afterAll callsOn one.afterCalls
+    → tankAt (afterAll h cs) t ≡ own.afterCalls (callsOn t h cs) (tankAt h t)
+unfolding afterAll callsOn own.afterCalls
 own-calls h [] t t8 eight = refl
 own-calls h (c ∷ cs) t t8 eight =
     own-calls (afterAt h (c .tank) (c .edit)) cs t t8 (count-stays h (c .tank) (c .edit) ∙ eight)
@@ -99,7 +100,7 @@ all-append h [] ys = refl
 all-append h (x ∷ xs) ys = all-append (afterAt h (x .tank) (x .edit)) xs ys
 
 -- a call put before two lists, or not
-cond-append : (b : Bool) (x : one.Call) (xs ys : List one.Call) → cond b (x ∷ (xs ++ ys)) (xs ++ ys) ≡ cond b (x ∷ xs) xs ++ ys
+cond-append : (b : Bool) (x : own.OwnCall) (xs ys : List own.OwnCall) → cond b (x ∷ (xs ++ ys)) (xs ++ ys) ≡ cond b (x ∷ xs) xs ++ ys
 cond-append true x xs ys = refl
 cond-append false x xs ys = refl
 
@@ -109,37 +110,30 @@ unfolding afterAll callsOn
 on-append t h [] ys = refl
 on-append t h (x ∷ xs) ys =
     let next : House = afterAt h (x .tank) (x .edit) in
-    ap (λ (zs : List one.Call). cond (eqb (x .tank) t) (ownCall h t (x .edit) ∷ zs) zs) (on-append t next xs ys)
+    ap (λ (zs : List own.OwnCall). cond (eqb (x .tank) t) (ownCall h t (x .edit) ∷ zs) zs) (on-append t next xs ys)
     ∙ cond-append (eqb (x .tank) t) (ownCall h t (x .edit)) (callsOn t next xs) (callsOn t (afterAll next xs) ys)
 
 -- ---- sums over the accepted calls on tank t
--- f of each edit, 0 for a refused one
-unfoldable pub sumOn : (Edit → ℕ) → ℕ → House → List Call → ℕ
-sumOn f t h [] = 0
-sumOn f t h (c ∷ cs) =
-    cond (eqb (c .tank) t && eqb (refusalAt h (c .tank) (c .edit)) 0) (f (c .edit)) 0
-    + sumOn f t (afterAt h (c .tank) (c .edit)) cs
-
 -- a call on tank u, and then a sum over calls on tank t alone
-sum-then : (f : Edit → ℕ) (h : House) (t u : ℕ) (e : Edit) → t < 8 → length (h .tanks) ≡ 8 → (xs : List one.Call)
-    → cond (eqb u t && eqb (refusalAt h u e) 0) (f e) 0 + one.sumOf f xs (tankAt (afterAt h u e) t)
-    ≡ one.sumOf f (cond (eqb u t) (ownCall h t e ∷ xs) xs) (tankAt h t)
-unfolding one.sumOf
+sum-then : (f : Edit → ℕ) (h : House) (t u : ℕ) (e : Edit) → t < 8 → length (h .tanks) ≡ 8 → (xs : List own.OwnCall)
+    → cond (eqb u t && eqb (refusalAt h u e) 0) (f e) 0 + own.sumOf f xs (tankAt (afterAt h u e) t)
+    ≡ own.sumOf f (cond (eqb u t) (ownCall h t e ∷ xs) xs) (tankAt h t)
+unfolding own.sumOf
 sum-then f h t u e t8 eight xs = go (eqb u t) refl
   where
     go : (b : Bool) → eqb u t ≡ b
-        → cond (b && eqb (refusalAt h u e) 0) (f e) 0 + one.sumOf f xs (tankAt (afterAt h u e) t)
-        ≡ one.sumOf f (cond b (ownCall h t e ∷ xs) xs) (tankAt h t)
+        → cond (b && eqb (refusalAt h u e) 0) (f e) 0 + own.sumOf f xs (tankAt (afterAt h u e) t)
+        ≡ own.sumOf f (cond b (ownCall h t e ∷ xs) xs) (tankAt h t)
     go true s =
-        ap (λ (w : ℕ). cond (eqb (refusalAt h w e) 0) (f e) 0 + one.sumOf f xs (tankAt (afterAt h w e) t)) (eqb-true u t s)
-        ∙ ap (λ (b : Bool). cond b (f e) 0 + one.sumOf f xs (tankAt (afterAt h t e) t)) (accepted-own h t e t8)
-        ∙ ap (λ (v : View). cond (one.accepted (ownCall h t e) (tankAt h t)) (f e) 0 + one.sumOf f xs v) (own-call h t e t8 eight)
-    go false s = omega (arith, ap (one.sumOf f xs) (others-stay h u e t (λ z. eqb-false u t s (sym z))))
+        ap (λ (w : ℕ). cond (eqb (refusalAt h w e) 0) (f e) 0 + own.sumOf f xs (tankAt (afterAt h w e) t)) (eqb-true u t s)
+        ∙ ap (λ (b : Bool). cond b (f e) 0 + own.sumOf f xs (tankAt (afterAt h t e) t)) (accepted-own h t e t8)
+        ∙ ap (λ (v : View). cond (own.accepted (ownCall h t e) (tankAt h t)) (f e) 0 + own.sumOf f xs v) (own-call h t e t8 eight)
+    go false s = omega (arith, ap (own.sumOf f xs) (others-stay h u e t (λ z. eqb-false u t s (sym z))))
 
 -- the sum is that over the tank's own calls
 own-sum : (f : Edit → ℕ) (h : House) (cs : List Call) (t : ℕ) → t < 8 → length (h .tanks) ≡ 8
-    → sumOn f t h cs ≡ one.sumOf f (callsOn t h cs) (tankAt h t)
-unfolding sumOn callsOn one.sumOf
+    → sumOn f t h cs ≡ own.sumOf f (callsOn t h cs) (tankAt h t)
+unfolding sumOn callsOn own.sumOf
 own-sum f h [] t t8 eight = refl
 own-sum f h (c ∷ cs) t t8 eight =
     let next : House = afterAt h (c .tank) (c .edit) in
@@ -147,23 +141,10 @@ own-sum f h (c ∷ cs) t t8 eight =
     (own-sum f next cs t t8 (count-stays h (c .tank) (c .edit) ∙ eight))
     ∙ sum-then f h t (c .tank) (c .edit) t8 eight (callsOn t next cs)
 
--- ---- the first accepted annotate of tank t, among calls one after another
-pub record FirstOn (t : ℕ) (h : House) (cs : List Call) : Type 0 where
-  pub before : List Call
-  pub edit : Edit
-  pub later : List Call
-  pub split : cs ≡ before ++ (record { tank = t; edit = edit } ∷ later)
-  pub untouched : tankAt (afterAll h before) t .touched ≡ false
-  pub annotate : one.annotates edit ≡ true
-  pub made : refusalAt (afterAll h before) t edit ≡ 0
-
--- the house right after it
-abbrev pub houseThen : {t : ℕ} {h : House} {cs : List Call} → FirstOn t h cs → House
-houseThen {t} {h} f = afterAt (afterAll h (f .before)) t (f .edit)
-
+-- ---- the first accepted annotate of tank t
 -- an edit that touches an untouched tank is an annotate
-touches-only : (e : Edit) (v : View) → v .touched ≡ false → after e v .touched ≡ true → one.annotates e ≡ true
-unfolding one.annotates after afterInsert afterDelete afterRemove stripped
+touches-only : (e : Edit) (v : View) → v .touched ≡ false → after e v .touched ≡ true → own.annotates e ≡ true
+unfolding own.annotates after afterInsert afterDelete afterRemove stripped
 touches-only (annotating a b m) v u t = refl
 touches-only (inserting pos len) v u t = absurd (false≢true (rw u at t))
 touches-only (deleting a b) v u t = absurd (false≢true (rw u at t))
@@ -172,7 +153,7 @@ touches-only (removing id last) v u t = absurd (false≢true (sym u ∙ t))
 -- what a call on tank u is that touches tank t: on that tank, an annotate, accepted
 record Touching (h : House) (t u : ℕ) (e : Edit) : Type 0 where
   tank : u ≡ t
-  annotate : one.annotates e ≡ true
+  annotate : own.annotates e ≡ true
   made : refusalAt h t e ≡ 0
 
 -- a call that touches tank t is such a one
@@ -247,13 +228,13 @@ opened-eight st = refl
 
 module _ (st : List Setting) (l : length st ≡ 8) (ok : accepted st ≡ true) (t : ℕ) (t8 : t < 8) where
   -- it is what its own calls make of a fresh tank
-  pub own-reached : (cs : List Call) → tankAt (reached st l ok cs) t ≡ one.afterCalls (callsOn t (opening st) cs) freshView
+  pub own-reached : (cs : List Call) → tankAt (reached st cs) t ≡ own.afterCalls (callsOn t (opening st) cs) freshView
   unfolding reached
   own-reached cs =
-      own-calls (opening st) cs t t8 (opened-eight st) ∙ ap (one.afterCalls (callsOn t (opening st) cs)) (fresh-at st t t8)
+      own-calls (opening st) cs t t8 (opened-eight st) ∙ ap (own.afterCalls (callsOn t (opening st) cs)) (fresh-at st t t8)
 
   -- touched never turns back
-  pub house-touched-stays : (before later : List Call) → tankAt (reached st l ok before) t .touched ≡ true → tankAt (reached st l ok (before ++ later)) t .touched ≡ true
+  pub house-touched-stays : (before later : List Call) → tankAt (reached st before) t .touched ≡ true → tankAt (reached st (before ++ later)) t .touched ≡ true
   unfolding reached
   house-touched-stays before later h =
       let now : House = afterAll (opening st) before in
@@ -262,7 +243,7 @@ module _ (st : List Setting) (l : length st ≡ 8) (ok : accepted st ≡ true) (
       ∙ one.touched-stays (callsOn t now later) (tankAt now t) h
 
   -- where it is touched there is a first accepted annotate
-  pub house-has-first : (cs : List Call) → tankAt (reached st l ok cs) t .touched ≡ true → FirstOn t (opening st) cs
+  pub house-has-first : (cs : List Call) → tankAt (reached st cs) t .touched ≡ true → FirstOn t (opening st) cs
   unfolding reached freshView
   house-has-first cs h =
       has-first (opening st) cs t t8 (opened-eight st) (ap (λ (v : View). v .touched) (fresh-at st t t8)) h
@@ -273,12 +254,12 @@ module _ (st : List Setting) (l : length st ≡ 8) (ok : accepted st ≡ true) (
     unfolding reached
     then-eight = reached-kept st l ok (f .before) .eight
 
-    then-tank : tankAt (afterAll (opening st) (f .before)) t ≡ one.afterCalls (callsOn t (opening st) (f .before)) freshView
+    then-tank : tankAt (afterAll (opening st) (f .before)) t ≡ own.afterCalls (callsOn t (opening st) (f .before)) freshView
     unfolding reached
     then-tank = own-reached (f .before)
 
     -- among the tank's own calls it is the first too
-    own-first : one.First (callsOn t (opening st) cs)
+    own-first : own.First (callsOn t (opening st) cs)
     unfolding callsOn
     own-first = record {
       before = callsOn t (opening st) (f .before);
@@ -289,33 +270,33 @@ module _ (st : List Setting) (l : length st ≡ 8) (ok : accepted st ≡ true) (
           ∙ rw (eq-eqb t t refl);
       untouched = ap (λ (v : View). v .touched) (sym then-tank) ∙ f .untouched;
       annotate = f .annotate;
-      made = ap (one.accepted (ownCall (afterAll (opening st) (f .before)) t (f .edit))) (sym then-tank)
+      made = ap (own.accepted (ownCall (afterAll (opening st) (f .before)) t (f .edit))) (sym then-tank)
           ∙ sym (accepted-own (afterAll (opening st) (f .before)) t (f .edit) t8)
           ∙ eq-eqb (refusalAt (afterAll (opening st) (f .before)) t (f .edit)) 0 (f .made);
     }
 
     -- the tank right after it
-    tank-then : tankAt (houseThen f) t ≡ one.touchedBy own-first
+    tank-then : tankAt (houseThen f) t ≡ own.touchedBy own-first
     unfolding own-first
     tank-then =
         own-call (afterAll (opening st) (f .before)) t (f .edit) t8 then-eight
-        ∙ ap (one.afterOne (ownCall (afterAll (opening st) (f .before)) t (f .edit))) then-tank
+        ∙ ap (own.afterOne (ownCall (afterAll (opening st) (f .before)) t (f .edit))) then-tank
 
     -- what its calls add to it or take from it since then
-    sum-since : (g : Edit → ℕ) → sumOn g t (houseThen f) (f .later) ≡ one.sumOf g (callsOn t (houseThen f) (f .later)) (one.touchedBy own-first)
+    sum-since : (g : Edit → ℕ) → sumOn g t (houseThen f) (f .later) ≡ own.sumOf g (callsOn t (houseThen f) (f .later)) (own.touchedBy own-first)
     sum-since g =
         own-sum g (houseThen f) (f .later) t t8 (count-stays (afterAll (opening st) (f .before)) t (f .edit) ∙ then-eight)
-        ∙ ap (one.sumOf g (callsOn t (houseThen f) (f .later))) tank-then
+        ∙ ap (own.sumOf g (callsOn t (houseThen f) (f .later))) tank-then
 
     -- its length is T, plus all lengths inserted and less all lengths deleted by the accepted calls on it since then
-    pub house-since-first : tankAt (reached st l ok cs) t .length + sumOn one.lost t (houseThen f) (f .later)
-        ≡ freshLength + sumOn one.gained t (houseThen f) (f .later)
+    pub house-since-first : tankAt (reached st cs) t .length + sumOn own.lost t (houseThen f) (f .later)
+        ≡ freshLength + sumOn own.gained t (houseThen f) (f .later)
     unfolding own-first
     house-since-first =
         omega (
           arith,
           ap (λ (v : View). v .length) (own-reached cs),
-          sum-since one.lost,
-          sum-since one.gained,
+          sum-since own.lost,
+          sum-since own.gained,
           one.since-first own-first,
         )

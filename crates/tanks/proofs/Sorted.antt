@@ -14,15 +14,14 @@ use Rattle.styles.proofs.SetLaws.{sorted-insert, sorted-remove, sorted-common}
 use Rattle.tank.specs.declared.Tank.{Tank}
 use Rattle.tank.specs.Rules.{View, within, freshView, Edit, annotating, inserting, deleting, removing, afterAnnotate, inherited, afterInsert, forInsert, afterDelete, backFrom, stripped, afterRemove, after}
 use Rattle.tank.specs.State.{view, Laid, tableOf}
-use Rattle.tank.proofs.Sequences as one
+use Rattle.tank.specs.Sequences as own
 use Rattle.tanks.specs.declared.Setting.{Setting}
 use Rattle.tanks.specs.declared.Tanks.{Tanks}
 use Rattle.tanks.specs.Settings.{accepted}
-use Rattle.tanks.specs.House.{House, tankAt, refusalAt, setInserted, opening, Call}
+use Rattle.tanks.specs.House.{House, tankAt, refusalAt, insertedSetAt, opening, Call, reached}
 use Rattle.tanks.specs.Pool.{meaning, Sound, tankOf}
 use Rattle.tanks.proofs.MeaningLaws.{tank-at}
 use Rattle.tanks.proofs.CallLaws.{refusal-past}
-use Rattle.tanks.proofs.Theorems.{reached}
 use Rattle.tanks.proofs.Lengths.{callsOn, own-reached}
 
 -- every position of a tank has its marks sorted
@@ -81,11 +80,11 @@ edit-sorted (removing id last) v h =
     λ p. either-sorted (within (backFrom id last v) (last + 1) p) _ (v .at p) (sorted-remove id (v .at p) (h p)) (h p)
 
 -- so do calls in a row, refused ones among them
-calls-sorted : (cs : List one.Call) (v : View) → InOrder v → InOrder (one.afterCalls cs v)
-unfolding one.afterCalls
+calls-sorted : (cs : List own.OwnCall) (v : View) → InOrder v → InOrder (own.afterCalls cs v)
+unfolding own.afterCalls
 calls-sorted [] v h = h
 calls-sorted (c ∷ cs) v h =
-    calls-sorted cs (one.afterOne c v) (either-order (one.accepted c v) (after (c .edit) v) v (edit-sorted (c .edit) v h) h)
+    calls-sorted cs (own.afterOne c v) (either-order (own.accepted c v) (after (c .edit) v) v (edit-sorted (c .edit) v h) h)
 
 -- a fresh tank has no marks
 fresh-sorted : InOrder freshView
@@ -94,14 +93,14 @@ fresh-sorted p = tt
 
 -- the same of the rules' own states: for accepted settings and any list of calls, every position of every tank is sorted
 pub reached-sorted : (st : List Setting) (l : length st ≡ 8) (ok : accepted st ≡ true) (cs : List Call) (t p : ℕ) → t < 8
-    → Sorted (tankAt (reached st l ok cs) t .at p)
+    → Sorted (tankAt (reached st cs) t .at p)
 reached-sorted st l ok cs t p t8 =
     subst InOrder (sym (own-reached st l ok t t8 cs)) (calls-sorted (callsOn t (opening st) cs) freshView fresh-sorted) p
 
 -- ---- the sets that are handed out
 -- an insertion's answer, where its tank is sorted
-answer-sorted : (h : House) (t pos len : ℕ) → (t < 8 → InOrder (tankAt h t)) → Sorted (setInserted h t pos len)
-unfolding setInserted
+answer-sorted : (h : House) (t pos len : ℕ) → (t < 8 → InOrder (tankAt h t)) → Sorted (insertedSetAt h t pos len)
+unfolding insertedSetAt
 answer-sorted h t pos len ok =
     elim (decLt t 8) [
       | yes l ↦ either-sorted (eqb (refusalAt h t (inserting pos len)) 0) (forInsert pos (tankAt h t)) [] (for-insert pos (tankAt h t) (ok l)) none-sorted
@@ -110,7 +109,7 @@ answer-sorted h t pos len ok =
 
 module _ (s : Tanks) (ok : Sound s) where
   -- the set that an insertion answers is sorted, accepted or refused
-  pub inserted-sorted : (t pos len : ℕ) → Sorted (setInserted (meaning s) t pos len)
+  pub inserted-sorted : (t pos len : ℕ) → Sorted (insertedSetAt (meaning s) t pos len)
   inserted-sorted t pos len = answer-sorted (meaning s) t pos len (λ l p. sets-sorted s ok t p l)
 
   -- so is the set for an insertion at a position, asked without editing

@@ -1,13 +1,14 @@
 -- Document 01 over eight tanks: the settings and what each tank means, with nothing of how they are stored.
 use Prim.Native.Nat.{ℕ, zero, suc, _+_, _≤_, _<_}
 use mathlib.Core.Path.{_≡_}
-use mathlib.Core.Bool.{Bool, cond}
-use mathlib.Core.List.{List, [], _∷_}
+use mathlib.Core.Bool.{Bool, true, false, cond, _&&_}
+use mathlib.Core.List.{List, [], _∷_, _++_}
 use lib.Dec.{leb, eqb}
 use lib.ListN.{getD, set, replicate}
 use Rattle.styles.specs.declared.Identity.{Identity}
 use Rattle.styles.specs.declared.Mark.{Mark}
 use Rattle.tank.specs.Rules.{View, freshView, runsHeld, Edit, inserting, removing, after, refusal, forInsert, backFrom}
+use Rattle.tank.specs.Sequences.{annotates}
 use Rattle.tanks.specs.declared.Setting.{Setting}
 use Rattle.tanks.specs.Settings.{limitOf, accepted, claims, heldAfter, judgement}
 
@@ -105,3 +106,24 @@ pub record Ten (h : House) (t : ℕ) (e : Edit) : Type 0 where
   pub own : refusal e (tankAt h t) ≡ 0
   pub limit : runsHeld (after e (tankAt h t)) ≤ limitOf (h .settings) t
   pub over : 512 < claims (h .settings) (heldAfter (held h) t (runsHeld (after e (tankAt h t)))) 8
+
+-- of calls one after another, the sum of f over the accepted ones on tank t
+unfoldable pub sumOn : (Edit → ℕ) → ℕ → House → List Call → ℕ
+sumOn f t h [] = 0
+sumOn f t h (c ∷ cs) =
+    cond (eqb (c .tank) t && eqb (refusalAt h (c .tank) (c .edit)) 0) (f (c .edit)) 0
+    + sumOn f t (afterAt h (c .tank) (c .edit)) cs
+
+-- the first accepted annotate of tank t among calls one after another: those before it leave the tank untouched
+pub record FirstOn (t : ℕ) (h : House) (cs : List Call) : Type 0 where
+  pub before : List Call
+  pub edit : Edit
+  pub later : List Call
+  pub split : cs ≡ before ++ (record { tank = t; edit = edit } ∷ later)
+  pub untouched : tankAt (afterAll h before) t .touched ≡ false
+  pub annotate : annotates edit ≡ true
+  pub made : refusalAt (afterAll h before) t edit ≡ 0
+
+-- the house right after it
+abbrev pub houseThen : {t : ℕ} {h : House} {cs : List Call} → FirstOn t h cs → House
+houseThen {t} {h} f = afterAt (afterAll h (f .before)) t (f .edit)

@@ -92,4 +92,4 @@ unfolding afterOp
 returns-22 c = as-kept Op.Anchors (c .before .before .before .before .before .enum-told22 .given .1) (c .before .before .before .before .before .before .before .before .before .pre .0) refl (c .kept17 .ensures) (c .before .before .before .anchors .ensures)
 
 pub perform-spec : {M : Type 1} → statement M
-perform-spec = tie.close (tie.spec (λ c. search needs) (λ c κs. search needs) (λ c. search needs) (λ c κs. search needs) (λ c. search needs) (λ c κs. search needs) (λ c. search needs) (λ c κs. search needs) (λ c. search needs) (λ c κs. search needs) (λ c. search needs) (λ c κs. search needs) (λ c. search needs) (λ c κs. search needs) (λ c κs. search needs) (λ c. search needs) (λ c κs. search needs) (λ c κs. search needs) (λ c. search needs) (λ c κs. search needs) (λ c κs. search needs) (λ c. search needs) (λ c κs. search needs) (λ c κs. search needs) (λ c. search needs) (λ c κs. search needs) (λ c κs. search needs) (λ c. search needs) (λ c κs. search needs) (λ c κs. search needs) (λ c. search needs) (λ c κs. search needs) (λ c κs. search needs) (λ c. search needs) (λ c κs. search needs) (λ c κs. search needs) (λ c. search needs) (λ c κs. search needs) (λ c κs. search needs) (λ c. search needs) (λ c κs. search needs) (λ c κs. search needs) (λ c. search needs) (λ c κs. search needs) (λ c κs. search needs) (λ c. search needs) (λ c κs. search needs) (λ c κs. search needs) (λ c. search needs) (λ c κs. search needs) (λ c κs. search needs) (λ c. search needs) (λ c. search needs) (λ c. search needs) (λ c κs. search needs) (λ c κs. search needs) (λ c. search needs) (λ c κs. search needs) (λ c κs. search needs) (λ c. search needs) (λ c κs. search needs) (λ c κs. search needs) returns (λ c. search needs) returns-2 (λ c. search needs) returns-3 (λ c. search needs) returns-4 (λ c. search needs) returns-5 (λ c. search needs) returns-6 (λ c. search needs) returns-7 (λ c. search needs) returns-8 (λ c. search needs) returns-9 (λ c. search needs) returns-10 (λ c. search needs) returns-11 (λ c. search needs) returns-12 (λ c. search needs) returns-13 (λ c. search needs) returns-14 (λ c. search needs) returns-15 (λ c. search needs) returns-16 (λ c. search needs) returns-17 (λ c. search needs) returns-18 (λ c. search needs) returns-19 (λ c. search needs) returns-20 (λ c. search needs) returns-21 (λ c. search needs) returns-22)
+perform-spec = tie.close (tie.spec (λ c. search needs) (λ c κs. tt) (λ c. search needs) (λ c κs. c .before .before .before .before .before .pre .1) (λ c. search needs) (λ c κs. (c .before .before .before .before .before .pre .0, c .before .before .before .before .before .pre .1)) (λ c. search needs) (λ c κs. (c .before .before .before .before .before .pre .0, c .before .before .before .before .before .pre .1)) (λ c. search needs) (λ c κs. (c .before .before .before .before .before .pre .0, c .before .before .before .before .before .pre .1)) (λ c. search needs) (λ c κs. (c .before .before .before .before .before .pre .0, c .before .before .before .before .before .pre .1)) (λ c. search needs) (λ c κs. (c .before .before .before .before .before .pre .0, c .before .before .before .before .before .pre .1)) (λ c κs. tt) (λ c. search needs) (λ c κs. (c .before .before .before .before .before .pre .0, c .before .before .before .before .before .pre .1)) (λ c κs. tt) (λ c. search needs) (λ c κs. (c .before .before .before .before .before .pre .0, c .before .before .before .before .before .pre .1)) (λ c κs. tt) (λ c. search needs) (λ c κs. (c .before .before .before .before .before .pre .0, c .before .before .before .before .before .pre .1)) (λ c κs. tt) (λ c. search needs) (λ c κs. (c .before .before .before .before .before .pre .0, c .before .before .before .before .before .pre .1)) (λ c κs. tt) (λ c. search needs) (λ c κs. (c .before .before .before .before .before .pre .0, c .before .before .before .before .before .pre .1)) (λ c κs. tt) (λ c. search needs) (λ c κs. (c .before .before .before .before .before .pre .0, c .before .before .before .before .before .pre .1)) (λ c κs. tt) (λ c. search needs) (λ c κs. (c .before .before .before .before .before .pre .0, c .before .before .before .before .before .pre .1)) (λ c κs. tt) (λ c. search needs) (λ c κs. (c .before .before .before .before .before .pre .0, c .before .before .before .before .before .pre .1)) (λ c κs. tt) (λ c. search needs) (λ c κs. (c .before .before .before .before .before .pre .0, c .before .before .before .before .before .pre .1)) (λ c κs. tt) (λ c. search needs) (λ c κs. (c .before .before .before .before .before .pre .0, c .before .before .before .before .before .pre .1)) (λ c κs. tt) (λ c. search needs) (λ c κs. (c .before .before .before .before .before .pre .0, c .before .before .before .before .before .pre .1)) (λ c κs. tt) (λ c. search needs) (λ c κs. (c .before .before .before .before .before .pre .0, c .before .before .before .before .before .pre .1)) (λ c κs. tt) (λ c. search needs) (λ c. search needs) (λ c. search needs) (λ c κs. (c .before .before .before .before .before .pre .0, c .before .before .before .before .before .pre .1)) (λ c κs. tt) (λ c. search needs) (λ c κs. (c .before .before .before .before .before .pre .0, c .before .before .before .before .before .pre .1)) (λ c κs. tt) (λ c. search needs) (λ c κs. (c .before .before .before .before .before .pre .0, c .before .before .before .before .before .pre .1)) (λ c κs. tt) returns (λ c. search needs) returns-2 (λ c. search needs) returns-3 (λ c. search needs) returns-4 (λ c. search needs) returns-5 (λ c. search needs) returns-6 (λ c. search needs) returns-7 (λ c. search needs) returns-8 (λ c. search needs) returns-9 (λ c. search needs) returns-10 (λ c. search needs) returns-11 (λ c. search needs) returns-12 (λ c. search needs) returns-13 (λ c. search needs) returns-14 (λ c. search needs) returns-15 (λ c. search needs) returns-16 (λ c. search needs) returns-17 (λ c. search needs) returns-18 (λ c. search needs) returns-19 (λ c. search needs) returns-20 (λ c. search needs) returns-21 (λ c. search needs) returns-22)
