@@ -26,7 +26,7 @@ use Rattle.clerk.specs.Course.{Course, malformedSays, onEvent, afterLine
 abbrev behindLine : List ℕ → List ℕ
 behindLine line = drop (length (lineFront line) + 1) line
 
--- however an input is cut into reads, it leads to the same
+-- bytes taken in two parts, with nothing written out in between, lead to the same
 pub cut-anywhere : (x : Course) (a b : List ℕ) → afterBytes x (a ++ b) ≡ afterBytes (afterBytes x a) b
 unfolding afterBytes
 cut-anywhere x [] b = refl

@@ -1,8 +1,8 @@
 -- A run of the clerk, byte by byte: what the input so far has made of the tanks, where the script stands, and which answers still wait to be written.
 use mathlib.Core.Path.{_≡_}
 use mathlib.Core.Bool.{Bool, true, false, cond}
-use mathlib.Core.List.{List, [], _∷_}
-use Prim.Native.Nat.{ℕ, _-_, _^_}
+use mathlib.Core.List.{List, [], _∷_, _++_}
+use Prim.Native.Nat.{ℕ, _-_, _^_, _<_}
 use lib.Dec.{eqb}
 use lib.ListN.{length, replicate}
 use Rattle.tanks.specs.declared.Setting.{Setting}
@@ -134,3 +134,56 @@ pub record RunsWhole (r : Eaten) : Type 0 where
   pub reads : ℕ
   pub leads : Leads reads (beginning buffer) (courseOf (r .tanks) (r .stand) out)
   pub ends : r .stand .over ≡ false → reads ≡ mostReads
+
+-- ---- What a run says
+-- where a run is, but for the output that waits
+pub record Place : Type 0 where
+  pub house : House
+  pub reader : State
+  pub over : Bool
+
+-- the place of a course
+abbrev pub placeOf : Course → Place
+placeOf x = record { house = x .house; reader = x .reader; over = x .over }
+
+-- what a line's end says: nothing yet, that the line is bad, or the answer to a call
+unfoldable pub saidOn : Event → Course → State → Call → Pieces
+saidOn Event.Nothing x r c = []
+saidOn Event.Bad x r c = malformedSays r
+saidOn Event.Call x r c = saysOf (c .op) (x .house) c
+
+-- what some bytes up to the first newline say
+abbrev pub saidLine : Course → List ℕ → Pieces
+saidLine x line = saidOn (bringsOf (x .reader) line) x (afterOf (x .reader) line) (readOf (x .reader) line .call)
+
+-- what one byte more says; when the run is over it says nothing
+unfoldable pub saidByte : Course → ℕ → Pieces
+saidByte x byte = cond (x .over) [] (saidLine x (byte ∷ []))
+
+-- all that is said while bytes are taken one after another
+unfoldable pub saidBytes : Course → List ℕ → Pieces
+saidBytes x [] = []
+saidBytes x (byte ∷ more) = saidByte x byte ++ saidBytes (afterByte x byte) more
+
+-- what an input's end says, by how it ends
+abbrev pub saidEnding : Ending → State → Pieces
+saidEnding Ending.Clean r = []
+saidEnding Ending.Cut r = malformedSays r
+
+-- what the end of the input says; a run that is over reads no further and says nothing more, though `atEnd` does not ask whether it is over
+unfoldable pub saidAtEnd : Course → Pieces
+saidAtEnd x = cond (x .over) [] (saidEnding (endingOf (x .reader)) (x .reader))
+
+-- what a read says
+abbrev pub saidRead : Course → List ℕ → Pieces
+saidRead x input = cond (eqb (length input) 0) (saidAtEnd x) (saidBytes x input)
+
+-- all that a run says, read after read
+unfoldable pub saidReads : Course → List (List ℕ) → Pieces
+saidReads x [] = []
+saidReads x (input ∷ inputs) = saidRead x input ++ saidReads (written (afterRead x input)) inputs
+
+-- reads of which none is empty: the input has not ended
+unfoldable pub NoneEmpty : List (List ℕ) → Type 0
+NoneEmpty [] = Unit
+NoneEmpty (input ∷ inputs) = (0 < length input) × NoneEmpty inputs

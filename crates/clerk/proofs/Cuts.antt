@@ -1,0 +1,278 @@
+-- However an input is cut into reads, a run comes to the same place and says the same.
+use mathlib.Core.Path.{_≡_, refl, sym, ap, ap₂, _∙_}
+use mathlib.Core.Bool.{Bool, true, false, cond}
+use mathlib.Core.List.{List, [], _∷_, _++_, append-assoc, append-nil}
+use Prim.Native.Nat.{ℕ, _<_}
+use native.Mathlib.Omega.{arith}
+use lib.ListN.{length}
+use borrow.Author.Tests.{ne-eqb}
+use Rattle.script.specs.declared.Call.{Call}
+use Rattle.script.specs.declared.Ending.{Ending}
+use Rattle.script.specs.declared.Event.{Event}
+use Rattle.script.specs.Lines.{State, afterOf, bringsOf, readOf, endingOf}
+use Rattle.answers.specs.Waiting.{Pieces, Waiting, with, withAll, joined}
+use Rattle.clerk.specs.Course.{Course, onEvent, afterLine, afterByte, afterBytes, endedAs, atEnd, afterRead, written, afterReads}
+use Rattle.clerk.specs.Course.{Place, placeOf, saidOn, saidLine, saidByte, saidBytes, saidEnding, saidAtEnd, saidRead, saidReads, NoneEmpty}
+use Rattle.clerk.proofs.Bytes.{cut-anywhere, over-stays}
+
+-- ---- What is said is what is put into the output
+-- pieces, and pieces behind them
+put-append : (w : Waiting) (ts us : Pieces) → withAll (withAll w ts) us ≡ withAll w (ts ++ us)
+unfolding withAll
+put-append w [] us = refl
+put-append w (t ∷ ts) us = put-append (with w t) ts us
+
+-- a line's end puts what it says
+waits-event : (e : Event) (x : Course) (r : State) (c : Call) → onEvent e x r c .waits ≡ withAll (x .waits) (saidOn e x r c)
+unfolding onEvent saidOn withAll
+waits-event Event.Nothing x r c = refl
+waits-event Event.Bad x r c = refl
+waits-event Event.Call x r c = refl
+
+-- by whether the run is over
+waits-by : (over : Bool) (x y : Course) (said : Pieces) → y .waits ≡ withAll (x .waits) said → cond over x y .waits ≡ withAll (x .waits) (cond over [] said)
+unfolding withAll
+waits-by true x y said e = refl
+waits-by false x y said e = e
+
+-- one byte puts what it says
+waits-byte : (x : Course) (byte : ℕ) → afterByte x byte .waits ≡ withAll (x .waits) (saidByte x byte)
+unfolding afterByte saidByte
+waits-byte x byte =
+    waits-by (x .over) x (afterLine x (byte ∷ [])) (saidLine x (byte ∷ []))
+    (waits-event (bringsOf (x .reader) (byte ∷ [])) x (afterOf (x .reader) (byte ∷ [])) (readOf (x .reader) (byte ∷ []) .call))
+
+-- bytes put into the output what they say
+pub waits-bytes : (x : Course) (input : List ℕ) → afterBytes x input .waits ≡ withAll (x .waits) (saidBytes x input)
+unfolding afterBytes saidBytes withAll
+waits-bytes x [] = refl
+waits-bytes x (byte ∷ more) =
+    waits-bytes (afterByte x byte) more
+    ∙ ap (λ (w : Waiting). withAll w (saidBytes (afterByte x byte) more)) (waits-byte x byte)
+    ∙ put-append (x .waits) (saidByte x byte) (saidBytes (afterByte x byte) more)
+
+-- an ending puts what it says
+waits-ending : (e : Ending) (x : Course) → endedAs e x .waits ≡ withAll (x .waits) (saidEnding e (x .reader))
+unfolding withAll
+waits-ending Ending.Clean x = refl
+waits-ending Ending.Cut x = refl
+
+-- the end of the input puts what it says, in a run that is not over: one that is reads no further
+pub waits-end : (x : Course) → x .over ≡ false → atEnd x .waits ≡ withAll (x .waits) (saidAtEnd x)
+unfolding atEnd saidAtEnd
+waits-end x goes = waits-ending (endingOf (x .reader)) x ∙ ap (λ (b : Bool). withAll (x .waits) (cond b [] (saidEnding (endingOf (x .reader)) (x .reader)))) (sym goes)
+
+-- a read that is not empty takes its bytes
+some-taken : (x : Course) (input : List ℕ) → 0 < length input → afterRead x input ≡ afterBytes x input
+some-taken x input some = ap (λ (b : Bool). cond b (atEnd x) (afterBytes x input)) (ne-eqb (length input) 0 λ e. omega (arith, e, some))
+
+-- and says what they say
+some-said : (x : Course) (input : List ℕ) → 0 < length input → saidRead x input ≡ saidBytes x input
+some-said x input some = ap (λ (b : Bool). cond b (saidAtEnd x) (saidBytes x input)) (ne-eqb (length input) 0 λ e. omega (arith, e, some))
+
+-- a read puts what it says, whatever it gave, in a run that is not over
+pub waits-read : (x : Course) (input : List ℕ) → x .over ≡ false → afterRead x input .waits ≡ withAll (x .waits) (saidRead x input)
+waits-read x [] goes = waits-end x goes
+waits-read x (byte ∷ more) goes =
+    ap (λ (y : Course). y .waits) (some-taken x (byte ∷ more) (omega arith))
+    ∙ waits-bytes x (byte ∷ more)
+    ∙ ap (withAll (x .waits)) (sym (some-said x (byte ∷ more) (omega arith)))
+
+-- ---- What waits makes no difference
+-- a run at a place, with this output waiting
+abbrev placed : Place → Waiting → Course
+placed p w = record { house = p .house; reader = p .reader; waits = w; over = p .over }
+
+-- what is the same for all output that waits is the same for all runs at one place
+by-place : {A : Type 0} (f : Course → A) → ((p : Place) (v w : Waiting) → f (placed p v) ≡ f (placed p w)) → (x y : Course) → placeOf x ≡ placeOf y → f x ≡ f y
+by-place f same x y e = same (placeOf x) (x .waits) (y .waits) ∙ ap (λ (p : Place). f (placed p (y .waits))) e
+
+-- where a line's end leads
+place-event : (e : Event) (p : Place) (v w : Waiting) (r : State) (c : Call) → placeOf (onEvent e (placed p v) r c) ≡ placeOf (onEvent e (placed p w) r c)
+unfolding onEvent
+place-event Event.Nothing p v w r c = refl
+place-event Event.Bad p v w r c = refl
+place-event Event.Call p v w r c = refl
+
+-- what it says
+said-event : (e : Event) (p : Place) (v w : Waiting) (r : State) (c : Call) → saidOn e (placed p v) r c ≡ saidOn e (placed p w) r c
+unfolding saidOn
+said-event Event.Nothing p v w r c = refl
+said-event Event.Bad p v w r c = refl
+said-event Event.Call p v w r c = refl
+
+-- by whether the run is over
+place-by : (over : Bool) (x y z u : Course) → placeOf x ≡ placeOf y → placeOf z ≡ placeOf u → placeOf (cond over x z) ≡ placeOf (cond over y u)
+place-by true x y z u e f = e
+place-by false x y z u e f = f
+
+-- where one byte leads
+place-byte : (byte : ℕ) (x y : Course) → placeOf x ≡ placeOf y → placeOf (afterByte x byte) ≡ placeOf (afterByte y byte)
+unfolding afterByte
+place-byte byte =
+    by-place (λ (x : Course). placeOf (afterByte x byte)) λ p v w.
+    place-by (p .over) (placed p v) (placed p w) (afterLine (placed p v) (byte ∷ [])) (afterLine (placed p w) (byte ∷ [])) refl
+    (place-event (bringsOf (p .reader) (byte ∷ [])) p v w (afterOf (p .reader) (byte ∷ [])) (readOf (p .reader) (byte ∷ []) .call))
+
+-- what it says
+said-byte : (byte : ℕ) (x y : Course) → placeOf x ≡ placeOf y → saidByte x byte ≡ saidByte y byte
+unfolding saidByte
+said-byte byte =
+    by-place (λ (x : Course). saidByte x byte) λ p v w.
+    ap (cond (p .over) []) (said-event (bringsOf (p .reader) (byte ∷ [])) p v w (afterOf (p .reader) (byte ∷ [])) (readOf (p .reader) (byte ∷ []) .call))
+
+-- where bytes lead depends on the place alone
+pub place-bytes : (input : List ℕ) (x y : Course) → placeOf x ≡ placeOf y → placeOf (afterBytes x input) ≡ placeOf (afterBytes y input)
+unfolding afterBytes
+place-bytes [] x y e = e
+place-bytes (byte ∷ more) x y e = place-bytes more (afterByte x byte) (afterByte y byte) (place-byte byte x y e)
+
+-- and so does what they say
+pub said-bytes : (input : List ℕ) (x y : Course) → placeOf x ≡ placeOf y → saidBytes x input ≡ saidBytes y input
+unfolding saidBytes
+said-bytes [] x y e = refl
+said-bytes (byte ∷ more) x y e = ap₂ _++_ (said-byte byte x y e) (said-bytes more (afterByte x byte) (afterByte y byte) (place-byte byte x y e))
+
+-- where an ending leads
+place-ending : (e : Ending) (p : Place) (v w : Waiting) → placeOf (endedAs e (placed p v)) ≡ placeOf (endedAs e (placed p w))
+place-ending Ending.Clean p v w = refl
+place-ending Ending.Cut p v w = refl
+
+-- where the end of the input leads depends on the place alone
+pub place-end : (x y : Course) → placeOf x ≡ placeOf y → placeOf (atEnd x) ≡ placeOf (atEnd y)
+unfolding atEnd
+place-end = by-place (λ (x : Course). placeOf (atEnd x)) λ p v w. place-ending (endingOf (p .reader)) p v w
+
+-- and so does what it says
+pub said-end : (x y : Course) → placeOf x ≡ placeOf y → saidAtEnd x ≡ saidAtEnd y
+unfolding saidAtEnd
+said-end = by-place saidAtEnd λ p v w. refl
+
+-- ---- Cuts
+-- what bytes say in two parts
+said-cut : (x : Course) (a b : List ℕ) → saidBytes x a ++ saidBytes (afterBytes x a) b ≡ saidBytes x (a ++ b)
+unfolding saidBytes afterBytes
+said-cut x [] b = refl
+said-cut x (c ∷ a) b = append-assoc (saidByte x c) (saidBytes (afterByte x c) a) (saidBytes (afterBytes (afterByte x c) a) b) ∙ ap (λ (t : Pieces). saidByte x c ++ t) (said-cut (afterByte x c) a b)
+
+-- reads lead where their bytes lead
+place-reads : (x : Course) (inputs : List (List ℕ)) → NoneEmpty inputs → placeOf (afterReads x inputs) ≡ placeOf (afterBytes x (joined inputs))
+unfolding afterReads afterBytes joined NoneEmpty
+place-reads x [] some = refl
+place-reads x (input ∷ inputs) some =
+    ap (λ (y : Course). placeOf (afterReads (written y) inputs)) (some-taken x input (some .0))
+    ∙ place-reads (written (afterBytes x input)) inputs (some .1)
+    ∙ place-bytes (joined inputs) (written (afterBytes x input)) (afterBytes x input) refl
+    ∙ ap placeOf (sym (cut-anywhere x input (joined inputs)))
+
+-- and say what their bytes say
+said-reads : (x : Course) (inputs : List (List ℕ)) → NoneEmpty inputs → saidReads x inputs ≡ saidBytes x (joined inputs)
+unfolding saidReads saidBytes joined NoneEmpty
+said-reads x [] some = refl
+said-reads x (input ∷ inputs) some =
+    ap₂ (λ (t : Pieces) (y : Course). t ++ saidReads (written y) inputs) (some-said x input (some .0)) (some-taken x input (some .0))
+    ∙ ap (λ (t : Pieces). saidBytes x input ++ t) (said-reads (written (afterBytes x input)) inputs (some .1) ∙ said-bytes (joined inputs) (written (afterBytes x input)) (afterBytes x input) refl)
+    ∙ said-cut x input (joined inputs)
+
+-- an input cut into reads, each written out before the next, comes to the same place and says the same as its bytes one after another
+pub cut-reads : (x : Course) (inputs : List (List ℕ)) → NoneEmpty inputs → (placeOf (afterReads x inputs) ≡ placeOf (afterBytes x (joined inputs))) × (saidReads x inputs ≡ saidBytes x (joined inputs))
+cut-reads x inputs some = (place-reads x inputs some, said-reads x inputs some)
+
+-- reads, and reads behind them
+reads-append : (x : Course) (inputs more : List (List ℕ)) → afterReads x (inputs ++ more) ≡ afterReads (afterReads x inputs) more
+unfolding afterReads
+reads-append x [] more = refl
+reads-append x (input ∷ inputs) more = reads-append (written (afterRead x input)) inputs more
+
+-- what they say
+said-append : (x : Course) (inputs more : List (List ℕ)) → saidReads x (inputs ++ more) ≡ saidReads x inputs ++ saidReads (afterReads x inputs) more
+unfolding saidReads afterReads
+said-append x [] more = refl
+said-append x (input ∷ inputs) more =
+    ap (λ (t : Pieces). saidRead x input ++ t) (said-append (written (afterRead x input)) inputs more)
+    ∙ sym (append-assoc (saidRead x input) (saidReads (written (afterRead x input)) inputs) (saidReads (afterReads (written (afterRead x input)) inputs) more))
+
+-- the last read, which is empty
+last-place : (x : Course) → placeOf (afterReads x ([] ∷ [])) ≡ placeOf (atEnd x)
+unfolding afterReads
+last-place x = refl
+
+-- what it says
+last-said : (x : Course) → saidReads x ([] ∷ []) ≡ saidAtEnd x
+unfolding saidReads
+last-said x = append-nil (saidAtEnd x)
+
+-- the same with the end of the input behind
+pub cut-run : (x : Course) (inputs : List (List ℕ)) → NoneEmpty inputs → (placeOf (afterReads x (inputs ++ ([] ∷ []))) ≡ placeOf (atEnd (afterBytes x (joined inputs)))) × (saidReads x (inputs ++ ([] ∷ [])) ≡ saidBytes x (joined inputs) ++ saidAtEnd (afterBytes x (joined inputs)))
+cut-run x inputs some =
+    let e = cut-reads x inputs some in (
+      ap placeOf (reads-append x inputs ([] ∷ [])) ∙ last-place (afterReads x inputs) ∙ place-end (afterReads x inputs) (afterBytes x (joined inputs)) (e .0),
+      said-append x inputs ([] ∷ []) ∙ ap₂ _++_ (e .1) (last-said (afterReads x inputs) ∙ said-end (afterReads x inputs) (afterBytes x (joined inputs)) (e .0)),
+    )
+
+-- ---- A run that is over
+-- an ending is over, and else leaves the place as it is
+over-ending : (e : Ending) (x : Course) → placeOf (endedAs e x) ≡ record { house = x .house; reader = x .reader; over = true }
+over-ending Ending.Clean x = refl
+over-ending Ending.Cut x = refl
+
+-- a read more leaves a run that is over where it is
+over-read : (x : Course) (input : List ℕ) → x .over ≡ true → placeOf (afterRead x input) ≡ placeOf x
+unfolding atEnd
+over-read x [] e = over-ending (endingOf (x .reader)) x ∙ ap (λ (b : Bool). record { house = x .house; reader = x .reader; over = b }) (sym e)
+over-read x (byte ∷ more) e = ap placeOf (some-taken x (byte ∷ more) (omega arith) ∙ over-stays x (byte ∷ more) e)
+
+-- a byte more says nothing
+silent-byte : (x : Course) (byte : ℕ) → x .over ≡ true → saidByte x byte ≡ []
+unfolding saidByte
+silent-byte x byte e = ap (λ (b : Bool). cond b [] (saidLine x (byte ∷ []))) e
+
+-- the run stays over
+over-byte : (x : Course) (byte : ℕ) → x .over ≡ true → afterByte x byte .over ≡ true
+unfolding afterBytes
+over-byte x byte e = ap (λ (y : Course). y .over) (over-stays x (byte ∷ []) e) ∙ e
+
+-- bytes say nothing
+silent-bytes : (x : Course) (input : List ℕ) → x .over ≡ true → saidBytes x input ≡ []
+unfolding saidBytes
+silent-bytes x [] e = refl
+silent-bytes x (byte ∷ more) e = ap₂ _++_ (silent-byte x byte e) (silent-bytes (afterByte x byte) more (over-byte x byte e))
+
+-- a read says nothing
+silent-read : (x : Course) (input : List ℕ) → x .over ≡ true → saidRead x input ≡ []
+unfolding saidAtEnd
+silent-read x [] e = ap (λ (b : Bool). cond b [] (saidEnding (endingOf (x .reader)) (x .reader))) e
+silent-read x (byte ∷ more) e = some-said x (byte ∷ more) (omega arith) ∙ silent-bytes x (byte ∷ more) e
+
+-- reads that would come when the run is over change nothing and say nothing
+pub over-silent : (x : Course) (inputs : List (List ℕ)) → x .over ≡ true → (placeOf (afterReads x inputs) ≡ placeOf x) × (saidReads x inputs ≡ [])
+unfolding afterReads saidReads
+over-silent x [] e = (refl, refl)
+over-silent x (input ∷ inputs) e =
+    let stays = over-read x input e in
+    let more = over-silent (written (afterRead x input)) inputs (ap (λ (p : Place). p .over) stays ∙ e) in
+    (more .0 ∙ stays, ap₂ _++_ (silent-read x input e) (more .1))
+
+-- so a run may stop reading as soon as it is over: it comes to the same place and says the same as if it had read on
+pub stops-early : (x : Course) (inputs more : List (List ℕ)) → afterReads x inputs .over ≡ true → (placeOf (afterReads x (inputs ++ more)) ≡ placeOf (afterReads x inputs)) × (saidReads x (inputs ++ more) ≡ saidReads x inputs)
+stops-early x inputs more e =
+    let rest = over-silent (afterReads x inputs) more e in
+    (ap placeOf (reads-append x inputs more) ∙ rest .0, said-append x inputs more ∙ ap (λ (t : Pieces). saidReads x inputs ++ t) (rest .1) ∙ append-nil (saidReads x inputs))
+
+-- ---- Two ways to cut one input
+module _ (x : Course) (these those : List (List ℕ)) (some : NoneEmpty these) (others : NoneEmpty those) (same : joined these ≡ joined those) where
+  -- both lead to the same place and say the same
+  pub cuts-agree : (placeOf (afterReads x these) ≡ placeOf (afterReads x those)) × (saidReads x these ≡ saidReads x those)
+  cuts-agree =
+      let e = cut-reads x these some in
+      let f = cut-reads x those others in
+      (e .0 ∙ ap (λ (t : List ℕ). placeOf (afterBytes x t)) same ∙ sym (f .0), e .1 ∙ ap (saidBytes x) same ∙ sym (f .1))
+
+  -- and so they do with the end of the input behind
+  pub runs-agree : (placeOf (afterReads x (these ++ ([] ∷ []))) ≡ placeOf (afterReads x (those ++ ([] ∷ [])))) × (saidReads x (these ++ ([] ∷ [])) ≡ saidReads x (those ++ ([] ∷ [])))
+  runs-agree =
+      let e = cut-run x these some in
+      let f = cut-run x those others in (
+        e .0 ∙ ap (λ (t : List ℕ). placeOf (atEnd (afterBytes x t))) same ∙ sym (f .0),
+        e .1 ∙ ap (λ (t : List ℕ). saidBytes x t ++ saidAtEnd (afterBytes x t)) same ∙ sym (f .1),
+      )
