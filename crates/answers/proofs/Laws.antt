@@ -25,7 +25,7 @@ pub no-piece : (d : List ℕ) (at : ℕ) → Adds d at [] at d
 unfolding withAll Short
 no-piece d at = record { is = refl; short = tt }
 
-with-append : (w : Waiting) (ts us : Pieces) → withAll w (ts ++ us) ≡ withAll (withAll w ts) us
+pub with-append : (w : Waiting) (ts us : Pieces) → withAll w (ts ++ us) ≡ withAll (withAll w ts) us
 unfolding withAll
 with-append w [] us = refl
 with-append w (t ∷ ts) us = with-append (with w t) ts us

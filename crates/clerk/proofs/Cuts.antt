@@ -10,18 +10,13 @@ use Rattle.script.specs.declared.Call.{Call}
 use Rattle.script.specs.declared.Ending.{Ending}
 use Rattle.script.specs.declared.Event.{Event}
 use Rattle.script.specs.Lines.{State, afterOf, bringsOf, readOf, endingOf}
-use Rattle.answers.specs.Waiting.{Pieces, Waiting, with, withAll, joined}
+use Rattle.answers.specs.Waiting.{Pieces, withAll, joined}
+use Rattle.answers.proofs.Laws.{with-append}
 use Rattle.clerk.specs.Course.{Course, onEvent, afterLine, afterByte, afterBytes, endedAs, atEnd, afterRead, written, afterReads}
-use Rattle.clerk.specs.Course.{Place, placeOf, saidOn, saidLine, saidByte, saidBytes, saidEnding, saidAtEnd, saidRead, saidReads, NoneEmpty}
+use Rattle.clerk.specs.Course.{Whereabouts, whereOf, saidOn, saidLine, saidByte, saidBytes, saidEnding, saidAtEnd, saidRead, saidReads, NoneEmpty}
 use Rattle.clerk.proofs.Bytes.{cut-anywhere, over-stays}
 
 -- ---- What is said is what is put into the output
--- pieces, and pieces behind them
-put-append : (w : Waiting) (ts us : Pieces) → withAll (withAll w ts) us ≡ withAll w (ts ++ us)
-unfolding withAll
-put-append w [] us = refl
-put-append w (t ∷ ts) us = put-append (with w t) ts us
-
 -- a line's end puts what it says
 waits-event : (e : Event) (x : Course) (r : State) (c : Call) → onEvent e x r c .waits ≡ withAll (x .waits) (saidOn e x r c)
 unfolding onEvent saidOn withAll
@@ -49,7 +44,7 @@ waits-bytes x [] = refl
 waits-bytes x (byte ∷ more) =
     waits-bytes (afterByte x byte) more
     ∙ ap (λ (w : Waiting). withAll w (saidBytes (afterByte x byte) more)) (waits-byte x byte)
-    ∙ put-append (x .waits) (saidByte x byte) (saidBytes (afterByte x byte) more)
+    ∙ sym (with-append (x .waits) (saidByte x byte) (saidBytes (afterByte x byte) more))
 
 -- an ending puts what it says
 waits-ending : (e : Ending) (x : Course) → endedAs e x .waits ≡ withAll (x .waits) (saidEnding e (x .reader))
@@ -80,71 +75,71 @@ waits-read x (byte ∷ more) goes =
 
 -- ---- What waits makes no difference
 -- a run at a place, with this output waiting
-abbrev placed : Place → Waiting → Course
+abbrev placed : Whereabouts → Waiting → Course
 placed p w = record { house = p .house; reader = p .reader; waits = w; over = p .over }
 
 -- what is the same for all output that waits is the same for all runs at one place
-by-place : {A : Type 0} (f : Course → A) → ((p : Place) (v w : Waiting) → f (placed p v) ≡ f (placed p w)) → (x y : Course) → placeOf x ≡ placeOf y → f x ≡ f y
-by-place f same x y e = same (placeOf x) (x .waits) (y .waits) ∙ ap (λ (p : Place). f (placed p (y .waits))) e
+by-place : {A : Type 0} (f : Course → A) → ((p : Whereabouts) (v w : Waiting) → f (placed p v) ≡ f (placed p w)) → (x y : Course) → whereOf x ≡ whereOf y → f x ≡ f y
+by-place f same x y e = same (whereOf x) (x .waits) (y .waits) ∙ ap (λ (p : Whereabouts). f (placed p (y .waits))) e
 
 -- where a line's end leads
-place-event : (e : Event) (p : Place) (v w : Waiting) (r : State) (c : Call) → placeOf (onEvent e (placed p v) r c) ≡ placeOf (onEvent e (placed p w) r c)
+place-event : (e : Event) (p : Whereabouts) (v w : Waiting) (r : State) (c : Call) → whereOf (onEvent e (placed p v) r c) ≡ whereOf (onEvent e (placed p w) r c)
 unfolding onEvent
 place-event Event.Nothing p v w r c = refl
 place-event Event.Bad p v w r c = refl
 place-event Event.Call p v w r c = refl
 
 -- what it says
-said-event : (e : Event) (p : Place) (v w : Waiting) (r : State) (c : Call) → saidOn e (placed p v) r c ≡ saidOn e (placed p w) r c
+said-event : (e : Event) (p : Whereabouts) (v w : Waiting) (r : State) (c : Call) → saidOn e (placed p v) r c ≡ saidOn e (placed p w) r c
 unfolding saidOn
 said-event Event.Nothing p v w r c = refl
 said-event Event.Bad p v w r c = refl
 said-event Event.Call p v w r c = refl
 
 -- by whether the run is over
-place-by : (over : Bool) (x y z u : Course) → placeOf x ≡ placeOf y → placeOf z ≡ placeOf u → placeOf (cond over x z) ≡ placeOf (cond over y u)
+place-by : (over : Bool) (x y z u : Course) → whereOf x ≡ whereOf y → whereOf z ≡ whereOf u → whereOf (cond over x z) ≡ whereOf (cond over y u)
 place-by true x y z u e f = e
 place-by false x y z u e f = f
 
 -- where one byte leads
-place-byte : (byte : ℕ) (x y : Course) → placeOf x ≡ placeOf y → placeOf (afterByte x byte) ≡ placeOf (afterByte y byte)
+place-byte : (byte : ℕ) (x y : Course) → whereOf x ≡ whereOf y → whereOf (afterByte x byte) ≡ whereOf (afterByte y byte)
 unfolding afterByte
 place-byte byte =
-    by-place (λ (x : Course). placeOf (afterByte x byte)) λ p v w.
+    by-place (λ (x : Course). whereOf (afterByte x byte)) λ p v w.
     place-by (p .over) (placed p v) (placed p w) (afterLine (placed p v) (byte ∷ [])) (afterLine (placed p w) (byte ∷ [])) refl
     (place-event (bringsOf (p .reader) (byte ∷ [])) p v w (afterOf (p .reader) (byte ∷ [])) (readOf (p .reader) (byte ∷ []) .call))
 
 -- what it says
-said-byte : (byte : ℕ) (x y : Course) → placeOf x ≡ placeOf y → saidByte x byte ≡ saidByte y byte
+said-byte : (byte : ℕ) (x y : Course) → whereOf x ≡ whereOf y → saidByte x byte ≡ saidByte y byte
 unfolding saidByte
 said-byte byte =
     by-place (λ (x : Course). saidByte x byte) λ p v w.
     ap (cond (p .over) []) (said-event (bringsOf (p .reader) (byte ∷ [])) p v w (afterOf (p .reader) (byte ∷ [])) (readOf (p .reader) (byte ∷ []) .call))
 
 -- where bytes lead depends on the place alone
-pub place-bytes : (input : List ℕ) (x y : Course) → placeOf x ≡ placeOf y → placeOf (afterBytes x input) ≡ placeOf (afterBytes y input)
+pub place-bytes : (input : List ℕ) (x y : Course) → whereOf x ≡ whereOf y → whereOf (afterBytes x input) ≡ whereOf (afterBytes y input)
 unfolding afterBytes
 place-bytes [] x y e = e
 place-bytes (byte ∷ more) x y e = place-bytes more (afterByte x byte) (afterByte y byte) (place-byte byte x y e)
 
 -- and so does what they say
-pub said-bytes : (input : List ℕ) (x y : Course) → placeOf x ≡ placeOf y → saidBytes x input ≡ saidBytes y input
+pub said-bytes : (input : List ℕ) (x y : Course) → whereOf x ≡ whereOf y → saidBytes x input ≡ saidBytes y input
 unfolding saidBytes
 said-bytes [] x y e = refl
 said-bytes (byte ∷ more) x y e = ap₂ _++_ (said-byte byte x y e) (said-bytes more (afterByte x byte) (afterByte y byte) (place-byte byte x y e))
 
 -- where an ending leads
-place-ending : (e : Ending) (p : Place) (v w : Waiting) → placeOf (endedAs e (placed p v)) ≡ placeOf (endedAs e (placed p w))
+place-ending : (e : Ending) (p : Whereabouts) (v w : Waiting) → whereOf (endedAs e (placed p v)) ≡ whereOf (endedAs e (placed p w))
 place-ending Ending.Clean p v w = refl
 place-ending Ending.Cut p v w = refl
 
 -- where the end of the input leads depends on the place alone
-pub place-end : (x y : Course) → placeOf x ≡ placeOf y → placeOf (atEnd x) ≡ placeOf (atEnd y)
+pub place-end : (x y : Course) → whereOf x ≡ whereOf y → whereOf (atEnd x) ≡ whereOf (atEnd y)
 unfolding atEnd
-place-end = by-place (λ (x : Course). placeOf (atEnd x)) λ p v w. place-ending (endingOf (p .reader)) p v w
+place-end = by-place (λ (x : Course). whereOf (atEnd x)) λ p v w. place-ending (endingOf (p .reader)) p v w
 
 -- and so does what it says
-pub said-end : (x y : Course) → placeOf x ≡ placeOf y → saidAtEnd x ≡ saidAtEnd y
+pub said-end : (x y : Course) → whereOf x ≡ whereOf y → saidAtEnd x ≡ saidAtEnd y
 unfolding saidAtEnd
 said-end = by-place saidAtEnd λ p v w. refl
 
@@ -156,14 +151,14 @@ said-cut x [] b = refl
 said-cut x (c ∷ a) b = append-assoc (saidByte x c) (saidBytes (afterByte x c) a) (saidBytes (afterBytes (afterByte x c) a) b) ∙ ap (λ (t : Pieces). saidByte x c ++ t) (said-cut (afterByte x c) a b)
 
 -- reads lead where their bytes lead
-place-reads : (x : Course) (inputs : List (List ℕ)) → NoneEmpty inputs → placeOf (afterReads x inputs) ≡ placeOf (afterBytes x (joined inputs))
+place-reads : (x : Course) (inputs : List (List ℕ)) → NoneEmpty inputs → whereOf (afterReads x inputs) ≡ whereOf (afterBytes x (joined inputs))
 unfolding afterReads afterBytes joined NoneEmpty
 place-reads x [] some = refl
 place-reads x (input ∷ inputs) some =
-    ap (λ (y : Course). placeOf (afterReads (written y) inputs)) (some-taken x input (some .0))
+    ap (λ (y : Course). whereOf (afterReads (written y) inputs)) (some-taken x input (some .0))
     ∙ place-reads (written (afterBytes x input)) inputs (some .1)
     ∙ place-bytes (joined inputs) (written (afterBytes x input)) (afterBytes x input) refl
-    ∙ ap placeOf (sym (cut-anywhere x input (joined inputs)))
+    ∙ ap whereOf (sym (cut-anywhere x input (joined inputs)))
 
 -- and say what their bytes say
 said-reads : (x : Course) (inputs : List (List ℕ)) → NoneEmpty inputs → saidReads x inputs ≡ saidBytes x (joined inputs)
@@ -175,7 +170,7 @@ said-reads x (input ∷ inputs) some =
     ∙ said-cut x input (joined inputs)
 
 -- an input cut into reads, each written out before the next, comes to the same place and says the same as its bytes one after another
-pub cut-reads : (x : Course) (inputs : List (List ℕ)) → NoneEmpty inputs → (placeOf (afterReads x inputs) ≡ placeOf (afterBytes x (joined inputs))) × (saidReads x inputs ≡ saidBytes x (joined inputs))
+pub cut-reads : (x : Course) (inputs : List (List ℕ)) → NoneEmpty inputs → (whereOf (afterReads x inputs) ≡ whereOf (afterBytes x (joined inputs))) × (saidReads x inputs ≡ saidBytes x (joined inputs))
 cut-reads x inputs some = (place-reads x inputs some, said-reads x inputs some)
 
 -- reads, and reads behind them
@@ -193,7 +188,7 @@ said-append x (input ∷ inputs) more =
     ∙ sym (append-assoc (saidRead x input) (saidReads (written (afterRead x input)) inputs) (saidReads (afterReads (written (afterRead x input)) inputs) more))
 
 -- the last read, which is empty
-last-place : (x : Course) → placeOf (afterReads x ([] ∷ [])) ≡ placeOf (atEnd x)
+last-place : (x : Course) → whereOf (afterReads x ([] ∷ [])) ≡ whereOf (atEnd x)
 unfolding afterReads
 last-place x = refl
 
@@ -203,24 +198,24 @@ unfolding saidReads
 last-said x = append-nil (saidAtEnd x)
 
 -- the same with the end of the input behind
-pub cut-run : (x : Course) (inputs : List (List ℕ)) → NoneEmpty inputs → (placeOf (afterReads x (inputs ++ ([] ∷ []))) ≡ placeOf (atEnd (afterBytes x (joined inputs)))) × (saidReads x (inputs ++ ([] ∷ [])) ≡ saidBytes x (joined inputs) ++ saidAtEnd (afterBytes x (joined inputs)))
+pub cut-run : (x : Course) (inputs : List (List ℕ)) → NoneEmpty inputs → (whereOf (afterReads x (inputs ++ ([] ∷ []))) ≡ whereOf (atEnd (afterBytes x (joined inputs)))) × (saidReads x (inputs ++ ([] ∷ [])) ≡ saidBytes x (joined inputs) ++ saidAtEnd (afterBytes x (joined inputs)))
 cut-run x inputs some =
     let e = cut-reads x inputs some in (
-      ap placeOf (reads-append x inputs ([] ∷ [])) ∙ last-place (afterReads x inputs) ∙ place-end (afterReads x inputs) (afterBytes x (joined inputs)) (e .0),
+      ap whereOf (reads-append x inputs ([] ∷ [])) ∙ last-place (afterReads x inputs) ∙ place-end (afterReads x inputs) (afterBytes x (joined inputs)) (e .0),
       said-append x inputs ([] ∷ []) ∙ ap₂ _++_ (e .1) (last-said (afterReads x inputs) ∙ said-end (afterReads x inputs) (afterBytes x (joined inputs)) (e .0)),
     )
 
 -- ---- A run that is over
 -- an ending is over, and else leaves the place as it is
-over-ending : (e : Ending) (x : Course) → placeOf (endedAs e x) ≡ record { house = x .house; reader = x .reader; over = true }
+over-ending : (e : Ending) (x : Course) → whereOf (endedAs e x) ≡ record { house = x .house; reader = x .reader; over = true }
 over-ending Ending.Clean x = refl
 over-ending Ending.Cut x = refl
 
 -- a read more leaves a run that is over where it is
-over-read : (x : Course) (input : List ℕ) → x .over ≡ true → placeOf (afterRead x input) ≡ placeOf x
+over-read : (x : Course) (input : List ℕ) → x .over ≡ true → whereOf (afterRead x input) ≡ whereOf x
 unfolding atEnd
 over-read x [] e = over-ending (endingOf (x .reader)) x ∙ ap (λ (b : Bool). record { house = x .house; reader = x .reader; over = b }) (sym e)
-over-read x (byte ∷ more) e = ap placeOf (some-taken x (byte ∷ more) (omega arith) ∙ over-stays x (byte ∷ more) e)
+over-read x (byte ∷ more) e = ap whereOf (some-taken x (byte ∷ more) (omega arith) ∙ over-stays x (byte ∷ more) e)
 
 -- a byte more says nothing
 silent-byte : (x : Course) (byte : ℕ) → x .over ≡ true → saidByte x byte ≡ []
@@ -245,34 +240,34 @@ silent-read x [] e = ap (λ (b : Bool). cond b [] (saidEnding (endingOf (x .read
 silent-read x (byte ∷ more) e = some-said x (byte ∷ more) (omega arith) ∙ silent-bytes x (byte ∷ more) e
 
 -- reads that would come when the run is over change nothing and say nothing
-pub over-silent : (x : Course) (inputs : List (List ℕ)) → x .over ≡ true → (placeOf (afterReads x inputs) ≡ placeOf x) × (saidReads x inputs ≡ [])
+pub over-silent : (x : Course) (inputs : List (List ℕ)) → x .over ≡ true → (whereOf (afterReads x inputs) ≡ whereOf x) × (saidReads x inputs ≡ [])
 unfolding afterReads saidReads
 over-silent x [] e = (refl, refl)
 over-silent x (input ∷ inputs) e =
     let stays = over-read x input e in
-    let more = over-silent (written (afterRead x input)) inputs (ap (λ (p : Place). p .over) stays ∙ e) in
+    let more = over-silent (written (afterRead x input)) inputs (ap (λ (p : Whereabouts). p .over) stays ∙ e) in
     (more .0 ∙ stays, ap₂ _++_ (silent-read x input e) (more .1))
 
 -- so a run may stop reading as soon as it is over: it comes to the same place and says the same as if it had read on
-pub stops-early : (x : Course) (inputs more : List (List ℕ)) → afterReads x inputs .over ≡ true → (placeOf (afterReads x (inputs ++ more)) ≡ placeOf (afterReads x inputs)) × (saidReads x (inputs ++ more) ≡ saidReads x inputs)
+pub stops-early : (x : Course) (inputs more : List (List ℕ)) → afterReads x inputs .over ≡ true → (whereOf (afterReads x (inputs ++ more)) ≡ whereOf (afterReads x inputs)) × (saidReads x (inputs ++ more) ≡ saidReads x inputs)
 stops-early x inputs more e =
     let rest = over-silent (afterReads x inputs) more e in
-    (ap placeOf (reads-append x inputs more) ∙ rest .0, said-append x inputs more ∙ ap (λ (t : Pieces). saidReads x inputs ++ t) (rest .1) ∙ append-nil (saidReads x inputs))
+    (ap whereOf (reads-append x inputs more) ∙ rest .0, said-append x inputs more ∙ ap (λ (t : Pieces). saidReads x inputs ++ t) (rest .1) ∙ append-nil (saidReads x inputs))
 
 -- ---- Two ways to cut one input
 module _ (x : Course) (these those : List (List ℕ)) (some : NoneEmpty these) (others : NoneEmpty those) (same : joined these ≡ joined those) where
   -- both lead to the same place and say the same
-  pub cuts-agree : (placeOf (afterReads x these) ≡ placeOf (afterReads x those)) × (saidReads x these ≡ saidReads x those)
+  pub cuts-agree : (whereOf (afterReads x these) ≡ whereOf (afterReads x those)) × (saidReads x these ≡ saidReads x those)
   cuts-agree =
       let e = cut-reads x these some in
       let f = cut-reads x those others in
-      (e .0 ∙ ap (λ (t : List ℕ). placeOf (afterBytes x t)) same ∙ sym (f .0), e .1 ∙ ap (saidBytes x) same ∙ sym (f .1))
+      (e .0 ∙ ap (λ (t : List ℕ). whereOf (afterBytes x t)) same ∙ sym (f .0), e .1 ∙ ap (saidBytes x) same ∙ sym (f .1))
 
   -- and so they do with the end of the input behind
-  pub runs-agree : (placeOf (afterReads x (these ++ ([] ∷ []))) ≡ placeOf (afterReads x (those ++ ([] ∷ [])))) × (saidReads x (these ++ ([] ∷ [])) ≡ saidReads x (those ++ ([] ∷ [])))
+  pub runs-agree : (whereOf (afterReads x (these ++ ([] ∷ []))) ≡ whereOf (afterReads x (those ++ ([] ∷ [])))) × (saidReads x (these ++ ([] ∷ [])) ≡ saidReads x (those ++ ([] ∷ [])))
   runs-agree =
       let e = cut-run x these some in
       let f = cut-run x those others in (
-        e .0 ∙ ap (λ (t : List ℕ). placeOf (atEnd (afterBytes x t))) same ∙ sym (f .0),
+        e .0 ∙ ap (λ (t : List ℕ). whereOf (atEnd (afterBytes x t))) same ∙ sym (f .0),
         e .1 ∙ ap (λ (t : List ℕ). saidBytes x t ++ saidAtEnd (afterBytes x t)) same ∙ sym (f .1),
       )

@@ -137,14 +137,14 @@ pub record RunsWhole (r : Eaten) : Type 0 where
 
 -- ---- What a run says
 -- where a run is, but for the output that waits
-pub record Place : Type 0 where
+pub record Whereabouts : Type 0 where
   pub house : House
   pub reader : State
   pub over : Bool
 
 -- the place of a course
-abbrev pub placeOf : Course → Place
-placeOf x = record { house = x .house; reader = x .reader; over = x .over }
+abbrev pub whereOf : Course → Whereabouts
+whereOf x = record { house = x .house; reader = x .reader; over = x .over }
 
 -- what a line's end says: nothing yet, that the line is bad, or the answer to a call
 unfoldable pub saidOn : Event → Course → State → Call → Pieces
