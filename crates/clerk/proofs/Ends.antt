@@ -3,7 +3,6 @@ use mathlib.Core.Path.{_≡_, refl, sym, ap, ap₂, subst, _∙_}
 use mathlib.Core.Bool.{Bool, true, false, cond}
 use mathlib.Core.List.{List, [], _∷_, _++_}
 use Prim.Native.Nat.{ℕ, _+_, _≤_}
-use lib.Dec.{T}
 use borrow.Author.Tests.{ne-eqb}
 use lib.ListN.{length, drop, length-append, drop-of-length-le}
 use Rattle.tanks.specs.declared.Tanks.{Tanks}
@@ -105,9 +104,6 @@ runs-as {s} {t} {first} {reader} {d} {r} {n} out {over} ok stands l most =
       leads = record { inputs = l .inputs; count = l .count; is = ap₂ (λ (u : Tanks) (st : Stand). courseOf u st out) (stands .0) (stands .1) ∙ l .is };
       ends = λ e. most (sym (ap (λ (st : Stand). st .over) (stands .1)) ∙ e);
     }
-
-pub not-false : {A : Type 0} → true ≡ false → A
-not-false e = absurd (subst T e tt)
 
 -- from the very beginning
 pub runs-whole : {s : Tanks} {first : Reader} {d out : List ℕ} {r : Eaten} → meaning s ≡ opening ones → first ≡ readerAt (freshOf Op.Nothing) 0 → Runs s first d r out → RunsWhole r

@@ -5,7 +5,8 @@ use mathlib.Core.List.{List, [], _∷_}
 use native.Mathlib.Omega.{arith}
 use lib.ListN.{length, getD, length-append}
 use Rattle.styles.specs.declared.Mark.{Mark}
-use Rattle.styles.specs.Bits.{keepBit, pick}
+use Rattle.styles.specs.Bits.{pick}
+use Rattle.styles.proofs.CountLaws.{length-keep}
 use Rattle.styles.proofs.PickLaws.{pick-cons}
 use Rattle.runs.proofs.ListLaws.{listed-most}
 use Rattle.tank.specs.declared.Tank.{Tank}
@@ -20,10 +21,6 @@ use Rattle.lists.proofs.AnchorLaws.{lack-step}
 use Rattle.lists.proofs.CursorLaws.{first-is, follows, none-later, length-anchors}
 
 -- ---- a boundary
-length-keep : (b : ℕ) (m : Mark) (ms : List Mark) → b < 2 → length (keepBit b m ms) ≡ b + length ms
-length-keep zero m ms h = omega arith
-length-keep (suc b) m ms h = omega arith
-
 lack-length : (m : Mark) (ms : List Mark) (s u : ℕ)
     → length (pick (m ∷ ms) (lackingBits s u)) ≡ (s % 2 - min (s % 2) (u % 2)) + length (pick ms (lackingBits (s / 2) (u / 2)))
 lack-length m ms s u =

@@ -1,12 +1,13 @@
 -- An arm of a table: what it says of a variant it says of the value that is that variant.
 use mathlib.Core.Path.{_≡_, sym, ap, _∙_}
-use mathlib.Core.Bool.{true}
+use mathlib.Core.Bool.{Bool, true, cond}
 use mathlib.Core.List.{List}
 use Prim.Native.Nat.{ℕ, _≤_}
 use native.Mathlib.Omega.{arith}
 use lib.Dec.{leb}
 use lib.ListN.{length, drop}
 use borrow.Author.Tests.{leb-true}
+use Rattle.text.specs.Starts.{sameOf}
 use Rattle.script.specs.declared.Op.{Op}
 use Rattle.script.specs.declared.Field.{Field}
 use Rattle.script.specs.declared.Kind.{Kind}
@@ -30,3 +31,7 @@ field-place d h k e = place-of h k e (ap nameOf d)
 
 pub kind-arm : {k l : Kind} {n : Name} → k ≡ l → n ≡ spelling (kindName l) → n ≡ spelling (kindName k)
 kind-arm e s = s ∙ sym (ap (λ (x : Kind). spelling (kindName x)) e)
+
+-- a choice by whether a text is a name, whichever way the name is written
+pub by-name : {A : Type 0} (t n m : List ℕ) (a b : A) (q : Bool) → n ≡ m → q ≡ sameOf t n → cond q a b ≡ cond (sameOf t m) a b
+by-name t n m a b q e s = ap (λ (x : Bool). cond x a b) (s ∙ ap (sameOf t) e)

@@ -55,7 +55,7 @@ unfoldable pub insertMark : Mark → List Mark → List Mark
 insertMark m [] = m ∷ []
 insertMark m (x ∷ xs) = insertStep (stands (idOf m) (idOf x)) m x xs (insertMark m xs)
 
--- both sets together; an identity of both is as the second has it
+-- the marks that either set has; an identity of both is as the second has it
 unfoldable pub eitherOf : List Mark → List Mark → List Mark
 unfolding insertMark
 eitherOf [] ys = ys

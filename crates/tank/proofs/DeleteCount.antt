@@ -13,15 +13,12 @@ use Rattle.styles.specs.declared.Stand.the-variants.{Same}
 use Rattle.styles.specs.Marks.{sameMarks}
 use Rattle.styles.proofs.OrderLaws.{is-same-of, same-eq}
 use Rattle.styles.proofs.SameLaws.{same-marks-self}
+use Rattle.styles.proofs.ValueLaws.{both-hold}
 use Rattle.runs.specs.Positions.{starts, stretchCount}
 use Rattle.runs.proofs.StretchLaws.{stretch-count-ext}
 use Rattle.tank.specs.Rules.{View, afterDelete, alike, runsHeld}
 
 -- ---- sameness of sets passes along a chain
-both : (a b : Bool) → cond a b false ≡ true → (a ≡ true) × (b ≡ true)
-both true b e = (refl, e)
-both false b e = (e, absurd (false≢true e))
-
 same-chain : (xs ys zs : List Mark) → sameMarks xs ys ≡ true → sameMarks ys zs ≡ true → sameMarks xs zs ≡ true
 unfolding sameMarks
 same-chain [] [] zs e f = f
@@ -29,8 +26,8 @@ same-chain [] (y ∷ ys) zs e f = absurd (false≢true e)
 same-chain (x ∷ xs) [] zs e f = absurd (false≢true e)
 same-chain (x ∷ xs) (y ∷ ys) [] e f = f
 same-chain (x ∷ xs) (y ∷ ys) (z ∷ zs) e f =
-    let p = both (sameId (idOf x) (idOf y)) (sameMarks xs ys) e in
-    let q = both (sameId (idOf y) (idOf z)) (sameMarks ys zs) f in
+    let p = both-hold (sameId (idOf x) (idOf y)) (sameMarks xs ys) e in
+    let q = both-hold (sameId (idOf y) (idOf z)) (sameMarks ys zs) f in
     let i = same-eq (idOf x) (idOf y) (is-same-of (stands (idOf x) (idOf y)) (p .0)) in
     let s : stands (idOf x) (idOf z) ≡ Same = ap (λ k. stands k (idOf z)) i ∙ is-same-of (stands (idOf y) (idOf z)) (q .0) in
     rw s (same-chain xs ys zs (p .1) (q .1))

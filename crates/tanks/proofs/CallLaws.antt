@@ -22,7 +22,7 @@ pub cond-when : {A : Type 0} (b : Bool) (x y z : A) → (b ≡ true → x ≡ y)
 cond-when true x y z h = h refl
 cond-when false x y z h = refl
 
-first-when : (n x y : ℕ) → (n ≡ 0 → x ≡ y) → first n x ≡ first n y
+pub first-when : (n x y : ℕ) → (n ≡ 0 → x ≡ y) → first n x ≡ first n y
 first-when n x y h = cond-when (eqb n 0) x y n (λ e. h (eqb-true n 0 e))
 
 -- ---- the refusal, where there is such a tank and where there is none

@@ -24,6 +24,7 @@ use Rattle.tank.proofs.ViewLaws.{view-ext}
 use Rattle.tanks.specs.declared.Setting.{Setting}
 use Rattle.tanks.specs.Settings.{accepted, judgement}
 use Rattle.tanks.specs.House.{House, tankAt, held, opening, noTank, first, refusalAt, withTank, afterAt, Call, afterAll}
+use Rattle.tanks.proofs.CallLaws.{first-when}
 use Rattle.tanks.proofs.SettingLaws.{both, first-zero}
 
 -- ---- tanks on runs
@@ -112,14 +113,6 @@ map-set f x [] t = refl
 map-set f x (y ∷ l) zero = refl
 map-set {B = B} f x (y ∷ l) (suc t) = ap (λ (m : List B). f y ∷ m) (map-set f x l t)
 
--- a second number plays a part only beside 0
-first-same : (n x y : ℕ) → (n ≡ 0 → x ≡ y) → first n x ≡ first n y
-first-same n x y h = go (eqb n 0) refl
-  where
-    go : (b : Bool) → eqb n 0 ≡ b → cond b x n ≡ cond b y n
-    go true e = h (eqb-true n 0 e)
-    go false e = refl
-
 own-zero : (b : Bool) (n m : ℕ) → cond b 1 (first n m) ≡ 0 → n ≡ 0
 own-zero true n m h = absurd (omega arith)
 own-zero false n m h = first-zero n m h
@@ -197,7 +190,7 @@ module _ (ms : List Mark) (sorted : Sorted ms) where
             ∙ ap (λ (n : ℕ → ℕ). cond (noTank t) 1 (first (refusal e v) (judgement st n t (runsHeld (after e v))))) (held-on f)
             ∙ ap (λ n. cond (noTank t) 1 (first n (judgement st (heldOn ks) t (runsHeld (after e v))))) (refusal-on ms sorted e (k .touched) (k .runs) (f t .canon))
             ∙ ap (cond (noTank t) 1)
-            (first-same _ _ _ (λ z. ap (judgement st (heldOn ks) t) (ap runsHeld (edit-on e k (f t) is-known z) ∙ held-in new new-fit)))
+            (first-when _ _ _ (λ z. ap (judgement st (heldOn ks) t) (ap runsHeld (edit-on e k (f t) is-known z) ∙ held-in new new-fit)))
 
         pub after-fit : AllFit ms (allAfter st ms ks t e)
         unfolding allAfter numberAt

@@ -1,16 +1,11 @@
 -- The text is the name, or it is not.
-use mathlib.Core.Path.{_≡_, sym, ap, _∙_}
-use mathlib.Core.Bool.{Bool, true, false, cond}
-use mathlib.Core.List.{List}
-use Prim.Native.Nat.{ℕ}
+use mathlib.Core.Path.{sym, _∙_}
+use mathlib.Core.Bool.{true, false}
 use borrow.Author.Needs.{needs}
-use Rattle.text.specs.Starts.{sameOf}
+use Rattle.script.proofs.Tables.{by-name}
 use Rattle.script.proofs.LineLaws.{name-spells, name-fits}
 use Rattle.script.proofs.reading.or_kind.Statement.{statement}
 use Rattle.script.proofs.reading.or_kind.Tie as tie
-
-by-name : {A : Type 0} (t n m : List ℕ) (a b : A) (q : Bool) → n ≡ m → q ≡ sameOf t n → cond q a b ≡ cond (sameOf t m) a b
-by-name t n m a b q e s = ap (λ (x : Bool). cond x a b) (s ∙ ap (sameOf t) e)
 
 returns : tie.Need-returns
 returns c = by-name _ _ _ _ _ true (name-spells _ (c .before .before .kind-name .ensures)) (sym (c .if1 .taken) ∙ c .before .is-name .ensures)
