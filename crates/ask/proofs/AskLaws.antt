@@ -8,13 +8,12 @@ use native.Mathlib.Omega.{arith}
 use lib.ListN.{length, take}
 use borrow.Author.Tests.{le-leb, lt-leb}
 use Rattle.tank.specs.declared.Tank.{Tank}
-use Rattle.tank.specs.Rules.{View, freshView}
+use Rattle.tank.specs.Rules.{View}
 use Rattle.tank.specs.State.{view}
 use Rattle.tanks.specs.declared.Tanks.{Tanks}
 use Rattle.tanks.specs.Contracts.{Taken}
 use Rattle.tanks.specs.House.{House, noTank, askNumber, tankAt}
-use Rattle.tanks.specs.Pool.{tankOf, meaning}
-use Rattle.tanks.proofs.MeaningLaws.{tank-at}
+use Rattle.tanks.specs.Pool.{meaning}
 use Rattle.lists.specs.declared.Listed.{Listed}
 use Rattle.lists.specs.declared.anchors.Anchor.{Anchor}
 use Rattle.runs.specs.Stretches.{inFront}
@@ -31,7 +30,7 @@ module _ {R : Type 0} (s : Tanks) (t : ℕ) (refused : R) (asks : View → R) wh
   pub inside : {r : R} (u : ℕ) {x : Tank} → t < 8 → u ≡ t → Taken s u x → r ≡ asks (view x) → r ≡ askAt (meaning s) t refused asks
   inside u {x} h e k a =
       rw (lt-leb 8 t h)
-      (a ∙ ap (λ (y : Tank). asks (view y)) (k .is ∙ ap (tankOf s) e) ∙ ap asks (sym (tank-at s t freshView h)))
+      (a ∙ ap asks (k .is ∙ ap (tankAt (meaning s)) e))
 
 -- ---- the part of a buffer that a list filled
 module _ (number : ℕ) (xs out : List ℕ) (r : Listed) (last : List ℕ) where

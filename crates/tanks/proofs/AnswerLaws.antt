@@ -1,5 +1,5 @@
 -- What stands beside the number: the tank's own answer where the call is done, the empty set or 0 where it is refused.
-use Prim.Native.Nat.{ℕ, _<_}
+use Prim.Native.Nat.{ℕ, _≤_, _<_}
 use mathlib.Core.Path.{_≡_, refl, sym, ap, _∙_}
 use mathlib.Core.List.{[]}
 use native.Mathlib.Omega.{arith}
@@ -8,15 +8,15 @@ use Rattle.styles.specs.declared.Identity.{Identity}
 use Rattle.styles.specs.Answers.{stylesOf}
 use Rattle.tank.specs.declared.Tank.{Tank}
 use Rattle.tank.specs.Rules.{freshView, Edit, annotating, inserting, deleting, removing, refusal, insertedSet, removedFirst}
-use Rattle.tank.specs.State.{view}
+use Rattle.tank.specs.State.{view, Sound}
 use Rattle.tanks.specs.declared.Done.{Done}
 use Rattle.tanks.specs.declared.Performed.{Performed}
 use Rattle.tanks.specs.declared.Tanks.{Tanks}
 use Rattle.tanks.specs.House.{tankAt, refusalAt, insertedSetAt, removedFirstAt}
 use Rattle.tanks.specs.Pool.{tankOf, meaning}
 use Rattle.tanks.specs.Contracts.{CalledAt, Taken, setBeside, firstBeside, PerformedAs, DoneAt}
-use Rattle.tanks.proofs.SettingLaws.{first-zero}
-use Rattle.tanks.proofs.MeaningLaws.{tank-at}
+use Rattle.tanks.proofs.SettingLaws.{first-zero, TakenOut}
+use Rattle.tanks.proofs.MeaningLaws.{tank-at, tank-past}
 use Rattle.tanks.proofs.CallLaws.{refusal-in}
 
 module _ (s : Tanks) (t : ℕ) where
@@ -24,10 +24,17 @@ module _ (s : Tanks) (t : ℕ) where
   own-zero e h z = first-zero (refusal e (tankAt (meaning s) t)) _ (sym (refusal-in (meaning s) t e h) ∙ z)
 
   -- what a tank taken out means
-  pub own-view : (x : Tank) (u : ℕ) → t < 8 → u ≡ t → Taken s u x → view x ≡ tankAt (meaning s) t
+  pub own-view : (x : Tank) (u : ℕ) → t < 8 → u ≡ t → TakenOut s u x → view x ≡ tankAt (meaning s) t
   own-view x u h same taken = ap view (taken .is ∙ ap (tankOf s) same) ∙ sym (tank-at s t freshView h)
 
-  set-done : (pos len : ℕ) (x : Tank) (u : ℕ) → t < 8 → u ≡ t → Taken s u x → refusalAt (meaning s) t (inserting pos len) ≡ 0
+  pub taken-in : {x : Tank} → t < 8 → TakenOut s t x → Taken s t x
+  taken-in {x} h out = record { is = own-view x t h refl out; sound = out .sound }
+
+  -- a fresh tank where there is none
+  pub taken-past : {x : Tank} → 8 ≤ t → (Sound x) × (view x ≡ freshView) → Taken s t x
+  taken-past h new = record { is = new .1 ∙ sym (tank-past s t freshView h); sound = new .0 }
+
+  set-done : (pos len : ℕ) (x : Tank) (u : ℕ) → t < 8 → u ≡ t → TakenOut s u x → refusalAt (meaning s) t (inserting pos len) ≡ 0
       → insertedSet pos len (view x) ≡ insertedSetAt (meaning s) t pos len
   unfolding insertedSetAt
   set-done pos len x u h same taken z = rw (own-view x u h same taken, z, own-zero (inserting pos len) h z)
@@ -36,7 +43,7 @@ module _ (s : Tanks) (t : ℕ) where
   unfolding insertedSetAt
   set-refused pos len h = rw (ne-eqb (refusalAt (meaning s) t (inserting pos len)) 0 (λ z. omega arith))
 
-  first-done : (id : Identity) (last : ℕ) (x : Tank) (u : ℕ) → t < 8 → u ≡ t → Taken s u x → refusalAt (meaning s) t (removing id last) ≡ 0
+  first-done : (id : Identity) (last : ℕ) (x : Tank) (u : ℕ) → t < 8 → u ≡ t → TakenOut s u x → refusalAt (meaning s) t (removing id last) ≡ 0
       → removedFirst id last (view x) ≡ removedFirstAt (meaning s) t id last
   unfolding removedFirstAt
   first-done id last x u h same taken z = rw (own-view x u h same taken, z, own-zero (removing id last) h z)
@@ -46,13 +53,13 @@ module _ (s : Tanks) (t : ℕ) where
   first-refused id last h = rw (ne-eqb (refusalAt (meaning s) t (removing id last)) 0 (λ z. omega arith))
 
   -- the same for every edit
-  set-beside : (e : Edit) (x : Tank) (u : ℕ) → t < 8 → u ≡ t → Taken s u x → refusalAt (meaning s) t e ≡ 0 → setBeside (λ pos len. insertedSet pos len (view x)) e ≡ setBeside (insertedSetAt (meaning s) t) e
+  set-beside : (e : Edit) (x : Tank) (u : ℕ) → t < 8 → u ≡ t → TakenOut s u x → refusalAt (meaning s) t e ≡ 0 → setBeside (λ pos len. insertedSet pos len (view x)) e ≡ setBeside (insertedSetAt (meaning s) t) e
   set-beside (annotating a b m) x u h same taken z = refl
   set-beside (inserting pos len) x u h same taken z = set-done pos len x u h same taken z
   set-beside (deleting a b) x u h same taken z = refl
   set-beside (removing id last) x u h same taken z = refl
 
-  first-beside : (e : Edit) (x : Tank) (u : ℕ) → t < 8 → u ≡ t → Taken s u x → refusalAt (meaning s) t e ≡ 0 → firstBeside (λ id last. removedFirst id last (view x)) e ≡ firstBeside (removedFirstAt (meaning s) t) e
+  first-beside : (e : Edit) (x : Tank) (u : ℕ) → t < 8 → u ≡ t → TakenOut s u x → refusalAt (meaning s) t e ≡ 0 → firstBeside (λ id last. removedFirst id last (view x)) e ≡ firstBeside (removedFirstAt (meaning s) t) e
   first-beside (annotating a b m) x u h same taken z = refl
   first-beside (inserting pos len) x u h same taken z = refl
   first-beside (deleting a b) x u h same taken z = refl
@@ -81,7 +88,7 @@ module _ (s : Tanks) (t : ℕ) where
       }
 
   -- an edit that is done: the answer is the tank's own
-  pub done-by : (e : Edit) (x : Tank) (u : ℕ) (p : Performed) (next : Tanks) → t < 8 → u ≡ t → Taken s u x → PerformedAs e x p → CalledAt s t e 0 next
+  pub done-by : (e : Edit) (x : Tank) (u : ℕ) (p : Performed) (next : Tanks) → t < 8 → u ≡ t → TakenOut s u x → PerformedAs e x p → CalledAt s t e 0 next
       → DoneAt s t e (record { number = 0; styles = p .styles; first = p .first; tanks = next })
   done-by e x u p next h same taken performed called =
       let z = sym (called .number-is) in

@@ -13,8 +13,8 @@ use Rattle.tanks.specs.declared.Tanks.{Tanks}
 use Rattle.tanks.specs.Settings.{judgement}
 use Rattle.tanks.specs.House.{House, tankAt, held, first, refusalAt, withTank, afterAt}
 use Rattle.tanks.specs.Pool.{runsIn, tankOf, meaning, Sound}
-use Rattle.tanks.specs.Contracts.{CalledAt, Taken}
-use Rattle.tanks.proofs.SettingLaws.{first-zero}
+use Rattle.tanks.specs.Contracts.{CalledAt}
+use Rattle.tanks.proofs.SettingLaws.{first-zero, TakenOut}
 use Rattle.tanks.proofs.MeaningLaws.{tank-at, judged-is, Tail}
 
 -- where the test holds the two agree, so they agree under it
@@ -85,7 +85,7 @@ module _ (s : Tanks) (t : ℕ) (e : Edit) (number : ℕ) (x : Tank) (v : ℕ) (n
 
 -- the tank taken out, its own call, the tail
 pub called-by : (s : Tanks) (tank t : ℕ) (e : Edit) (x : Tank) (number : ℕ) (y : Tank) (v : ℕ) (next : Tanks) → Sound s → tank < 8 → t ≡ tank
-    → Taken s t x → Called e x number y → Tail s t number y v next → CalledAt s tank e v next
+    → TakenOut s t x → Called e x number y → Tail s t number y v next → CalledAt s tank e v next
 called-by s tank t e x number y v next ok h same taken called tail =
     called-at s tank e number y v next ok h
     (subst (λ z. Called e z number y) (taken .is ∙ ap (tankOf s) same) called)

@@ -7,7 +7,7 @@ use mathlib.Core.List.{List}
 use native.Mathlib.Omega.{arith}
 use lib.Dec.{eqb}
 use borrow.Author.Tests.{eqb-true, eqb-false, eq-eqb, ne-eqb}
-use lib.ListN.{length, getD, set, length-set}
+use lib.ListN.{length, getD, set, length-set, List·getD-eq-default}
 use lib.Seq.{getD-set-same, getD-set-other, ext-getD}
 use Rattle.tank.specs.declared.Tank.{Tank}
 use Rattle.tank.specs.Rules.{View, freshView, runsHeld}
@@ -46,6 +46,10 @@ tank-at s (suc (suc (suc (suc (suc (suc (suc (suc u)))))))) d h = absurd (omega 
 pub tanks-length : (s : Tanks) → length (meaning s .tanks) ≡ 8
 unfolding meaning
 tanks-length s = refl
+
+-- and none behind them
+pub tank-past : (s : Tanks) (u : ℕ) (d : View) → 8 ≤ u → getD (meaning s .tanks) u d ≡ d
+tank-past s u d h = List·getD-eq-default (meaning s .tanks) d (omega (arith, tanks-length s))
 
 -- eight views, tank by tank
 pub views-are : (s : Tanks) (vs : List View) → length vs ≡ 8 → ((u : ℕ) → u < 8 → view (tankOf s u) ≡ getD vs u freshView) → meaning s .tanks ≡ vs

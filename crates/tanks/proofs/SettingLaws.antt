@@ -16,7 +16,8 @@ use Rattle.tanks.specs.House.{first}
 use Rattle.tanks.specs.Pool.{tankIn, runsIn, runsBelow, tankOf, Sound}
 use Rattle.tanks.specs.Settings.{noSetting, shareOf, limitOf, keepsRule, allKeepRule, shares, accepted, claims, heldAfter, judgement}
 use Rattle.tank.specs.declared.Tank.{Tank}
-use Rattle.tanks.specs.Contracts.{Taken, Judged, Small}
+use Rattle.tank.specs.State as state
+use Rattle.tanks.specs.Contracts.{Judged, Small}
 use Rattle.tanks.proofs.LaidLaws.{below-next}
 
 pub both : (a b : Bool) → a && b ≡ true → (a ≡ true) × (b ≡ true)
@@ -118,6 +119,11 @@ judged-small st hs t n h j l = record {
   more = omega (arith, accepted-at st (j .rule) t h);
 }
 
+-- tank t taken out, by its representation
+pub record TakenOut (s : Tanks) (t : ℕ) (x : Tank) : Type 0 where
+  pub is : x ≡ tankOf s t
+  pub sound : state.Sound x
+
 module _ (s : Tanks) (ok : Sound s) where
   pub sound-held : runsBelow (s .heads) 8 ≤ 512
   sound-held = omega (arith, ok .sum, below-claims (s .settings) (s .heads) 8)
@@ -129,7 +135,7 @@ module _ (s : Tanks) (ok : Sound s) where
   unfolding tankOf tankIn
   few t h = omega (arith, sound-place t h)
 
-  pub taken : (t : ℕ) (x : Tank) → t < 8 → x ≡ tankOf s t → Taken s t x
+  pub taken : (t : ℕ) (x : Tank) → t < 8 → x ≡ tankOf s t → TakenOut s t x
   taken t x h e = record { is = e; sound = rw e (record { formed = ok .each t h; within = few t h }) }
 
   pub sound-judged : Judged (s .settings) (s .heads)

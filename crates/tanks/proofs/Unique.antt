@@ -23,7 +23,7 @@ use Rattle.tanks.specs.declared.Removed.{Removed}
 use Rattle.tanks.specs.declared.Done.{Done}
 use Rattle.tanks.specs.House.{House, insertedSetAt, removedFirstAt}
 use Rattle.tanks.specs.Pool.{noHead, noRun, noTable, runsIn, runsBelow, tankIn, tankOf, meaning, Sound}
-use Rattle.tanks.specs.Contracts.{Opens, CalledAt, DoneAt}
+use Rattle.tanks.specs.Contracts.{Opens, CalledAt, DoneAt, Taken}
 use Rattle.tanks.proofs.LaidLaws.{laid-front}
 use Rattle.tanks.proofs.SettingLaws.{sound-place}
 use Rattle.tanks.proofs.MeaningLaws.{tank-at}
@@ -150,6 +150,10 @@ one-done s t e r r′ p q =
     let f = p .styles-are ∙ sym (q .styles-are) in
     let g = p .first-is ∙ sym (q .first-is) in
     λ i. record { number = one-number (p .called) (q .called) i; styles = f i; first = g i; tanks = one-next (p .called) (q .called) i }
+
+-- a tank taken out
+pub one-taken : (s : Tanks) (t : ℕ) (x x′ : Tank) → Taken s t x → Taken s t x′ → x ≡ x′
+one-taken s t x x′ p q = same-tank (p .sound .formed) (q .sound .formed) (p .is ∙ sym (q .is))
 
 -- a refused call hands back the very same state
 pub refused-same : (s : Tanks) (t : ℕ) (e : Edit) (n : ℕ) (x : Tanks) → Sound s → CalledAt s t e n x → 0 < n → x ≡ s

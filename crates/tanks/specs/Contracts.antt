@@ -20,8 +20,8 @@ use Rattle.tanks.specs.declared.Done.{Done}
 use Rattle.tanks.specs.declared.Count.{Count}
 use Rattle.tanks.specs.declared.YesNo.{YesNo}
 use Rattle.tanks.specs.Settings.{accepted, shareOf, limitOf}
-use Rattle.tanks.specs.House.{openNumber, opening, refusalAt, afterAt, insertedSetAt, removedFirstAt, Call}
-use Rattle.tanks.specs.Pool.{runsIn, tankOf, meaning, Sound}
+use Rattle.tanks.specs.House.{tankAt, openNumber, opening, refusalAt, afterAt, insertedSetAt, removedFirstAt, Call}
+use Rattle.tanks.specs.Pool.{runsIn, meaning, Sound}
 
 -- ---- Public functions
 -- what opening hands back
@@ -76,9 +76,9 @@ pub record DoneAt (s : Tanks) (t : ℕ) (e : Edit) (r : Done) : Type 0 where
   pub styles-are : r .styles ≡ stylesOf (setBeside (insertedSetAt (meaning s) t) e)
   pub first-is : r .first ≡ firstBeside (removedFirstAt (meaning s) t) e
 
--- a tank taken out
+-- a tank taken out: it means what the house's tank t does, and is a fresh one where there is none
 pub record Taken (s : Tanks) (t : ℕ) (x : Tank) : Type 0 where
-  pub is : x ≡ tankOf s t
+  pub is : state.view x ≡ tankAt (meaning s) t
   pub sound : state.Sound x
 
 -- ---- Inner functions

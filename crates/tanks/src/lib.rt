@@ -4,7 +4,6 @@ mod pool; // pool.rt: the tanks' runs and marks in one state
 
 ghost use mathlib.Core.Path.{_≡_};
 ghost use mathlib.Core.List.{[]};
-ghost use Prim.Native.Nat.{_<_};
 ghost use Rattle.styles.specs.Answers.{stylesOf};
 ghost use Rattle.tank.specs.State as state;
 ghost use Rattle.tank.specs.Rules.{annotating, deleting, inserting, removing};
@@ -232,13 +231,15 @@ fn refused(number: u64, tanks: Tanks) -> Done
 }
 
 impl Tanks {
-    // Tank t on its own.
+    // Tank t on its own; where there is no such tank, a fresh one.
     pub fn take(self, t: usize) -> Tank
-        requires { ⌜ t < 8 ⌝ }
         requires { ⌜ Sound self ⌝ }
         ensures { λ r. ⌜ Taken self t r ⌝ }
     {
-        taken(self.heads, self.pool, self.tables[t], t)
+        if t < 8 {
+            return taken(self.heads, self.pool, self.tables[t], t);
+        }
+        Tank::fresh()
     }
 
     // One edit of one tank: it is taken out, edited by its own rules, judged, and put back. The runs of the tanks behind it move, from the

@@ -14,7 +14,7 @@ returns c =
     let a = s .args in
     let t = c .before .before .before .before .before .before .before .before .before .before .before in
     let known = s .pre .0 in
-    let same = c .before .before .before .before .before .before .before .before .before .before .first-anchor .ensures .1 ∙ taken-anchors (a .s) (a .tank) _ _ (known .1) (t .before .narrow .ensures) (t .take .ensures) in
+    let same = c .before .before .before .before .before .before .before .before .before .before .first-anchor .ensures .1 ∙ taken-anchors (a .s) (a .tank) _ _ (t .before .narrow .ensures) (t .take .ensures) in
     and-then
     (adds-as (ap (field (bytes "anchors=")) (c .before .before .before .before .before .before .before .wide .ensures ∙ known .2)) (c .before .before .before .before .before .before .say .ensures))
     (adds-as (ap anchorsSay (take-whole (a .count) _ _ same (known .2))) (c .before .before .put-anchors .ensures))

@@ -7,8 +7,8 @@ use Rattle.tanks.specs.Settings.{judgement}
 use Rattle.tanks.specs.House.{first}
 use Rattle.tanks.specs.Pool.{runsIn, laid, tankOf}
 use Rattle.tanks.proofs.Put.{runFrom}
-use Rattle.tanks.specs.Contracts.{Taken, editOf}
-use Rattle.tanks.proofs.SettingLaws.{sound-held, sound-judged, taken}
+use Rattle.tanks.specs.Contracts.{editOf}
+use Rattle.tanks.proofs.SettingLaws.{sound-held, sound-judged, TakenOut, taken}
 use Rattle.tanks.proofs.MeaningLaws.{tail-refused, tail-done}
 use Rattle.tanks.proofs.CallLaws.{called-by, called-past}
 use Rattle.tanks.proofs.AnswerLaws.{done-refused, done-by}
@@ -43,7 +43,7 @@ tank-8 : (c : tie.After-narrow Inv-loop μ-loop) → c .narrow .result < 8
 tank-8 c = omega (arith, c .narrow .ensures, c .before .if1 .left)
 
 -- it is taken out
-own : (c : tie.After-taken Inv-loop μ-loop) → Taken (c .before .before .before .before .before .before .args .t1) (c .before .before .before .before .narrow .result) (c .taken .result)
+own : (c : tie.After-taken Inv-loop μ-loop) → TakenOut (c .before .before .before .before .before .before .args .t1) (c .before .before .before .before .narrow .result) (c .taken .result)
 unfolding tankOf
 own c = taken (c .before .before .before .before .before .before .args .t1) (c .before .before .before .before .before .before .pre) (c .before .before .before .before .narrow .result) _ (tank-8 (c .before .before .before .before)) (c .taken .ensures)
 

@@ -1,7 +1,8 @@
--- `Tanks::take` meets its contract: what is taken out is tank t, and every tank of a sound state is sound.
+-- `Tanks::take` meets its contract: what is taken out is tank t, and every tank of a sound state is sound; a fresh tank where there is none.
 use borrow.Author.Needs.{needs}
 use Rattle.tanks.specs.Pool.{tankOf}
 use Rattle.tanks.proofs.SettingLaws.{sound-held, taken}
+use Rattle.tanks.proofs.AnswerLaws.{taken-in, taken-past}
 use Rattle.tanks.proofs.Tanks.take.Statement.{statement}
 use Rattle.tanks.proofs.Tanks.take.Tie as tie
 use Rattle.tanks.proofs.Tanks.take.Reads as reads
@@ -15,11 +16,23 @@ element-copy-out-taken : tie.Need-element-copy-out-taken
 element-copy-out-taken c = search needs
 
 taken-requires : tie.Need-taken-requires
-taken-requires c κs = let a = c .before .before .before in (a .pre .0, sound-held (a .args .t1) (a .pre .1))
+taken-requires c κs =
+    let e = c .before .before .before in
+    let a = e .before in
+    (e .if1 .taken, sound-held (a .args .t1) (a .pre))
 
 returns : tie.Need-returns
 unfolding tankOf
-returns c = let a = c .before .before .before .before in taken (a .args .t1) (a .pre .1) (a .args .t) _ (a .pre .0) (c .taken .ensures)
+returns c =
+    let e = c .before .before .before .before in
+    let a = e .before in
+    taken-in (a .args .t1) (a .args .t) (e .if1 .taken) (taken (a .args .t1) (a .pre) (a .args .t) _ (e .if1 .taken) (c .taken .ensures))
+
+returns-2 : tie.Need-returns-2
+returns-2 c =
+    let e = c .before in
+    let a = e .before in
+    taken-past (a .args .t1) (a .args .t) (e .if1 .left) (c .fresh .ensures)
 
 pub take-spec : {M : Type 1} → statement M
-take-spec = tie.close (tie.spec mul-taken element-copy-out-taken taken-requires returns)
+take-spec = tie.close (tie.spec mul-taken element-copy-out-taken taken-requires returns (λ c κs. search needs) returns-2)
