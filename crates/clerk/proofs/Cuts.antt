@@ -10,7 +10,7 @@ use Rattle.script.specs.declared.Call.{Call}
 use Rattle.script.specs.declared.Ending.{Ending}
 use Rattle.script.specs.declared.Event.{Event}
 use Rattle.script.specs.Lines.{State, afterOf, bringsOf, readOf, endingOf}
-use Rattle.answers.specs.Waiting.{Pieces, withAll, joined}
+use Rattle.answers.specs.Waiting.{Pieces, Waiting, withAll, joined}
 use Rattle.answers.proofs.Laws.{with-append}
 use Rattle.clerk.specs.Course.{Course, onEvent, afterLine, afterByte, afterBytes, endedAs, atEnd, afterRead, written, afterReads}
 use Rattle.clerk.specs.Course.{Whereabouts, whereOf, saidOn, saidLine, saidByte, saidBytes, saidEnding, saidAtEnd, saidRead, saidReads, NoneEmpty}
