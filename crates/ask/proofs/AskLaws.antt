@@ -32,6 +32,10 @@ module _ {R : Type 0} (s : Tanks) (t : ℕ) (refused : R) (asks : View → R) wh
       rw (lt-leb 8 t h)
       (a ∙ ap asks (k .is ∙ ap (tankAt (meaning s)) e))
 
+-- a count with its number
+pub listed : (r : Listed) (a b : ℕ) → r .number ≡ a → r .count ≡ b → r ≡ record { number = a; count = b }
+listed r a b e g = λ i. record { number = e i; count = g i }
+
 -- ---- the part of a buffer that a list filled
 module _ (number : ℕ) (xs out : List ℕ) (r : Listed) (last : List ℕ) where
   part-by : (b : Bool) → r ≡ cond b noList (filledBeside number xs) → last ≡ cond b out (inFront (unlessRefused number xs) out) → take (r .count) last ≡ cond b [] (unlessRefused number xs)

@@ -1,11 +1,9 @@
 -- `anchors_needed` meets its contract: no such tank, or the tank taken out answers for the one that it is.
 use borrow.Author.Needs.{needs}
-use Prim.Native.Nat.{ℕ}
-use mathlib.Core.Path.{_≡_, _∙_}
-use Rattle.lists.specs.declared.Listed.{Listed}
+use mathlib.Core.Path.{_∙_}
 use Rattle.lists.specs.Anchors.{anchorsNeeded}
 use Rattle.ask.specs.Asks.{noList}
-use Rattle.ask.proofs.AskLaws.{past, inside}
+use Rattle.ask.proofs.AskLaws.{past, inside, listed}
 use Rattle.ask.proofs.anchors_needed.Statement.{statement}
 use Rattle.ask.proofs.anchors_needed.Tie as tie
 use Rattle.ask.proofs.anchors_needed.Reads as reads
@@ -15,9 +13,6 @@ returns : tie.Need-returns
 returns c =
     let s = c .before .before in
     past (s .args .s) (s .args .tank) noList anchorsNeeded (c .before .if1 .taken) (c .no-list .ensures)
-
-listed : (r : Listed) (a b : ℕ) → r .number ≡ a → r .count ≡ b → r ≡ record { number = a; count = b }
-listed r a b e g = λ i. record { number = e i; count = g i }
 
 returns-2 : tie.Need-returns-2
 returns-2 c =
