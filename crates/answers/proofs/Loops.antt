@@ -9,7 +9,7 @@ use Rattle.styles.specs.declared.Mark.{Mark}
 use Rattle.styles.specs.Marks.{blank}
 use Rattle.script.specs.Bytes.{bytes}
 use Rattle.script.specs.Writing.{markText}
-use Rattle.answers.specs.Replies.{field, stretchesSay}
+use Rattle.answers.specs.Replies.{lineSays, stretchesSay}
 
 -- one mark more
 pub marks-more : (ms : List Mark) (n : ℕ) → n < length ms → map markText (take n ms) ++ (markText (getD ms n blank) ∷ []) ≡ map markText (take (n + 1) ms)
@@ -19,7 +19,7 @@ marks-more ms n h =
 
 -- ---- three numbers to a stretch
 module _ (list : List ℕ) (i : ℕ) where
-  pub stretch-more : 3 ≤ length list - i → stretchesSay (drop i list) ≡ field (bytes "from=") (getD list i 0) ++ field (bytes "to=") (getD list (i + 1) 0) ++ field (bytes "marks=") (getD list (i + 2) 0) ++ stretchesSay (drop (i + 3) list)
+  pub stretch-more : 3 ≤ length list - i → stretchesSay (drop i list) ≡ lineSays (bytes "from=") (getD list i 0) ++ lineSays (bytes "to=") (getD list (i + 1) 0) ++ lineSays (bytes "marks=") (getD list (i + 2) 0) ++ stretchesSay (drop (i + 3) list)
   unfolding stretchesSay
   stretch-more h = ap stretchesSay taken
     where

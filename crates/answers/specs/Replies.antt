@@ -20,13 +20,13 @@ use Rattle.script.specs.Writing.{lineText, fieldText, valueText, markText}
 use Rattle.answers.specs.Waiting.{Pieces}
 
 -- one line of a name and a number
-abbrev pub field : List ℕ → ℕ → Pieces
-field name n = fieldText name n ∷ []
+abbrev pub lineSays : List ℕ → ℕ → Pieces
+lineSays name n = fieldText name n ∷ []
 
 -- ---- What answers share
 -- a refusal
 abbrev pub refusedSays : ℕ → Pieces
-refusedSays = field (bytes "refused=")
+refusedSays = lineSays (bytes "refused=")
 
 -- what an answer says, or a refusal
 abbrev pub orRefused : ℕ → Pieces → Pieces
@@ -34,7 +34,7 @@ orRefused number says = cond (eqb number 0) says (refusedSays number)
 
 -- none of what was asked for
 abbrev pub noneSays : Pieces
-noneSays = field (bytes "none=") 1
+noneSays = lineSays (bytes "none=") 1
 
 -- a set: its count and its marks in order; there are no more than 64
 abbrev pub stylesSay : Styles → Pieces
@@ -43,28 +43,28 @@ stylesSay m = fieldText (bytes "marks=") (m .count) ∷ map markText (take (min 
 -- ---- Edits
 -- accepted, or the refusal
 abbrev pub acceptedSays : ℕ → Pieces
-acceptedSays number = orRefused number (field (bytes "accepted=") 1)
+acceptedSays number = orRefused number (lineSays (bytes "accepted=") 1)
 
 -- the first position of a removal, or the refusal
 abbrev pub firstSays : ℕ → ℕ → Pieces
-firstSays number first = orRefused number (field (bytes "first=") first)
+firstSays number first = orRefused number (lineSays (bytes "first=") first)
 
 -- ---- Questions
 -- a count under its name
 abbrev pub countSays : List ℕ → Count → Pieces
 countSays name (Count.Refused n) = refusedSays n
-countSays name (Count.Counts n) = field name n
+countSays name (Count.Counts n) = lineSays name n
 
 -- whether a tank is touched
 abbrev pub touchedSays : YesNo → Pieces
 touchedSays (YesNo.Refused n) = refusedSays n
-touchedSays (YesNo.Says b) = field (bytes "touched=") (cond b 1 0)
+touchedSays (YesNo.Says b) = lineSays (bytes "touched=") (cond b 1 0)
 
 -- yes or no
 abbrev pub toldSays : Told → Pieces
 toldSays (Told.Refused n) = refusedSays n
-toldSays Told.No = field (bytes "yes=") 0
-toldSays Told.Yes = field (bytes "yes=") 1
+toldSays Told.No = lineSays (bytes "yes=") 0
+toldSays Told.Yes = lineSays (bytes "yes=") 1
 
 -- a value
 abbrev pub shownSays : Shown → Pieces
@@ -89,7 +89,7 @@ sharedSays a = orRefused (a .number) (cond (a .agree) (stylesSay (a .styles)) no
 -- ---- Lists
 -- how much a list takes
 abbrev pub neededSays : Listed → Pieces
-neededSays l = orRefused (l .number) (field (bytes "needed=") (l .count))
+neededSays l = orRefused (l .number) (lineSays (bytes "needed=") (l .count))
 
 -- three lines for each stretch: start, end, count of marks
 unfoldable pub stretchesSay : List ℕ → Pieces
@@ -109,7 +109,7 @@ sideSays AnchorType.End = lineText (bytes "side=") (bytes "end") ∷ []
 
 -- the five lines of an anchor
 abbrev pub anchorSays : Anchor → Pieces
-anchorSays a = field (bytes "at=") (a .at) ++ sideSays (a .side) ++ field (bytes "key=") (a .key) ++ field (bytes "lamport=") (a .lamport) ++ field (bytes "peer=") (a .peer)
+anchorSays a = lineSays (bytes "at=") (a .at) ++ sideSays (a .side) ++ lineSays (bytes "key=") (a .key) ++ lineSays (bytes "lamport=") (a .lamport) ++ lineSays (bytes "peer=") (a .peer)
 
 -- anchors one after another
 unfoldable pub anchorsSay : List Anchor → Pieces

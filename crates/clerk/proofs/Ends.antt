@@ -16,7 +16,7 @@ use Rattle.script.specs.Lines.{readerAt, stateOf, endingOf}
 use Rattle.answers.specs.Waiting.{Waiting, waiting, Adds}
 use Rattle.clerk.specs.declared.Eaten.{Eaten}
 use Rattle.clerk.specs.declared.Stand.{Stand}
-use Rattle.clerk.specs.Course.{Course, malformedSays, afterBytes, courseOf, Eats, endedAs, atEnd, Closes, Reads, afterRead, written, afterReads, Leads, going, mostReads, Runs, ones, RunsWhole}
+use Rattle.clerk.specs.Course.{Course, malformedSays, afterBytes, courseOf, Eats, endedAs, atEnd, Closes, Reads, afterRead, written, afterReads, Leads, going, mostReads, Runs, firstSettings, RunsWhole}
 use Rattle.clerk.proofs.Bytes.{standing}
 
 module _ {s : Tanks} {stand : Stand} (d : List ℕ) {r : Eaten} (out : List ℕ) {k : ℕ} (ok : Sound s)
@@ -106,7 +106,7 @@ runs-as {s} {t} {first} {reader} {d} {r} {n} out {over} ok stands l most =
     }
 
 -- from the very beginning
-pub runs-whole : {s : Tanks} {first : Reader} {d out : List ℕ} {r : Eaten} → meaning s ≡ opening ones → first ≡ readerAt (freshOf Op.Nothing) 0 → Runs s first d r out → RunsWhole r
+pub runs-whole : {s : Tanks} {first : Reader} {d out : List ℕ} {r : Eaten} → meaning s ≡ opening firstSettings → first ≡ readerAt (freshOf Op.Nothing) 0 → Runs s first d r out → RunsWhole r
 runs-whole {s} {first} {d} {out} {r} e f x =
     record {
       buffer = d;

@@ -23,7 +23,7 @@ use Rattle.script.specs.declared.Op.{Op}
 use Rattle.script.specs.Args.{numberAt, markOf, identityOf}
 use Rattle.script.specs.Bytes.{bytes}
 use Rattle.answers.specs.Waiting.{Pieces, Adds}
-use Rattle.answers.specs.Replies.{field, refusedSays, orRefused, acceptedSays, stylesSay, firstSays, countSays, touchedSays, toldSays, shownSays, askedSays, setSays, sharedSays, neededSays, listSays, anchorsSay}
+use Rattle.answers.specs.Replies.{lineSays, refusedSays, orRefused, acceptedSays, stylesSay, firstSays, countSays, touchedSays, toldSays, shownSays, askedSays, setSays, sharedSays, neededSays, listSays, anchorsSay}
 use Rattle.clerk.specs.declared.Done.{Done}
 
 -- ---- What a call speaks of, by the order of its op's fields
@@ -99,7 +99,7 @@ wholeSays h t room = askAt h t (refusedSays 1) (λ v. orRefused (wholeNumber roo
 
 -- the count of a tank's anchors, and all of them
 abbrev pub allAnchorsSay : View → Pieces
-allAnchorsSay v = field (bytes "anchors=") (length (anchors v)) ++ anchorsSay (anchors v)
+allAnchorsSay v = lineSays (bytes "anchors=") (length (anchors v)) ++ anchorsSay (anchors v)
 
 -- a row for each op
 unfoldable pub saysOf : Op → House → Call → Pieces

@@ -18,7 +18,7 @@ use Rattle.script.specs.Bytes.{bytes}
 use Rattle.script.specs.Reading.{freshOf}
 use Rattle.script.specs.Lines.{State, readerAt, stateOf, countedOf, afterOf, bringsOf, readOf, endingOf}
 use Rattle.answers.specs.Waiting.{Pieces, Waiting, waiting, withAll}
-use Rattle.answers.specs.Replies.{field}
+use Rattle.answers.specs.Replies.{lineSays}
 use Rattle.clerk.specs.declared.Eaten.{Eaten}
 use Rattle.clerk.specs.declared.Stand.{Stand}
 use Rattle.clerk.specs.Calls.{afterOp, saysOf}
@@ -32,7 +32,7 @@ pub record Course : Type 0 where
 
 -- the line that ends a run: the first that is bad, by its number
 abbrev pub malformedSays : State → Pieces
-malformedSays r = field (bytes "malformed=") (countedOf (r .newlines))
+malformedSays r = lineSays (bytes "malformed=") (countedOf (r .newlines))
 
 -- what a line's end brings: nothing yet, the end of the run, or a call, which is performed and answered
 unfoldable pub onEvent : Event → Course → State → Call → Course
@@ -119,12 +119,12 @@ pub record Runs (s : Tanks) (first : Reader) (buffer : List ℕ) (r : Eaten) (ou
 
 -- ---- A whole run
 -- before the first `open` each tank has share 1 and limit 1
-abbrev pub ones : List Setting
-ones = replicate 8 (record { share = 1; limit = 1 })
+abbrev pub firstSettings : List Setting
+firstSettings = replicate 8 (record { share = 1; limit = 1 })
 
 -- where a run begins: fresh tanks, at the start of a script, with nothing waiting
 abbrev pub beginning : List ℕ → Course
-beginning buffer = record { house = opening ones; reader = stateOf (readerAt (freshOf Op.Nothing) 0); waits = waiting buffer 0; over = false }
+beginning buffer = record { house = opening firstSettings; reader = stateOf (readerAt (freshOf Op.Nothing) 0); waits = waiting buffer 0; over = false }
 
 -- a run from its beginning to its end, in a buffer of its own
 pub record RunsWhole (r : Eaten) : Type 0 where

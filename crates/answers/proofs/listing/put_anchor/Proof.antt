@@ -2,7 +2,7 @@
 use borrow.Author.Needs.{needs}
 use mathlib.Core.Path.{ap}
 use Rattle.answers.proofs.Laws.{and-then, adds-as}
-use Rattle.answers.specs.Replies.{field, anchorSays}
+use Rattle.answers.specs.Replies.{lineSays, anchorSays}
 use Rattle.script.specs.Bytes.{bytes}
 use Rattle.answers.proofs.listing.put_anchor.Statement.{statement}
 use Rattle.answers.proofs.listing.put_anchor.Tie as tie
@@ -16,8 +16,8 @@ returns c =
     (and-then
     (and-then
     (and-then (c .before .before .before .before .before .before .before .before .before .before .before .before .before .before .before .before .before .before .before .before .before .before .before .say .ensures) (c .before .before .before .before .before .before .before .before .before .before .before .before .before .before .before .before .before .before .before .put-side .ensures))
-    (adds-as (ap (field (bytes "key=")) (b .before .wide16 .ensures)) (b .say2 .ensures)))
-    (adds-as (ap (field (bytes "lamport=")) (d .before .wide32 .ensures)) (d .say3 .ensures)))
+    (adds-as (ap (lineSays (bytes "key=")) (b .before .wide16 .ensures)) (b .say2 .ensures)))
+    (adds-as (ap (lineSays (bytes "lamport=")) (d .before .wide32 .ensures)) (d .say3 .ensures)))
     (e .say4 .ensures)
 
 pub put-anchor-spec : {M : Type 1} → statement M

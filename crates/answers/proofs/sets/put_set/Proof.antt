@@ -7,7 +7,7 @@ use mathlib.Core.Path.{_≡_, sym, ap, _∙_}
 use native.Mathlib.Omega.{arith}
 use Rattle.answers.proofs.Laws.{no-piece, and-then, adds-as}
 use Rattle.answers.proofs.Loops.{marks-more}
-use Rattle.answers.specs.Replies.{field}
+use Rattle.answers.specs.Replies.{lineSays}
 use Rattle.answers.specs.Waiting.{Adds}
 use Rattle.script.specs.Bytes.{bytes}
 use Rattle.script.specs.Writing.{markText}
@@ -28,7 +28,7 @@ returns c =
     let m = c .before .before .before .before .before .before .before .before .before .before .before .args .m in
     let w = c .before .before .loop in
     let all : w .i ≡ min (m .count) 64 = omega arith in
-    and-then (adds-as (ap (field (bytes "marks=")) (c .before .before .before .before .before .before .wide .ensures)) (c .before .before .before .before .before .say .ensures)) (adds-as (ap (λ (n : ℕ). map markText (take n (m .marks))) all) (w .inv .3))
+    and-then (adds-as (ap (lineSays (bytes "marks=")) (c .before .before .before .before .before .before .wide .ensures)) (c .before .before .before .before .before .say .ensures)) (adds-as (ap (λ (n : ℕ). map markText (take n (m .marks))) all) (w .inv .3))
 
 loop-again : tie.Need-loop-again Inv-loop μ-loop
 loop-again c =
@@ -42,7 +42,7 @@ returns-2 c =
     let m = c .before .before .before .before .before .before .before .before .before .before .args .m in
     let w = c .before .loop in
     let all : w .i ≡ min (m .count) 64 = omega arith in
-    and-then (adds-as (ap (field (bytes "marks=")) (c .before .before .before .before .before .wide .ensures)) (c .before .before .before .before .say .ensures)) (adds-as (ap (λ (n : ℕ). map markText (take n (m .marks))) all) (w .inv .3))
+    and-then (adds-as (ap (lineSays (bytes "marks=")) (c .before .before .before .before .before .wide .ensures)) (c .before .before .before .before .say .ensures)) (adds-as (ap (λ (n : ℕ). map markText (take n (m .marks))) all) (w .inv .3))
 
 pub put-set-spec : {M : Type 1} → statement M
 put-set-spec = tie.close (tie.spec Inv-loop μ-loop (λ c. search needs) (λ c κs. search needs) (λ c κs. search needs) loop-holds (λ c. search needs) returns (λ c. search needs) (λ c. search needs) (λ c κs. search needs) (λ c. search needs) (λ c. search needs) loop-again (λ c. search needs) returns-2)

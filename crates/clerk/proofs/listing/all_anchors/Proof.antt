@@ -2,7 +2,7 @@
 use borrow.Author.Needs.{needs}
 use mathlib.Core.Path.{ap, _∙_}
 use Rattle.answers.proofs.Laws.{and-then, adds-as}
-use Rattle.answers.specs.Replies.{field, anchorsSay}
+use Rattle.answers.specs.Replies.{lineSays, anchorsSay}
 use Rattle.clerk.proofs.Lists.{taken-anchors, take-whole}
 use Rattle.script.specs.Bytes.{bytes}
 use Rattle.clerk.proofs.listing.all_anchors.Statement.{statement}
@@ -16,7 +16,7 @@ returns c =
     let known = s .pre .0 in
     let same = c .before .before .before .before .before .before .before .before .before .before .first-anchor .ensures .1 ∙ taken-anchors (a .s) (a .tank) _ _ (t .before .narrow .ensures) (t .take .ensures) in
     and-then
-    (adds-as (ap (field (bytes "anchors=")) (c .before .before .before .before .before .before .before .wide .ensures ∙ known .2)) (c .before .before .before .before .before .before .say .ensures))
+    (adds-as (ap (lineSays (bytes "anchors=")) (c .before .before .before .before .before .before .before .wide .ensures ∙ known .2)) (c .before .before .before .before .before .before .say .ensures))
     (adds-as (ap anchorsSay (take-whole (a .count) _ _ same (known .2))) (c .before .before .put-anchors .ensures))
 
 pub all-anchors-spec : {M : Type 1} → statement M
