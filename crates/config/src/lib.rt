@@ -157,7 +157,7 @@ impl StyleConfigMap {
 
     // The seven names that rich text starts with, and no default.
     pub fn default_rich_text_config() -> StyleConfigMap
-        ensures { λ r. ⌜ Means (builtIn 7) r ⌝ }
+        ensures { λ r. ⌜ Means builtIn r ⌝ }
     {
         let map = StyleConfigMap::new();
         let map = map.with(b"bold", ExpandType::After);

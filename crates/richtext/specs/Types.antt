@@ -2,7 +2,7 @@
 use mathlib.Core.Bool.{Bool, true, false, cond}
 use mathlib.Core.List.{List, [], _∷_}
 use Prim.Native.Nat.{ℕ}
-use Rattle.richtext.specs.Bytes.{same}
+use Rattle.richtext.specs.Bytes.{bytes, same}
 use Rattle.richtext.specs.declared.ExpandType.{ExpandType}
 use Rattle.richtext.specs.declared.ExpandType.the-variants.{Before, After, Both, None}
 use Rattle.richtext.specs.declared.NamedType.{NamedType}
@@ -29,12 +29,12 @@ reversed After = After
 reversed Both = None
 reversed None = Both
 
--- the word for each type, letter by letter: before, after, both, none
+-- the word for each type
 abbrev pub word : ExpandType → List ℕ
-word Before = 98 ∷ 101 ∷ 102 ∷ 111 ∷ 114 ∷ 101 ∷ []
-word After = 97 ∷ 102 ∷ 116 ∷ 101 ∷ 114 ∷ []
-word Both = 98 ∷ 111 ∷ 116 ∷ 104 ∷ []
-word None = 110 ∷ 111 ∷ 110 ∷ 101 ∷ []
+word Before = bytes "before"
+word After = bytes "after"
+word Both = bytes "both"
+word None = bytes "none"
 
 -- exactly these four, whole; anything else, of any length, names none of the types
 abbrev pub named : List ℕ → NamedType

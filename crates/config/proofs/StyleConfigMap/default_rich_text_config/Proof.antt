@@ -1,11 +1,14 @@
 -- `StyleConfigMap::default_rich_text_config` meets its contract: after the n-th insertion the table is the first n names. Assumes nothing.
 use mathlib.Core.Path.{_≡_, ap, _∙_}
+use mathlib.Core.Option.{none}
+use Prim.Native.Nat.{ℕ}
+use lib.ListN.{take}
 use borrow.Author.Needs.{needs}
-use Rattle.richtext.specs.Bytes.{same}
+use Rattle.richtext.specs.Bytes.{bytes, same}
 use Rattle.richtext.specs.declared.ExpandType.the-variants.{After, None}
 use Rattle.config.specs.Names.{holdsColon}
-use Rattle.config.specs.Table.{known, entered, withEntry}
-use Rattle.config.specs.BuiltIn.{growing, boldName, italicName, underlineName, linkName, highlightName, commentName, codeName, builtIn}
+use Rattle.config.specs.Table.{Table, known, entered, withEntry}
+use Rattle.config.specs.BuiltIn.{growing, builtIns}
 use Rattle.config.specs.Meaning.{configured}
 use Rattle.config.proofs.StyleConfigMap.default_rich_text_config.Statement.{statement}
 use Rattle.config.proofs.StyleConfigMap.default_rich_text_config.Tie as tie
@@ -55,34 +58,38 @@ slice-aggregate-with-7 c = search needs
 with-requires-7 : tie.Need-with-requires-7
 with-requires-7 c κs = search needs
 
+-- the first n names, with no default
+abbrev firstOf : ℕ → Table
+firstOf n = record { entries = take n builtIns; default = none }
+
 -- the names come one after the other
-after-1 : (c : tie.After-with) → configured (c .with .result) ≡ builtIn 1
+after-1 : (c : tie.After-with) → configured (c .with .result) ≡ firstOf 1
 unfolding holdsColon known entered same
-after-1 c = c .with .ensures .means ∙ ap (withEntry boldName (growing boldName After .style)) (c .before .before .new .ensures .means)
+after-1 c = c .with .ensures .means ∙ ap (withEntry (bytes "bold") (growing "bold" After .style)) (c .before .before .new .ensures .means)
 
-after-2 : (c : tie.After-with2) → configured (c .with2 .result) ≡ builtIn 2
+after-2 : (c : tie.After-with2) → configured (c .with2 .result) ≡ firstOf 2
 unfolding holdsColon known entered same
-after-2 c = c .with2 .ensures .means ∙ ap (withEntry italicName (growing italicName After .style)) (after-1 (c .before .before))
+after-2 c = c .with2 .ensures .means ∙ ap (withEntry (bytes "italic") (growing "italic" After .style)) (after-1 (c .before .before))
 
-after-3 : (c : tie.After-with3) → configured (c .with3 .result) ≡ builtIn 3
+after-3 : (c : tie.After-with3) → configured (c .with3 .result) ≡ firstOf 3
 unfolding holdsColon known entered same
-after-3 c = c .with3 .ensures .means ∙ ap (withEntry underlineName (growing underlineName After .style)) (after-2 (c .before .before))
+after-3 c = c .with3 .ensures .means ∙ ap (withEntry (bytes "underline") (growing "underline" After .style)) (after-2 (c .before .before))
 
-after-4 : (c : tie.After-with4) → configured (c .with4 .result) ≡ builtIn 4
+after-4 : (c : tie.After-with4) → configured (c .with4 .result) ≡ firstOf 4
 unfolding holdsColon known entered same
-after-4 c = c .with4 .ensures .means ∙ ap (withEntry linkName (growing linkName None .style)) (after-3 (c .before .before))
+after-4 c = c .with4 .ensures .means ∙ ap (withEntry (bytes "link") (growing "link" None .style)) (after-3 (c .before .before))
 
-after-5 : (c : tie.After-with5) → configured (c .with5 .result) ≡ builtIn 5
+after-5 : (c : tie.After-with5) → configured (c .with5 .result) ≡ firstOf 5
 unfolding holdsColon known entered same
-after-5 c = c .with5 .ensures .means ∙ ap (withEntry highlightName (growing highlightName None .style)) (after-4 (c .before .before))
+after-5 c = c .with5 .ensures .means ∙ ap (withEntry (bytes "highlight") (growing "highlight" None .style)) (after-4 (c .before .before))
 
-after-6 : (c : tie.After-with6) → configured (c .with6 .result) ≡ builtIn 6
+after-6 : (c : tie.After-with6) → configured (c .with6 .result) ≡ firstOf 6
 unfolding holdsColon known entered same
-after-6 c = c .with6 .ensures .means ∙ ap (withEntry commentName (growing commentName None .style)) (after-5 (c .before .before))
+after-6 c = c .with6 .ensures .means ∙ ap (withEntry (bytes "comment") (growing "comment" None .style)) (after-5 (c .before .before))
 
-after-7 : (c : tie.After-with7) → configured (c .with7 .result) ≡ builtIn 7
+after-7 : (c : tie.After-with7) → configured (c .with7 .result) ≡ firstOf 7
 unfolding holdsColon known entered same
-after-7 c = c .with7 .ensures .means ∙ ap (withEntry codeName (growing codeName None .style)) (after-6 (c .before .before))
+after-7 c = c .with7 .ensures .means ∙ ap (withEntry (bytes "code") (growing "code" None .style)) (after-6 (c .before .before))
 
 returns : tie.Need-returns
 returns c = record { sound = c .with7 .ensures .sound; means = after-7 c }
