@@ -13,7 +13,7 @@ use Rattle.styles.proofs.UnionLaws.{pick-none}
 use Rattle.runs.specs.Runs.{Run, total, setAt}
 use Rattle.runs.proofs.Laws.{at-in, at-last, at-past}
 use Rattle.tank.specs.Rules.{within}
-use Rattle.tank.proofs.ViewLaws.{range-in, range-before, range-past}
+use Rattle.tank.proofs.ViewLaws.{cond-same, range-in, range-before, range-past}
 use Rattle.ask.specs.Examples.{Range, on, marksAt}
 
 -- ---- the ranges of runs over a table, without those that carry nothing
@@ -63,13 +63,9 @@ one-range : (ms : List Mark) (start len set p : ℕ) → marksAt (rangeOf ms sta
 unfolding rangeOf marksAt
 one-range ms start len set p = go (eqb set 0) refl
   where
-    same : {A : Type 0} {x : A} (b : Bool) → cond b x x ≡ x
-    same true = refl
-    same false = refl
-
     go : (b : Bool) → eqb set 0 ≡ b → marksAt (cond b [] (on start (start + len) (pick ms set) ∷ [])) p ≡ cond (within start (start + len) p) (pick ms set) []
     go true e =
-        sym (ap (λ x. cond (within start (start + len) p) x []) (ap (pick ms) (eqb-true set 0 e) ∙ pick-none ms) ∙ same (within start (start + len) p))
+        sym (ap (λ x. cond (within start (start + len) p) x []) (ap (pick ms) (eqb-true set 0 e) ∙ pick-none ms) ∙ cond-same (within start (start + len) p))
     go false e = refl
 
 -- ---- runs and their ranges carry the same marks

@@ -9,8 +9,32 @@ use borrow.Author.Tests.{ltb-false, eqb-true}
 use Rattle.styles.specs.declared.Identity.{Identity}
 use Rattle.styles.specs.Marks.{removeMark}
 use Rattle.tank.specs.Rules.{View, within, freshLength, freshView, Edit, annotating, inserting, deleting, removing, afterAnnotate, afterInsert, afterDelete, afterRemove, stripped, after, empty, over, long, notNumber, clashes, full, refusal}
-use Rattle.tank.specs.Sequences.{OwnCall, accepted, afterOne, afterCalls, gained, lost, sumOf, annotates, First, touchedBy}
-use Rattle.tank.proofs.ViewLaws.{view-ext}
+use Rattle.tank.specs.Lengths.{gained, lost, annotates}
+use Rattle.tank.proofs.ViewLaws.{view-ext, cond-same}
+
+-- ---- calls on one tank in a row, refused ones among them
+-- a call on this tank: an edit, and whether it is granted where many tanks share the runs (refusals 9 and 10 are not this tank's own)
+pub record OwnCall : Type 0 where
+  pub edit : Edit
+  pub granted : Bool
+
+-- granted, and none of refusals 3 to 8
+abbrev pub acceptedBy : OwnCall → View → Bool
+acceptedBy c v = c .granted && eqb (refusal (c .edit) v) 0
+
+-- the tank after a call: a refused one leaves it as it was
+abbrev pub afterOne : OwnCall → View → View
+afterOne c v = cond (acceptedBy c v) (after (c .edit) v) v
+
+-- the tank after calls in a row
+unfoldable pub afterCalls : List OwnCall → View → View
+afterCalls [] v = v
+afterCalls (c ∷ cs) v = afterCalls cs (afterOne c v)
+
+-- the sum over the accepted calls
+unfoldable pub sumOf : (Edit → ℕ) → List OwnCall → View → ℕ
+sumOf f [] v = 0
+sumOf f (c ∷ cs) v = cond (acceptedBy c v) (f (c .edit)) 0 + sumOf f cs (afterOne c v)
 
 no-path : {A : Type 0} → false ≡ true → A
 no-path e = absurd (subst T (sym e) tt)
@@ -26,7 +50,7 @@ accepted-fits e v = go (empty e) (over e v) (cond (long e v) 5 (cond (notNumber 
     go false false n h = (refl, refl)
 
 module _ (Q : Bool → Type 0) (c : OwnCall) (v : View) (refused : Q false) (made : over (c .edit) v ≡ false → Q true) where
-  call-by : Q (accepted c v)
+  call-by : Q (acceptedBy c v)
   call-by = go (c .granted) (eqb (refusal (c .edit) v) 0) (λ h. made (accepted-fits (c .edit) v (eqb-true (refusal (c .edit) v) 0 h) .1))
     where
       go : (a b : Bool) → (b ≡ true → Q true) → Q (a && b)
@@ -47,7 +71,7 @@ edit-grows (deleting a b) v t o = let h = ltb-false (v .length) b o in simp t (r
 edit-grows (removing id last) v t o = record { touched = t; length = refl }
 
 call-grows : (c : OwnCall) (v : View) → v .touched ≡ true
-    → Grows (cond (accepted c v) (gained (c .edit)) 0) (cond (accepted c v) (lost (c .edit)) 0) v (afterOne c v)
+    → Grows (cond (acceptedBy c v) (gained (c .edit)) 0) (cond (acceptedBy c v) (lost (c .edit)) 0) v (afterOne c v)
 call-grows c v t =
     call-by (λ b. Grows (cond b (gained (c .edit)) 0) (cond b (lost (c .edit)) 0) v (cond b (after (c .edit) v) v)) c v
     (record { touched = t; length = refl }) (edit-grows (c .edit) v t)
@@ -70,15 +94,11 @@ length-law (c ∷ cs) v t =
 -- ---- a fresh tank: an accepted annotate touches it, and every other call leaves it as it is
 strip-fresh : (id : Identity) (a b : ℕ) → stripped id a b freshView ≡ freshView
 unfolding stripped freshView removeMark
-strip-fresh id a b = view-ext _ _ refl refl (λ p. same (within a b p))
-  where
-    same : {A : Type 0} {x : A} (b : Bool) → cond b x x ≡ x
-    same true = refl
-    same false = refl
+strip-fresh id a b = view-ext _ _ refl refl (λ p. cond-same (within a b p))
 
 data OnFresh (c : OwnCall) : Type 0 where
   idle : afterOne c freshView ≡ freshView → OnFresh c
-  first : accepted c freshView ≡ true → annotates (c .edit) ≡ true → OnFresh c
+  first : acceptedBy c freshView ≡ true → annotates (c .edit) ≡ true → OnFresh c
 
 edit-fresh : (e : Edit) → annotates e ≡ false → after e freshView ≡ freshView
 unfolding annotates after afterInsert afterDelete afterRemove freshView
@@ -88,9 +108,9 @@ edit-fresh (deleting a b) h = refl
 edit-fresh (removing id last) h = strip-fresh id _ _
 
 on-fresh : (c : OwnCall) → OnFresh c
-on-fresh c = go (accepted c freshView) (annotates (c .edit)) refl refl
+on-fresh c = go (acceptedBy c freshView) (annotates (c .edit)) refl refl
   where
-    go : (a b : Bool) → accepted c freshView ≡ a → annotates (c .edit) ≡ b → OnFresh c
+    go : (a b : Bool) → acceptedBy c freshView ≡ a → annotates (c .edit) ≡ b → OnFresh c
     go true true g h = first g h
     go true false g h = idle (simp g (edit-fresh (c .edit) h))
     go false b g h = idle (simp g)
@@ -106,7 +126,7 @@ edit-touches (inserting pos len) h = no-path h
 edit-touches (deleting a b) h = no-path h
 edit-touches (removing id last) h = no-path h
 
-call-touches : (c : OwnCall) → accepted c freshView ≡ true → annotates (c .edit) ≡ true → Touches (afterOne c freshView)
+call-touches : (c : OwnCall) → acceptedBy c freshView ≡ true → annotates (c .edit) ≡ true → Touches (afterOne c freshView)
 call-touches c g h = simp g (edit-touches (c .edit) h)
 
 -- a fresh tank that calls leave untouched is still the fresh one
@@ -120,25 +140,19 @@ untouched-fresh (c ∷ cs) t =
     ]
 
 -- ---- the first accepted annotate of a fresh tank, among calls in a row
--- where a tank is touched there is one
-pub has-first : (cs : List OwnCall) → (afterCalls cs freshView) .touched ≡ true → First cs
-unfolding afterCalls freshView
-has-first [] t = no-path t
-has-first (c ∷ cs) t =
-    elim (on-fresh c) [
-      | idle e ↦
-          let f = has-first cs (sym (ap (λ v. (afterCalls cs v) .touched) e) ∙ t) in
-          record {
-            before = c ∷ f .before;
-            call = f .call;
-            later = f .later;
-            split = ap (λ xs. c ∷ xs) (f .split);
-            untouched = ap (λ v. (afterCalls (f .before) v) .touched) e ∙ f .untouched;
-            annotate = f .annotate;
-            made = ap (λ v. accepted (f .call) (afterCalls (f .before) v)) e ∙ f .made;
-          }
-      | first g h ↦ record { before = []; call = c; later = cs; split = refl; untouched = refl; annotate = h; made = g }
-    ]
+-- the calls before it, which leave the tank untouched, itself, and those after it
+pub record First (cs : List OwnCall) : Type 0 where
+  pub before : List OwnCall
+  pub call : OwnCall
+  pub later : List OwnCall
+  pub split : cs ≡ before ++ (call ∷ later)
+  pub untouched : (afterCalls before freshView) .touched ≡ false
+  pub annotate : annotates (call .edit) ≡ true
+  pub made : acceptedBy call (afterCalls before freshView) ≡ true
+
+-- the tank right after it
+abbrev pub touchedBy : {cs : List OwnCall} → First cs → View
+touchedBy f = afterOne (f .call) (afterCalls (f .before) freshView)
 
 calls-append : (xs ys : List OwnCall) (v : View) → afterCalls (xs ++ ys) v ≡ afterCalls ys (afterCalls xs v)
 unfolding afterCalls
@@ -150,7 +164,7 @@ module _ {cs : List OwnCall} (f : First cs) where
   now-touched : Touches (touchedBy f)
   now-touched =
       let e = untouched-fresh (f .before) (f .untouched) in
-      rw e (call-touches (f .call) (sym (ap (accepted (f .call)) e) ∙ f .made) (f .annotate))
+      rw e (call-touches (f .call) (sym (ap (acceptedBy (f .call)) e) ∙ f .made) (f .annotate))
 
   later-calls : afterCalls cs freshView ≡ afterCalls (f .later) (touchedBy f)
   unfolding afterCalls

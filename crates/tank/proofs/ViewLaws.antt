@@ -33,6 +33,11 @@ use Rattle.tank.specs.State.{viewOf}
 pub view-ext : (u v : View) → u .length ≡ v .length → u .touched ≡ v .touched → ((p : ℕ) → u .at p ≡ v .at p) → u ≡ v
 view-ext u v l t h = λ i. record { length = l i; touched = t i; at = fun-ext h i }
 
+-- two cases that are one
+pub cond-same : {A : Type 0} {x : A} (b : Bool) → cond b x x ≡ x
+cond-same true = refl
+cond-same false = refl
+
 -- a function of two cases
 cond-ap : {A B : Type 0} (f : A → B) (c : Bool) (x y : A) → f (cond c x y) ≡ cond c (f x) (f y)
 cond-ap f true x y = refl

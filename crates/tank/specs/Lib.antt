@@ -1,4 +1,4 @@
 pub mod Rules
-pub mod Sequences
+pub mod Lengths
 pub mod State
 pub mod Steps

@@ -9,8 +9,8 @@ use lib.Dec.{eqb}
 use borrow.Author.Tests.{eqb-true, eqb-false, eq-eqb}
 use lib.ListN.{length, length-set, getD-replicate}
 use Rattle.tank.specs.Rules.{View, freshLength, freshView, runsHeld, Edit, annotating, inserting, deleting, removing, afterInsert, afterDelete, afterRemove, stripped, after, refusal}
-use Rattle.tank.specs.Sequences as own
-use Rattle.tank.proofs.Sequences as one
+use Rattle.tank.specs.Lengths.{gained, lost, annotates}
+use Rattle.tank.proofs.Sequences as own
 use Rattle.tanks.specs.declared.Setting.{Setting}
 use Rattle.tanks.specs.Settings.{accepted, judgement}
 use Rattle.tanks.specs.House.{House, tankAt, held, opening, first, refusalAt, withTank, afterAt, Call, afterAll, reached, sumOn, FirstOn, houseThen}
@@ -46,7 +46,7 @@ first-both n m = go (eqb n 0) (eqb m 0) refl refl
     go false false e f = simp (e, f)
 
 -- a call is accepted by the house exactly where it is granted and the tank's own rules accept it
-pub accepted-own : (h : House) (t : ℕ) (e : Edit) → t < 8 → eqb (refusalAt h t e) 0 ≡ own.accepted (ownCall h t e) (tankAt h t)
+pub accepted-own : (h : House) (t : ℕ) (e : Edit) → t < 8 → eqb (refusalAt h t e) 0 ≡ own.acceptedBy (ownCall h t e) (tankAt h t)
 accepted-own h t e t8 = ap (λ (n : ℕ). eqb n 0) (refusal-in h t e t8) ∙ first-both (refusal e (tankAt h t)) _
 
 -- no call changes how many tanks there are
@@ -127,7 +127,7 @@ sum-then f h t u e t8 eight xs = go (eqb u t) refl
     go true s =
         ap (λ (w : ℕ). cond (eqb (refusalAt h w e) 0) (f e) 0 + own.sumOf f xs (tankAt (afterAt h w e) t)) (eqb-true u t s)
         ∙ ap (λ (b : Bool). cond b (f e) 0 + own.sumOf f xs (tankAt (afterAt h t e) t)) (accepted-own h t e t8)
-        ∙ ap (λ (v : View). cond (own.accepted (ownCall h t e) (tankAt h t)) (f e) 0 + own.sumOf f xs v) (own-call h t e t8 eight)
+        ∙ ap (λ (v : View). cond (own.acceptedBy (ownCall h t e) (tankAt h t)) (f e) 0 + own.sumOf f xs v) (own-call h t e t8 eight)
     go false s = omega (arith, ap (own.sumOf f xs) (others-stay h u e t (λ z. eqb-false u t s (sym z))))
 
 -- the sum is that over the tank's own calls
@@ -143,8 +143,8 @@ own-sum f h (c ∷ cs) t t8 eight =
 
 -- ---- the first accepted annotate of tank t
 -- an edit that touches an untouched tank is an annotate
-touches-only : (e : Edit) (v : View) → v .touched ≡ false → after e v .touched ≡ true → own.annotates e ≡ true
-unfolding own.annotates after afterInsert afterDelete afterRemove stripped
+touches-only : (e : Edit) (v : View) → v .touched ≡ false → after e v .touched ≡ true → annotates e ≡ true
+unfolding annotates after afterInsert afterDelete afterRemove stripped
 touches-only (annotating a b m) v u t = refl
 touches-only (inserting pos len) v u t = absurd (false≢true (rw u at t))
 touches-only (deleting a b) v u t = absurd (false≢true (rw u at t))
@@ -153,7 +153,7 @@ touches-only (removing id last) v u t = absurd (false≢true (sym u ∙ t))
 -- what a call on tank u is that touches tank t: on that tank, an annotate, accepted
 record Touching (h : House) (t u : ℕ) (e : Edit) : Type 0 where
   tank : u ≡ t
-  annotate : own.annotates e ≡ true
+  annotate : annotates e ≡ true
   made : refusalAt h t e ≡ 0
 
 -- a call that touches tank t is such a one
@@ -240,7 +240,7 @@ module _ (st : List Setting) (l : length st ≡ 8) (ok : accepted st ≡ true) (
       let now : House = afterAll (opening st) before in
       ap (λ (x : House). tankAt x t .touched) (all-append (opening st) before later)
       ∙ ap (λ (v : View). v .touched) (own-calls now later t t8 (reached-kept st l ok before .eight))
-      ∙ one.touched-stays (callsOn t now later) (tankAt now t) h
+      ∙ own.touched-stays (callsOn t now later) (tankAt now t) h
 
   -- where it is touched there is a first accepted annotate
   pub house-has-first : (cs : List Call) → tankAt (reached st cs) t .touched ≡ true → FirstOn t (opening st) cs
@@ -270,7 +270,7 @@ module _ (st : List Setting) (l : length st ≡ 8) (ok : accepted st ≡ true) (
           ∙ rw (eq-eqb t t refl);
       untouched = ap (λ (v : View). v .touched) (sym then-tank) ∙ f .untouched;
       annotate = f .annotate;
-      made = ap (own.accepted (ownCall (afterAll (opening st) (f .before)) t (f .edit))) (sym then-tank)
+      made = ap (own.acceptedBy (ownCall (afterAll (opening st) (f .before)) t (f .edit))) (sym then-tank)
           ∙ sym (accepted-own (afterAll (opening st) (f .before)) t (f .edit) t8)
           ∙ eq-eqb (refusalAt (afterAll (opening st) (f .before)) t (f .edit)) 0 (f .made);
     }
@@ -289,14 +289,14 @@ module _ (st : List Setting) (l : length st ≡ 8) (ok : accepted st ≡ true) (
         ∙ ap (own.sumOf g (callsOn t (houseThen f) (f .later))) tank-then
 
     -- its length is T, plus all lengths inserted and less all lengths deleted by the accepted calls on it since then
-    pub house-since-first : tankAt (reached st cs) t .length + sumOn own.lost t (houseThen f) (f .later)
-        ≡ freshLength + sumOn own.gained t (houseThen f) (f .later)
+    pub house-since-first : tankAt (reached st cs) t .length + sumOn lost t (houseThen f) (f .later)
+        ≡ freshLength + sumOn gained t (houseThen f) (f .later)
     unfolding own-first
     house-since-first =
         omega (
           arith,
           ap (λ (v : View). v .length) (own-reached cs),
-          sum-since own.lost,
-          sum-since own.gained,
-          one.since-first own-first,
+          sum-since lost,
+          sum-since gained,
+          own.since-first own-first,
         )

@@ -14,7 +14,7 @@ use Rattle.styles.proofs.SetLaws.{sorted-insert, sorted-remove, sorted-common}
 use Rattle.tank.specs.declared.Tank.{Tank}
 use Rattle.tank.specs.Rules.{View, within, freshView, Edit, annotating, inserting, deleting, removing, afterAnnotate, inherited, afterInsert, forInsert, afterDelete, backFrom, stripped, afterRemove, after}
 use Rattle.tank.specs.State.{view, Laid, tableOf}
-use Rattle.tank.specs.Sequences as own
+use Rattle.tank.proofs.Sequences as own
 use Rattle.tanks.specs.declared.Setting.{Setting}
 use Rattle.tanks.specs.declared.Tanks.{Tanks}
 use Rattle.tanks.specs.Settings.{accepted}
@@ -84,7 +84,7 @@ calls-sorted : (cs : List own.OwnCall) (v : View) → InOrder v → InOrder (own
 unfolding own.afterCalls
 calls-sorted [] v h = h
 calls-sorted (c ∷ cs) v h =
-    calls-sorted cs (own.afterOne c v) (either-order (own.accepted c v) (after (c .edit) v) v (edit-sorted (c .edit) v h) h)
+    calls-sorted cs (own.afterOne c v) (either-order (own.acceptedBy c v) (after (c .edit) v) v (edit-sorted (c .edit) v h) h)
 
 -- a fresh tank has no marks
 fresh-sorted : InOrder freshView

@@ -8,7 +8,7 @@ use lib.ListN.{getD, set, replicate}
 use Rattle.styles.specs.declared.Identity.{Identity}
 use Rattle.styles.specs.declared.Mark.{Mark}
 use Rattle.tank.specs.Rules.{View, freshView, runsHeld, Edit, inserting, removing, after, refusal, forInsert, backFrom}
-use Rattle.tank.specs.Sequences.{annotates}
+use Rattle.tank.specs.Lengths.{annotates}
 use Rattle.tanks.specs.declared.Setting.{Setting}
 use Rattle.tanks.specs.Settings.{limitOf, accepted, claims, heldAfter, judgement}
 
