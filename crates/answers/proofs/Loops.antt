@@ -7,7 +7,7 @@ use lib.ListN.{length, getD, take, drop, length-drop}
 use lib.Seq.{drop-cons, take-suc}
 use Rattle.styles.specs.declared.Mark.{Mark}
 use Rattle.styles.specs.Marks.{blank}
-use Rattle.script.specs.Bytes.{bytes}
+use Rattle.text.specs.Bytes.{bytes}
 use Rattle.script.specs.Writing.{markText}
 use Rattle.answers.specs.Replies.{lineSays, stretchesSay}
 

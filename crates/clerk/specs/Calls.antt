@@ -21,7 +21,7 @@ use Rattle.ask.specs.Asks.{askAt, noList}
 use Rattle.script.specs.declared.Call.{Call}
 use Rattle.script.specs.declared.Op.{Op}
 use Rattle.script.specs.Args.{numberAt, markOf, identityOf}
-use Rattle.script.specs.Bytes.{bytes}
+use Rattle.text.specs.Bytes.{bytes}
 use Rattle.answers.specs.Waiting.{Pieces, Adds}
 use Rattle.answers.specs.Replies.{lineSays, refusedSays, orRefused, acceptedSays, stylesSay, firstSays, countSays, touchedSays, toldSays, shownSays, askedSays, setSays, sharedSays, neededSays, listSays, anchorsSay}
 use Rattle.clerk.specs.declared.Done.{Done}

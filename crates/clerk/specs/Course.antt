@@ -14,7 +14,7 @@ use Rattle.script.specs.declared.Ending.{Ending}
 use Rattle.script.specs.declared.Event.{Event}
 use Rattle.script.specs.declared.Op.{Op}
 use Rattle.script.specs.declared.Reader.{Reader}
-use Rattle.script.specs.Bytes.{bytes}
+use Rattle.text.specs.Bytes.{bytes}
 use Rattle.script.specs.Reading.{freshOf}
 use Rattle.script.specs.Lines.{State, readerAt, stateOf, countedOf, afterOf, bringsOf, readOf, endingOf}
 use Rattle.answers.specs.Waiting.{Pieces, Waiting, waiting, withAll}

@@ -10,7 +10,7 @@ use native.Mathlib.Omega.{arith}
 use lib.ListN.{length, getD, take, drop, set, replicate, length-map, length-set, List·getD-map, getD-replicate}
 use lib.Seq.{length-take-le, getD-take, getD-drop, getD-set-same, getD-set-other, take-set-lt, take-suc-set, drop-set-lt, drop-drop, ext-getD}
 use borrow.Author.Tests.{eq-eqb, ne-eqb}
-use Rattle.richtext.specs.Bytes.{same}
+use Rattle.text.specs.Bytes.{sameOf}
 use Rattle.config.specs.Names.{holdsColon}
 use Rattle.config.specs.Table.{Named, Table, find, place, entered, refuses, withEntry, styleFor}
 use Rattle.config.specs.Meaning.{blankEntry, noEntry, entryOf, nameIn, namedOf, styleIn, configured, entryAt, stored, Tidy, Sound, Means, Inserts}
@@ -32,10 +32,10 @@ configured-at m i h = List·getD-map namedOf (take (m .count) (m .entries)) i no
 
 module _ (m : StyleConfigMap) (s : Sound m) (k : List ℕ) (i : ℕ) where
   -- an entry of another name is passed, one of this name is the place, and past the count there is none
-  pub place-pass : i < m .count → same (nameIn (entryAt m i)) k ≡ false → place k (drop i (configured m .entries)) ≡ suc (place k (drop (suc i) (configured m .entries)))
+  pub place-pass : i < m .count → sameOf (nameIn (entryAt m i)) k ≡ false → place k (drop i (configured m .entries)) ≡ suc (place k (drop (suc i) (configured m .entries)))
   place-pass h e = place-step k (configured m .entries) i (namedOf noEntry) (rw (length-configured m s) h) (rw (configured-at m i h) e)
 
-  pub place-stop : i < m .count → same (nameIn (entryAt m i)) k ≡ true → place k (drop i (configured m .entries)) ≡ 0
+  pub place-stop : i < m .count → sameOf (nameIn (entryAt m i)) k ≡ true → place k (drop i (configured m .entries)) ≡ 0
   place-stop h e = place-here k (configured m .entries) i (namedOf noEntry) (rw (length-configured m s) h) (rw (configured-at m i h) e)
 
   pub place-over : m .count ≤ i → place k (drop i (configured m .entries)) ≡ 0

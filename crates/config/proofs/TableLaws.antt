@@ -8,8 +8,8 @@ use native.Mathlib.Omega.{arith}
 use lib.ListN.{length, getD, drop, set, drop-of-length-le}
 use lib.Seq.{drop-cons}
 use borrow.Author.Tests.{le-leb, lt-leb, lt-ltb, le-ltb}
-use Rattle.richtext.specs.Bytes.{same}
-use Rattle.richtext.proofs.Same.{same-true, same-flip}
+use Rattle.text.specs.Bytes.{sameOf}
+use Rattle.text.proofs.Prefix.{same-true, same-flip}
 use Rattle.config.specs.Names.{tooLong, holdsColon}
 use Rattle.config.specs.Table.{Named, Table, known, find, place, entered, once, refuses}
 use Rattle.config.specs.declared.StyleConfig.{StyleConfig}
@@ -17,13 +17,13 @@ use Rattle.config.specs.declared.StyleConfig.{StyleConfig}
 -- The place of a name
 
 -- an entry of another name is passed
-pub place-step : (k : List ℕ) (es : List Named) (i : ℕ) (d : Named) → i < length es → same (getD es i d .name) k ≡ false
+pub place-step : (k : List ℕ) (es : List Named) (i : ℕ) (d : Named) → i < length es → sameOf (getD es i d .name) k ≡ false
     → place k (drop i es) ≡ suc (place k (drop (suc i) es))
 unfolding place
 place-step k es i d h e = rw (drop-cons es i d, e)
 
 -- an entry of this name is where it stands
-pub place-here : (k : List ℕ) (es : List Named) (i : ℕ) (d : Named) → i < length es → same (getD es i d .name) k ≡ true → place k (drop i es) ≡ 0
+pub place-here : (k : List ℕ) (es : List Named) (i : ℕ) (d : Named) → i < length es → sameOf (getD es i d .name) k ≡ true → place k (drop i es) ≡ 0
 unfolding place
 place-here k es i d h e = rw (drop-cons es i d, e)
 
@@ -38,14 +38,14 @@ place-cases false P n f g = g refl
 -- what holds at no entries, at an entry of the name, and at an entry of another name if it holds of the rest, holds
 pub place-by : (k : List ℕ) (P : List Named → ℕ → Type 0)
     → P [] 0
-    → ((x : Named) (xs : List Named) → same (x .name) k ≡ true → P (x ∷ xs) 0)
-    → ((x : Named) (xs : List Named) → same (x .name) k ≡ false → P xs (place k xs) → P (x ∷ xs) (suc (place k xs)))
+    → ((x : Named) (xs : List Named) → sameOf (x .name) k ≡ true → P (x ∷ xs) 0)
+    → ((x : Named) (xs : List Named) → sameOf (x .name) k ≡ false → P xs (place k xs) → P (x ∷ xs) (suc (place k xs)))
     → (es : List Named) → P es (place k es)
 unfolding place
 place-by k P z f g [] = z
 place-by k P z f g (x ∷ xs) =
     let r : P xs (place k xs) = place-by k P z f g xs in
-    place-cases (same (x .name) k) (λ n. P (x ∷ xs) n) (place k xs) (λ e. f x xs e) (λ e. g x xs e r)
+    place-cases (sameOf (x .name) k) (λ n. P (x ∷ xs) n) (place k xs) (λ e. f x xs e) (λ e. g x xs e r)
 
 pub place-le : (k : List ℕ) (es : List Named) → place k es ≤ length es
 place-le k = place-by k (λ es n. n ≤ length es) (omega arith) (λ x xs e. omega arith) (λ x xs e r. omega arith)
@@ -85,7 +85,7 @@ entered-place k s =
 
 -- Each name once
 
-pub known-entered : (j k : List ℕ) (s : StyleConfig) → same k j ≡ false → (es : List Named) → known j (entered k s es) ≡ known j es
+pub known-entered : (j k : List ℕ) (s : StyleConfig) → sameOf k j ≡ false → (es : List Named) → known j (entered k s es) ≡ known j es
 unfolding known entered
 known-entered j k s n =
     place-by

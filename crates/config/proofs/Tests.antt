@@ -5,7 +5,7 @@ use mathlib.Core.List.{List, [], _∷_, _++_}
 use mathlib.Core.Option.{none, some, orElse}
 use Prim.Native.Nat.{ℕ}
 use lib.ListN.{replicate}
-use Rattle.richtext.specs.Bytes.{bytes, same}
+use Rattle.text.specs.Bytes.{bytes, startsOf, sameOf}
 use Rattle.richtext.specs.Flags.{flagOf}
 use Rattle.richtext.specs.declared.ExpandType.the-variants.{Before, After, Both, None}
 use Rattle.config.specs.Names.{holdsColon, cut}
@@ -31,25 +31,25 @@ cut-front = refl
 
 -- comment:17 is looked up as comment, with the flag's type reversed to unmark
 flag-17 : flagSays comment17 builtIn ≡ record { refusal = 0; value = some (flagOf 128) }
-unfolding comment17 cut find same orElse
+unfolding comment17 cut find startsOf sameOf orElse
 flag-17 = refl
 
 unmark-17 : unmarkSays comment17 builtIn ≡ record { refusal = 0; value = some (flagOf 134) }
-unfolding comment17 cut find same orElse
+unfolding comment17 cut find startsOf sameOf orElse
 unmark-17 = refl
 
 -- get takes it whole: no entry and no default, or the default
 get-17 : getSays comment17 builtIn ≡ record { refusal = 0; value = none }
-unfolding comment17 find same orElse
+unfolding comment17 find startsOf sameOf orElse
 get-17 = refl
 
 get-17-default : getSays comment17 (withDefault (some (record { expand = Before })) builtIn) ≡ record { refusal = 0; value = some (record { expand = Before }) }
-unfolding comment17 find same orElse
+unfolding comment17 find startsOf sameOf orElse
 get-17-default = refl
 
 -- 32 bytes are a name, 33 are refused, also where the cut would leave fewer
 get-32 : getSays (xs 32) builtIn ≡ record { refusal = 0; value = none }
-unfolding xs find same orElse
+unfolding xs find startsOf sameOf orElse
 get-32 = refl
 
 flag-33 : flagSays (bytes "comment:" ++ xs 25) builtIn ≡ record { refusal = 19; value = none }
@@ -61,19 +61,19 @@ boldAlone : Table
 boldAlone = record { entries = growing "bold" After ∷ []; default = none }
 
 replaced : withEntry (bytes "bold") (record { expand = Both }) boldAlone ≡ record { entries = growing "bold" Both ∷ []; default = none }
-unfolding boldAlone holdsColon known entered same
+unfolding boldAlone holdsColon known entered startsOf sameOf
 replaced = refl
 
 appended : withEntry (bytes "link") (record { expand = None }) boldAlone ≡ record { entries = growing "bold" After ∷ growing "link" None ∷ []; default = none }
-unfolding boldAlone holdsColon known entered same
+unfolding boldAlone holdsColon known entered startsOf sameOf
 appended = refl
 
 -- a name with a colon is refused
 colon : refuses comment17 builtIn ≡ true
-unfolding comment17 holdsColon known same
+unfolding comment17 holdsColon known startsOf sameOf
 colon = refl
 
 -- each of the built-in names stands once
 seven : once builtIns ≡ true
-unfolding once known same
+unfolding once known startsOf sameOf
 seven = refl

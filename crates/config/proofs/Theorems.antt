@@ -7,8 +7,8 @@ use mathlib.Core.Option.{some}
 use Prim.Native.Nat.{ℕ, suc, _≤_, _<_}
 use native.Mathlib.Omega.{arith}
 use lib.ListN.{length, getD}
-use Rattle.richtext.specs.Bytes.{same}
-use Rattle.richtext.proofs.Same.{same-refl, same-true}
+use Rattle.text.specs.Bytes.{sameOf}
+use Rattle.text.proofs.Prefix.{same-refl, same-true}
 use Rattle.config.specs.Names.{holdsColon}
 use Rattle.config.specs.Table.{Named, find, place, entered, refuses, styleFor}
 use Rattle.config.specs.Answers.{said, saidFlag, getSays, flagSays, unmarkSays}
@@ -78,7 +78,7 @@ find-entered-same k s =
     (λ x xs e. rw (e, same-refl k))
     (λ x xs e r. rw (e, e) r)
 
-pub find-entered-other : (j k : List ℕ) (s : StyleConfig) → same k j ≡ false → (es : List Named) → find j (entered k s es) ≡ find j es
+pub find-entered-other : (j k : List ℕ) (s : StyleConfig) → sameOf k j ≡ false → (es : List Named) → find j (entered k s es) ≡ find j es
 unfolding find entered
 find-entered-other j k s n =
     place-by

@@ -2,7 +2,7 @@
 use mathlib.Core.List.{List, [], _∷_}
 use mathlib.Core.Option.{none}
 use Prim.Native.String.{String}
-use Rattle.richtext.specs.Bytes.{bytes}
+use Rattle.text.specs.Bytes.{bytes}
 use Rattle.richtext.specs.declared.ExpandType.{ExpandType}
 use Rattle.richtext.specs.declared.ExpandType.the-variants.{After, None}
 use Rattle.config.specs.Table.{Named, Table}

@@ -6,7 +6,7 @@ use mathlib.Core.Option.{Option, none, some, orElse}
 use Prim.Native.Nat.{ℕ, suc}
 use lib.Dec.{leb}
 use lib.ListN.{length}
-use Rattle.richtext.specs.Bytes.{same}
+use Rattle.text.specs.Bytes.{sameOf}
 use Rattle.config.specs.Names.{tooLong, holdsColon}
 use Rattle.config.specs.declared.StyleConfig.{StyleConfig}
 
@@ -27,22 +27,22 @@ emptyTable = record { entries = []; default = none }
 -- a name among the entries
 unfoldable pub known : List ℕ → List Named → Bool
 known k [] = false
-known k (x ∷ xs) = cond (same (x .name) k) true (known k xs)
+known k (x ∷ xs) = cond (sameOf (x .name) k) true (known k xs)
 
 -- the style of a name among the entries
 unfoldable pub find : List ℕ → List Named → Option StyleConfig
 find k [] = none
-find k (x ∷ xs) = cond (same (x .name) k) (some (x .style)) (find k xs)
+find k (x ∷ xs) = cond (sameOf (x .name) k) (some (x .style)) (find k xs)
 
 -- how many entries stand before the name's: all of them where it is not known
 unfoldable pub place : List ℕ → List Named → ℕ
 place k [] = 0
-place k (x ∷ xs) = cond (same (x .name) k) 0 (suc (place k xs))
+place k (x ∷ xs) = cond (sameOf (x .name) k) 0 (suc (place k xs))
 
 -- a known name's style is replaced where it stands; a new name comes last
 unfoldable pub entered : List ℕ → StyleConfig → List Named → List Named
 entered k s [] = record { name = k; style = s } ∷ []
-entered k s (x ∷ xs) = cond (same (x .name) k) (record { name = k; style = s } ∷ xs) (x ∷ entered k s xs)
+entered k s (x ∷ xs) = cond (sameOf (x .name) k) (record { name = k; style = s } ∷ xs) (x ∷ entered k s xs)
 
 -- each name once
 unfoldable pub once : List Named → Bool

@@ -4,7 +4,7 @@ ghost use mathlib.Core.List.{_++_};
 ghost use mathlib.Core.Option.{none, some};
 ghost use Prim.Native.Nat.{_-_, _≤_, _<_};
 ghost use lib.ListN.{length};
-ghost use Rattle.richtext.specs.Bytes.{same};
+ghost use Rattle.text.specs.Bytes.{sameOf};
 ghost use Rattle.config.specs.Names.{cut, zeros};
 ghost use Rattle.config.specs.Table.{emptyTable, place, styleFor, withDefault, withEntry};
 ghost use Rattle.config.specs.BuiltIn.{builtIn};
@@ -129,11 +129,11 @@ impl Entry {
     // Whether this is the entry of the name.
     fn is_named(self, key: &[u8]) -> bool
         requires { ⌜ Tidy self ⌝ }
-        ensures { λ r. ⌜ r ≡ same (nameIn self) (now (key .entry)) ⌝ }
+        ensures { λ r. ⌜ r ≡ sameOf (nameIn self) (now (key .entry)) ⌝ }
     {
         let name = self.name;
         let len = self.len;
-        richtext::same_bytes(&name[..len], key)
+        text::same(&name[..len], key)
     }
 }
 

@@ -4,13 +4,13 @@ use mathlib.Core.Bool.{Bool, true, false, cond}
 use mathlib.Core.List.{List}
 use Prim.Native.Nat.{ℕ}
 use lib.Bits.{bitOr}
-use Rattle.richtext.specs.Bytes.{same}
+use Rattle.text.specs.Bytes.{startsOf, sameOf}
 use Rattle.richtext.specs.Types.{growsBefore, growsAfter, reversed, word, named}
 use Rattle.richtext.specs.Flags.{bit, expandsBefore, expandsAfter, typeOf, newByte, deletedByte}
 use Rattle.richtext.specs.declared.ExpandType.{ExpandType}
 use Rattle.richtext.specs.declared.ExpandType.the-variants.{Before, After, Both, None}
 use Rattle.richtext.specs.declared.NamedType.the-variants.{Is, NoneOfThese}
-use Rattle.richtext.proofs.Same.{same-true}
+use Rattle.text.proofs.Prefix.{same-true}
 
 -- reverse twice is the identity
 pub reversed-reversed : (t : ExpandType) → reversed (reversed t) ≡ t
@@ -23,7 +23,7 @@ reversed-reversed None = refl
 
 -- each type's word names it
 pub named-word : (t : ExpandType) → named (word t) ≡ Is t
-unfolding same
+unfolding startsOf sameOf
 named-word Before = refl
 named-word After = refl
 named-word Both = refl
@@ -43,10 +43,10 @@ named-by false false false false p q r u k = cc
 pub word-named : (s : List ℕ) (t : ExpandType) → named s ≡ Is t → s ≡ word t
 word-named s t =
     named-by
-    (same s (word Before))
-    (same s (word After))
-    (same s (word Both))
-    (same s (word None))
+    (sameOf s (word Before))
+    (sameOf s (word After))
+    (sameOf s (word Both))
+    (sameOf s (word None))
     (same-true s (word Before))
     (same-true s (word After))
     (same-true s (word Both))

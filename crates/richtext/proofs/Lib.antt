@@ -1,4 +1,3 @@
-pub mod Same
 pub mod Masks
 pub mod Laws
 pub mod Tests

@@ -2,7 +2,7 @@
 use mathlib.Core.Path.{_≡_, refl}
 use mathlib.Core.Bool.{true, false}
 use mathlib.Core.List.{[], _∷_}
-use Rattle.richtext.specs.Bytes.{same}
+use Rattle.text.specs.Bytes.{startsOf, sameOf}
 use Rattle.richtext.specs.Types.{named}
 use Rattle.richtext.specs.Flags.{typeOf, beforeAt, deletedByte}
 use Rattle.richtext.specs.declared.AnchorType.the-variants.{Start, End}
@@ -41,17 +41,17 @@ end-0x82 = refl
 
 -- no bytes, "Both", "bot" and "bothy" name none of the types
 named-empty : named [] ≡ NoneOfThese
-unfolding same
+unfolding startsOf sameOf
 named-empty = refl
 
 named-capital : named (66 ∷ 111 ∷ 116 ∷ 104 ∷ []) ≡ NoneOfThese
-unfolding same
+unfolding startsOf sameOf
 named-capital = refl
 
 named-short : named (98 ∷ 111 ∷ 116 ∷ []) ≡ NoneOfThese
-unfolding same
+unfolding startsOf sameOf
 named-short = refl
 
 named-long : named (98 ∷ 111 ∷ 116 ∷ 104 ∷ 121 ∷ []) ≡ NoneOfThese
-unfolding same
+unfolding startsOf sameOf
 named-long = refl

@@ -2,7 +2,7 @@
 use mathlib.Core.Bool.{Bool, true, false, cond}
 use mathlib.Core.List.{List, [], _∷_}
 use Prim.Native.Nat.{ℕ}
-use Rattle.richtext.specs.Bytes.{bytes, same}
+use Rattle.text.specs.Bytes.{bytes, sameOf}
 use Rattle.richtext.specs.declared.ExpandType.{ExpandType}
 use Rattle.richtext.specs.declared.ExpandType.the-variants.{Before, After, Both, None}
 use Rattle.richtext.specs.declared.NamedType.{NamedType}
@@ -39,7 +39,7 @@ word None = bytes "none"
 -- exactly these four, whole; anything else, of any length, names none of the types
 abbrev pub named : List ℕ → NamedType
 named s =
-    cond (same s (word Before)) (Is Before)
-    (cond (same s (word After)) (Is After)
-    (cond (same s (word Both)) (Is Both)
-    (cond (same s (word None)) (Is None) NoneOfThese)))
+    cond (sameOf s (word Before)) (Is Before)
+    (cond (sameOf s (word After)) (Is After)
+    (cond (sameOf s (word Both)) (Is Both)
+    (cond (sameOf s (word None)) (Is None) NoneOfThese)))

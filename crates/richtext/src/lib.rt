@@ -1,6 +1,5 @@
 // How a style grows when text is inserted beside it, and the flag byte that a style carries.
 ghost use mathlib.Core.Path.{_≡_};
-ghost use Rattle.richtext.specs.Bytes.{same};
 ghost use Rattle.richtext.specs.Flags.{expandsBefore, expandsAfter, typeOf, beforeAt, flagOf, newByte, deletedByte};
 ghost use Rattle.richtext.specs.Types.{growsBefore, growsAfter, reversed, named};
 
@@ -28,23 +27,6 @@ pub enum AnchorType {
 pub enum NamedType {
     Is(ExpandType),
     NoneOfThese,
-}
-
-// Whether two slices hold the same bytes.
-pub fn same_bytes(a: &[u8], b: &[u8]) -> bool
-    ensures { λ r. ⌜ r ≡ same (now (a .entry)) (now (b .entry)) ⌝ }
-{
-    if a.len() != b.len() {
-        return false;
-    }
-    let mut i = 0;
-    while i < a.len() {
-        if a[i] != b[i] {
-            return false;
-        }
-        i += 1;
-    }
-    true
 }
 
 impl ExpandType {
@@ -76,16 +58,16 @@ impl ExpandType {
     pub fn try_from_str(s: &[u8]) -> NamedType
         ensures { λ r. ⌜ r ≡ named (now (s .entry)) ⌝ }
     {
-        if same_bytes(s, b"before") {
+        if text::same(s, b"before") {
             return NamedType::Is(ExpandType::Before);
         }
-        if same_bytes(s, b"after") {
+        if text::same(s, b"after") {
             return NamedType::Is(ExpandType::After);
         }
-        if same_bytes(s, b"both") {
+        if text::same(s, b"both") {
             return NamedType::Is(ExpandType::Both);
         }
-        if same_bytes(s, b"none") {
+        if text::same(s, b"none") {
             return NamedType::Is(ExpandType::None);
         }
         NamedType::NoneOfThese

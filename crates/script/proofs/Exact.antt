@@ -14,10 +14,10 @@ use mir.Syntax.{w64}
 use mir.Val.{SFits}
 use Rattle.text.specs.declared.Parsed.{Parsed}
 use Rattle.text.specs.Number.{decimalOf, decimalText}
-use Rattle.text.specs.Starts.{startsOf, sameOf}
+use Rattle.text.specs.Bytes.{startsOf, sameOf}
 use Rattle.text.proofs.Laws.{decimal-back, decimal-only, hex-back}
 use Rattle.text.proofs.Integers.{integer-back}
-use Rattle.text.proofs.Prefix.{starts-split, split-starts, same-is}
+use Rattle.text.proofs.Prefix.{starts-split, split-starts, same-true}
 use Rattle.styles.specs.declared.Value.{Value}
 use Rattle.script.specs.declared.Field.{Field}
 use Rattle.script.specs.declared.Op.{Op}
@@ -59,7 +59,7 @@ number-back f most n h k =
 
 -- ---- an op's name
 by-name : (b : Bool) (t : List ℕ) (o op : Op) (rest : ReadOp) → sameOf t (opName o) ≡ b → cond b (ReadOp.Op o) rest ≡ ReadOp.Op op → (rest ≡ ReadOp.Op op → t ≡ opName op) → t ≡ opName op
-by-name true t o op rest h f later = let q : o ≡ op = cc in same-is t (opName o) h ∙ ap opName q
+by-name true t o op rest h f later = let q : o ≡ op = cc in same-true t (opName o) h ∙ ap opName q
 by-name false t o op rest h f later = later f
 
 among-only : (os : List Op) (t : List ℕ) (op : Op) → opAmong os t ReadOp.Bad ≡ ReadOp.Op op → t ≡ opName op

@@ -7,7 +7,7 @@ use native.Mathlib.Omega.{arith}
 use lib.ListN.{length, take, drop, replicate, length-drop, length-append}
 use lib.Seq.{take-all, take-append-seam}
 use Rattle.text.specs.Number.{put}
-use Rattle.text.specs.Starts.{startsOf}
+use Rattle.text.specs.Bytes.{startsOf}
 use Rattle.text.proofs.Prefix.{starts-length}
 use Rattle.script.specs.declared.Field.{Field}
 use Rattle.script.specs.declared.Name.{Name}

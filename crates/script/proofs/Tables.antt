@@ -7,7 +7,7 @@ use native.Mathlib.Omega.{arith}
 use lib.Dec.{leb}
 use lib.ListN.{length, drop}
 use borrow.Author.Tests.{leb-true}
-use Rattle.text.specs.Starts.{sameOf}
+use Rattle.text.specs.Bytes.{sameOf}
 use Rattle.script.specs.declared.Op.{Op}
 use Rattle.script.specs.declared.Field.{Field}
 use Rattle.script.specs.declared.Kind.{Kind}

@@ -5,7 +5,7 @@ use lib.ListN.{replicate}
 use Rattle.text.specs.declared.Parsed.{Parsed}
 use Rattle.text.specs.Number.{decimalOf, numberFrom}
 use Rattle.text.specs.Signed.{signedOf, minusOf}
-use Rattle.text.specs.Starts.{startsOf, sameOf}
+use Rattle.text.specs.Bytes.{bytes, startsOf, sameOf}
 use Rattle.styles.specs.declared.Value.{Value}
 use Rattle.script.specs.declared.Field.{Field}
 use Rattle.script.specs.declared.Kind.{Kind}
@@ -13,7 +13,6 @@ use Rattle.script.specs.declared.Op.{Op}
 use Rattle.script.specs.declared.Progress.{Progress}
 use Rattle.script.specs.declared.ReadOp.{ReadOp}
 use Rattle.script.specs.declared.ReadValue.{ReadValue}
-use Rattle.script.specs.Bytes.{bytes}
 use Rattle.script.specs.Grammar.{opName, spelling}
 use Rattle.script.specs.Reading.{numberOf, opNamed, valueOf, freshOf, movedOf, heldLine, lineOf}
 use Rattle.script.specs.Lines.{lineFront, hasEnd, emptyLine, grownLine, State, afterOf, lineAfter, callAfter}

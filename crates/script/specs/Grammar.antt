@@ -9,7 +9,7 @@ use Rattle.script.specs.declared.Field.the-variants.{Done, OpName, Tank,
 use Rattle.script.specs.declared.Holds.{Holds}
 use Rattle.script.specs.declared.Kind.{Kind}
 use Rattle.script.specs.declared.Name.{Name}
-use Rattle.script.specs.Bytes.{bytes}
+use Rattle.text.specs.Bytes.{bytes}
 
 -- the ops that a script can name
 abbrev pub ops : List Op

@@ -1,4 +1,3 @@
-pub mod Bytes
 pub mod Grammar
 pub mod Reading
 pub mod Lines

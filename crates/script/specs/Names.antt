@@ -6,7 +6,7 @@ use lib.ListN.{length, drop}
 use Rattle.script.specs.declared.Op.{Op}
 use Rattle.script.specs.declared.Field.{Field}
 use Rattle.script.specs.declared.Field.the-variants.{Done, OpName, Tank, Start, End, At, Len, Key, Lamport, Peer, Last, Flags, Value, Rank, Room}
-use Rattle.script.specs.Bytes.{bytes}
+use Rattle.text.specs.Bytes.{bytes}
 use Rattle.script.specs.Grammar.{ops, opName, fieldsOf, nameOf}
 use Rattle.script.specs.Lines.{lineFront}
 

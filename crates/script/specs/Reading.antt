@@ -9,7 +9,7 @@ use Rattle.text.specs.declared.Parsed.{Parsed}
 use Rattle.text.specs.declared.Signed.{Signed}
 use Rattle.text.specs.Number.{decimalOf, hexOf}
 use Rattle.text.specs.Signed.{signedOf}
-use Rattle.text.specs.Starts.{startsOf, sameOf}
+use Rattle.text.specs.Bytes.{bytes, startsOf, sameOf}
 use Rattle.styles.specs.declared.Value.{Value}
 use Rattle.script.specs.declared.Call.{Call}
 use Rattle.script.specs.declared.Field.{Field}
@@ -22,7 +22,6 @@ use Rattle.script.specs.declared.ReadKind.{ReadKind}
 use Rattle.script.specs.declared.ReadOp.{ReadOp}
 use Rattle.script.specs.declared.ReadValue.{ReadValue}
 use Rattle.script.specs.declared.Start.{Start}
-use Rattle.script.specs.Bytes.{bytes}
 use Rattle.script.specs.Grammar.{ops, opName, kindName, nameOf, fieldAt, holdsOf, progressOf}
 
 -- where the value starts in a field's line

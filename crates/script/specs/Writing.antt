@@ -11,7 +11,7 @@ use Rattle.text.specs.Signed.{signedText}
 use Rattle.styles.specs.declared.Mark.{Mark}
 use Rattle.styles.specs.declared.Value.{Value}
 use Rattle.script.specs.declared.Kind.{Kind}
-use Rattle.script.specs.Bytes.{bytes}
+use Rattle.text.specs.Bytes.{bytes}
 use Rattle.script.specs.Grammar.{kindName}
 
 -- a text of at most so many bytes stands in the buffer from a place on, and r is the place behind it

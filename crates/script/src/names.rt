@@ -5,7 +5,7 @@
 ghost use mathlib.Core.Path.{_≡_};
 ghost use Prim.Native.Nat.{_≤_};
 ghost use lib.ListN.{length, drop};
-ghost use Rattle.text.specs.Starts.{startsOf, sameOf};
+ghost use Rattle.text.specs.Bytes.{startsOf, sameOf};
 ghost use Rattle.script.specs.Grammar.{spelledOf, spelling, opName, nameOf, kindName};
 ghost use Rattle.script.specs.Lines.{lineFront};
 ghost use Rattle.script.specs.Names.{opNames, fieldNames, NameAt};

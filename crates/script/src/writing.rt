@@ -3,7 +3,7 @@ ghost use mathlib.Core.Path.{_≡_};
 ghost use Prim.Native.Nat.{_+_, _≤_, min};
 ghost use lib.ListN.{length};
 ghost use Rattle.script.specs.Writing.{Puts, freeAt, lineText, fieldText, kindOf, valueWord, valueText, markText};
-ghost use Rattle.script.specs.Bytes.{bytes};
+ghost use Rattle.text.specs.Bytes.{bytes};
 ghost use Rattle.script.specs.Grammar.{kindName, spelledOf};
 use super::Kind;
 use super::Name;

@@ -9,7 +9,7 @@ use lib.Dec.{eqb}
 use lib.ListN.{length, take, drop, getD, length-take, take-append-drop}
 use lib.Seq.{drop-cons, drop-length, take-all, take-append-seam}
 use borrow.Author.Tests.{eq-eqb, ne-eqb, eqb-true}
-use Rattle.text.specs.Starts.{startsOf, sameOf}
+use Rattle.text.specs.Bytes.{startsOf, sameOf}
 
 module _ (s p : List ℕ) (i : ℕ) (whole : Bool) (inv : startsOf (drop i s) (drop i p) ≡ whole) (h : i < length p) where
   pub too-short : length s ≤ i → i ≤ length s → false ≡ whole
@@ -32,6 +32,11 @@ all-there s p i whole inv l k =
     let e : length p ≡ i = omega arith in
     ap (startsOf (drop i s)) (sym (drop-length p) ∙ ap (λ (j : ℕ). drop j p) e) ∙ inv
 
+-- two tests, and both hold
+both : (a b : Bool) → cond a b false ≡ true → (a ≡ true) × (b ≡ true)
+both true b e = (refl, e)
+both false b e = (cc, cc)
+
 -- the answer is that the front of s is p
 pub starts-front : (s p : List ℕ) → startsOf s p ≡ true → take (length p) s ≡ p
 unfolding startsOf
@@ -40,10 +45,6 @@ starts-front [] (c ∷ p) e = let z : _≡_ {A = ℕ} 0 1 = cc in absurd (omega 
 starts-front (x ∷ s) (c ∷ p) e =
     let o = both (eqb x c) (startsOf s p) e in
     ap₂ (λ (a : ℕ) (l : List ℕ). a ∷ l) (eqb-true x c (o .0)) (starts-front s p (o .1))
-  where
-    both : (t u : Bool) → cond t u false ≡ true → (t ≡ true) × (u ≡ true)
-    both true u e = (refl, e)
-    both false u e = let z : _≡_ {A = ℕ} 0 1 = cc in absurd (omega arith)
 
 pub front-starts : (s p : List ℕ) → take (length p) s ≡ p → startsOf s p ≡ true
 unfolding startsOf
@@ -65,14 +66,25 @@ starts-split s p e = sym (take-append-drop (length p) s) ∙ ap (λ (l : List �
 pub split-starts : (p t : List ℕ) → startsOf (p ++ t) p ≡ true
 split-starts p t = front-starts (p ++ t) p (take-append-seam p t)
 
--- `sameOf` is equality
-pub same-is : (s t : List ℕ) → sameOf s t ≡ true → s ≡ t
+-- ---- `sameOf` is equality
+pub same-refl : (s : List ℕ) → sameOf s s ≡ true
 unfolding sameOf
-same-is s t e =
+same-refl s = rw (eq-eqb (length s) (length s) refl) (front-starts s s (take-all (length s) s (omega arith)))
+
+pub same-true : (s t : List ℕ) → sameOf s t ≡ true → s ≡ t
+unfolding sameOf
+same-true s t e =
     let o = both (eqb (length s) (length t)) (startsOf s t) e in
     let l : length s ≡ length t = eqb-true _ _ (o .0) in
     sym (take-all (length t) s (omega arith)) ∙ starts-front s t (o .1)
-  where
-    both : (a b : Bool) → cond a b false ≡ true → (a ≡ true) × (b ≡ true)
-    both true b e = (refl, e)
-    both false b e = let z : _≡_ {A = ℕ} 0 1 = cc in absurd (omega arith)
+
+pub same-false : (s t : List ℕ) → (s ≡ t → ⊥) → sameOf s t ≡ false
+same-false s t h = by (sameOf s t) (same-true s t) where
+  by : (b : Bool) → (b ≡ true → s ≡ t) → b ≡ false
+  by true p = absurd (h (p refl))
+  by false p = refl
+
+pub same-flip : (s t : List ℕ) → sameOf s t ≡ false → sameOf t s ≡ false
+same-flip s t e =
+    same-false t s
+    (λ p. let q : sameOf s t ≡ true = rw p (same-refl s) in let z : _≡_ {A = ℕ} 0 1 = cc in omega arith)

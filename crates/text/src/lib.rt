@@ -6,7 +6,7 @@ ghost use Prim.Native.Nat.{_+_, _-_, _*_, _≤_, _<_};
 ghost use lib.ListN.{length};
 ghost use Rattle.io.specs.Digits.{glyph as glyphOf};
 ghost use Rattle.text.specs.Signed.{plusOf, minusOf, signedOf, sizeOf, signedText};
-ghost use Rattle.text.specs.Starts.{startsOf, sameOf};
+ghost use Rattle.text.specs.Bytes.{startsOf, sameOf};
 ghost use Rattle.text.specs.Number.{digitOf, stepOf, numberFrom, decimalOf, hexOf, decimalText, hexText, put as putOf};
 pub use widths::wide;
 pub use widths::wide8;

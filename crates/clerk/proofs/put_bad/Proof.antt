@@ -3,7 +3,7 @@ use borrow.Author.Needs.{needs}
 use mathlib.Core.Path.{ap}
 use Rattle.answers.proofs.Laws.{adds-as}
 use Rattle.answers.specs.Replies.{lineSays}
-use Rattle.script.specs.Bytes.{bytes}
+use Rattle.text.specs.Bytes.{bytes}
 use Rattle.clerk.proofs.put_bad.Statement.{statement}
 use Rattle.clerk.proofs.put_bad.Tie as tie
 

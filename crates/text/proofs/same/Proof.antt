@@ -1,7 +1,7 @@
 -- Texts of one length are the same where one starts with the other.
 use borrow.Author.Needs.{needs}
 use borrow.Author.Tests.{eq-eqb, ne-eqb}
-use Rattle.text.specs.Starts.{sameOf}
+use Rattle.text.specs.Bytes.{sameOf}
 use Rattle.text.proofs.same.Statement.{statement}
 use Rattle.text.proofs.same.Tie as tie
 

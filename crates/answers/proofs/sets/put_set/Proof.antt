@@ -9,7 +9,7 @@ use Rattle.answers.proofs.Laws.{no-piece, and-then, adds-as}
 use Rattle.answers.proofs.Loops.{marks-more}
 use Rattle.answers.specs.Replies.{lineSays}
 use Rattle.answers.specs.Waiting.{Adds}
-use Rattle.script.specs.Bytes.{bytes}
+use Rattle.text.specs.Bytes.{bytes}
 use Rattle.script.specs.Writing.{markText}
 use Rattle.answers.proofs.sets.put_set.Statement.{statement}
 use Rattle.answers.proofs.sets.put_set.Tie as tie

@@ -4,7 +4,7 @@ use mathlib.Core.Path.{ap}
 use Rattle.answers.proofs.Laws.{adds-as}
 use Rattle.answers.specs.Replies.{countSays}
 use Rattle.clerk.specs.Calls.{saysOf}
-use Rattle.script.specs.Bytes.{bytes}
+use Rattle.text.specs.Bytes.{bytes}
 use Rattle.clerk.proofs.asking.length.Statement.{statement}
 use Rattle.clerk.proofs.asking.length.Tie as tie
 

@@ -4,7 +4,7 @@ use mathlib.Core.Path.{ap, _∙_}
 use Rattle.answers.proofs.Laws.{and-then, adds-as}
 use Rattle.answers.specs.Replies.{lineSays, anchorsSay}
 use Rattle.clerk.proofs.Lists.{taken-anchors, take-whole}
-use Rattle.script.specs.Bytes.{bytes}
+use Rattle.text.specs.Bytes.{bytes}
 use Rattle.clerk.proofs.listing.all_anchors.Statement.{statement}
 use Rattle.clerk.proofs.listing.all_anchors.Tie as tie
 

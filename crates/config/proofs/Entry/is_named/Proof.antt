@@ -1,4 +1,4 @@
--- `Entry::is_named` meets its contract: a tidy entry's length is within its bytes, and `same_bytes` says the rest. Assumes nothing.
+-- `Entry::is_named` meets its contract: a tidy entry's length is within its bytes, and `text::same` says the rest. Assumes nothing.
 use mathlib.Core.Path.{sym}
 use native.Mathlib.Omega.{arith}
 use lib.Seq.{length-take-le}
@@ -9,12 +9,12 @@ use Rattle.config.proofs.Entry.is_named.Tie as tie
 array-share-prefix-name : tie.Need-array-share-prefix-name
 array-share-prefix-name c = search needs
 
-slice-aggregate-same-bytes : tie.Need-slice-aggregate-same-bytes
-slice-aggregate-same-bytes c =
+slice-aggregate-same : tie.Need-slice-aggregate-same
+slice-aggregate-same c =
     sym (length-take-le (c .before .before .before .args .self .len) (c .before .before .before .args .self .name) (omega arith))
 
-same-bytes-requires : tie.Need-same-bytes-requires
-same-bytes-requires c κs = search needs
+same-requires : tie.Need-same-requires
+same-requires c κs = search needs
 
 returns : tie.Need-returns
 returns c = search needs
@@ -22,4 +22,4 @@ returns c = search needs
 pub is-named-spec : {M : Type 1} → statement M
 is-named-spec =
     tie.close
-    (tie.spec array-share-prefix-name slice-aggregate-same-bytes same-bytes-requires returns)
+    (tie.spec array-share-prefix-name slice-aggregate-same same-requires returns)

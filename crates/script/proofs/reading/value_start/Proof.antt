@@ -5,7 +5,7 @@ use mathlib.Core.List.{List}
 use Prim.Native.Nat.{ℕ}
 use lib.ListN.{length}
 use borrow.Author.Needs.{needs}
-use Rattle.text.specs.Starts.{startsOf}
+use Rattle.text.specs.Bytes.{startsOf}
 use Rattle.script.specs.declared.Field.{Field}
 use Rattle.script.specs.declared.Name.{Name}
 use Rattle.script.specs.declared.Start.{Start}

@@ -2,7 +2,7 @@
 use mathlib.Core.Path.{ap}
 use native.Mathlib.Omega.{arith}
 use borrow.Author.Needs.{needs}
-use Rattle.script.specs.Bytes.{bytes}
+use Rattle.text.specs.Bytes.{bytes}
 use Rattle.script.specs.Writing.{fieldText, markText}
 use Rattle.script.proofs.PutLaws.{puts-then, puts-as}
 use Rattle.script.proofs.writing.put_mark.Statement.{statement}

@@ -6,7 +6,7 @@ use mathlib.Core.List.{List, _++_, append-assoc}
 use Prim.Native.Nat.{ℕ}
 use Rattle.styles.specs.declared.Value.{Value}
 use Rattle.script.specs.declared.Kind.{Kind}
-use Rattle.script.specs.Bytes.{bytes}
+use Rattle.text.specs.Bytes.{bytes}
 use Rattle.script.specs.Grammar.{kindName}
 use Rattle.script.specs.Writing.{lineText, kindOf, valueWord, valueText}
 use Rattle.script.proofs.PutLaws.{puts-then, puts-all, puts-as, puts-more}

@@ -1,0 +1,28 @@
+-- Byte strings: those of a word, and comparing two.
+use mathlib.Core.List.{List, [], _∷_}
+use mathlib.Core.Bool.{Bool, true, false, cond}
+use Prim.Native.Nat.{ℕ, zero, suc}
+use Prim.Native.Char.{code}
+use Prim.Native.String.{String, len, charAt}
+use lib.Dec.{eqb}
+use lib.ListN.{length}
+
+-- k bytes of a text, from place i on
+abbrev pub bytesFrom : ℕ → ℕ → String → List ℕ
+bytesFrom zero i s = []
+bytesFrom (suc k) i s = code (charAt s i) ∷ bytesFrom k (suc i) s
+
+-- all bytes of a word of the document
+abbrev pub bytes : String → List ℕ
+bytes s = bytesFrom (len s) 0 s
+
+-- a text starts with another
+unfoldable pub startsOf : List ℕ → List ℕ → Bool
+startsOf s [] = true
+startsOf [] (c ∷ p) = false
+startsOf (x ∷ s) (c ∷ p) = cond (eqb x c) (startsOf s p) false
+
+-- two texts are the same: as long, and the one starts with the other
+unfoldable pub sameOf : List ℕ → List ℕ → Bool
+unfolding startsOf
+sameOf s t = cond (eqb (length s) (length t)) (startsOf s t) false
