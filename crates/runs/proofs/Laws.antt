@@ -8,6 +8,7 @@ use native.Mathlib.Numerals.{add-one, sub-one}
 use lib.ListN.{length, getD, set}
 use lib.Seq.{getD-set-same, getD-set-other}
 use borrow.Author.Tests.{lt-ltb, le-ltb, eq-eqb, ne-eqb}
+use Rattle.runs.specs.Positions.{sumBelow}
 use Rattle.runs.specs.Runs.{Run, run, runs, total, setAt, Other, Canon, joinRun, pushRun, clip, copyRuns, sums, Found}
 
 -- ---- the three forms of a push
@@ -282,11 +283,11 @@ module _ (lens sets : List ℕ) where
 
 -- ---- where a run starts
 pub sums-more : (lens : List ℕ) (k : ℕ) → sums lens (k + 1) ≡ sums lens k + getD lens k 0
-unfolding sums
+unfolding sumBelow
 sums-more lens k = rw add-one
 
 pub total-sums : (lens sets : List ℕ) (n : ℕ) → total (runs lens sets n) ≡ sums lens n
-unfolding runs total sums
+unfolding runs total sumBelow
 total-sums lens sets zero = refl
 total-sums lens sets (suc n) = ap (λ (x : ℕ). x + getD lens n 0) (total-sums lens sets n)
 

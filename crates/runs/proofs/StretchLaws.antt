@@ -8,7 +8,7 @@ use lib.Dec.{eqb}
 use lib.ListN.{length}
 use borrow.Author.Tests.{eq-eqb, ne-eqb}
 use Rattle.runs.specs.Runs.{Run, total, setAt, Other, Canon}
-use Rattle.runs.specs.Positions.{starts, stretchCount}
+use Rattle.runs.specs.Positions.{sumBelow, starts, stretchCount}
 use Rattle.runs.proofs.Laws.{at-in, at-last}
 
 -- the positions p and p + 1 have one set
@@ -22,14 +22,14 @@ starts-ext f g zero h = refl
 starts-ext f g (suc p) h = rw (h p (omega arith))
 
 pub stretch-count-ext : (f g : ℕ → Bool) (n : ℕ) → ((p : ℕ) → suc p < n → f p ≡ g p) → stretchCount f n ≡ stretchCount g n
-unfolding stretchCount
+unfolding sumBelow
 stretch-count-ext f g zero h = refl
 stretch-count-ext f g (suc n) h =
     omega (arith, stretch-count-ext f g n (λ p k. h p (omega arith)), starts-ext f g n (λ p k. h p (omega arith)))
 
 -- positions that are all alike add the start of the first alone
 level : (f : ℕ → Bool) (n j : ℕ) → ((p : ℕ) → n ≤ p → p < n + j → f p ≡ true) → stretchCount f (n + suc j) ≡ stretchCount f n + starts f n
-unfolding stretchCount starts
+unfolding sumBelow starts
 level f n zero h = let e : n + 1 ≡ suc n = omega arith in rw e
 level f n (suc j) h =
     let e : n + suc (suc j) ≡ suc (n + suc j) = omega arith in
@@ -66,6 +66,6 @@ one-more r rs (suc j) e c h =
     )
 
 pub count-stretches : (rs : List Run) → Canon rs → length rs ≡ stretchCount (alikeIn rs) (total rs)
-unfolding Canon total stretchCount
+unfolding Canon total sumBelow
 count-stretches [] c = refl
 count-stretches (r ∷ rs) c = sym (one-more r rs (r .len) refl c (sym (count-stretches rs (c .2))))

@@ -11,7 +11,7 @@ use Rattle.runs.specs.declared.scan.Test.the-variants.{Meets, Misses, Hi
 use Rattle.runs.specs.Runs.{Run, run, runs, total, setAt, Other, Canon, pushRun, joinRun, clip, copyRuns, changing, adding, sums, Found, SameBehind, Spare, mapRuns}
 use Rattle.runs.specs.Edits.{part, altered, deleted, inserted}
 use Rattle.runs.specs.Gather.{gather, Renumbered}
-use Rattle.runs.specs.Positions.{anyAt, allAt, stretchTo, starts, stretchCount, stretch, extended, stretchesAt, asNumbers}
+use Rattle.runs.specs.Positions.{sumBelow, anyAt, allAt, stretchTo, starts, stretchCount, stretch, extended, stretchesAt, asNumbers}
 use Rattle.runs.specs.Scan.{meets, topIn, shows, passes, commonAt, walked}
 use Rattle.runs.specs.Count.{tallyOf}
 use Rattle.runs.specs.Stretches.{clipped, entry, inFront, listed}
@@ -33,7 +33,7 @@ unfolding total t
 is-total = refl
 
 is-sums : sums (10 ∷ 5 ∷ 99 ∷ []) 2 ≡ 15
-unfolding sums
+unfolding sumBelow
 is-sums = refl
 
 at-12 : setAt t 12 ≡ 2
@@ -59,11 +59,11 @@ small-t = (omega arith, (omega arith, tt))
 
 -- position 12 is in run 1, which starts at 10; position 15 is past the end
 found-12 : Found (10 ∷ 5 ∷ []) 2 12 1 10
-unfolding sums
+unfolding sumBelow
 found-12 = record { within = omega arith; starts = refl; reached = omega arith; inside = λ _. omega arith }
 
 found-15 : Found (10 ∷ 5 ∷ []) 2 15 2 15
-unfolding sums
+unfolding sumBelow
 found-15 = record { within = omega arith; starts = refl; reached = omega arith; inside = λ h. absurd (omega arith) }
 
 -- a longer first run leaves place 1 as it was
@@ -196,7 +196,7 @@ walks = (refl, refl, refl)
 
 -- ---- counts
 two-stretches : stretchCount (alikeIn t) 15 ≡ 2
-unfolding stretchCount starts setAt t
+unfolding sumBelow starts setAt t
 two-stretches = refl
 
 tallied : tallyOf t ≡ record { count = 2; last = 2 }

@@ -4,6 +4,11 @@ use mathlib.Core.Bool.{Bool, true, false, cond, _&&_, _||_}
 use mathlib.Core.List.{List, [], _∷_, _++_}
 use lib.Dec.{ltb, leb}
 
+-- f 0 + .. + f (n - 1)
+unfoldable pub sumBelow : (ℕ → ℕ) → ℕ → ℕ
+sumBelow f zero = 0
+sumBelow f (suc n) = sumBelow f n + f n
+
 -- ---- A test over a range
 -- some position of from .. to passes the test
 unfoldable pub anyAt : (ℕ → Bool) → ℕ → ℕ → Bool
@@ -27,9 +32,8 @@ starts alike zero = 1
 starts alike (suc p) = cond (alike p) 0 1
 
 -- how many of the first n positions start a stretch
-unfoldable pub stretchCount : (ℕ → Bool) → ℕ → ℕ
-stretchCount alike zero = 0
-stretchCount alike (suc n) = stretchCount alike n + starts alike n
+abbrev pub stretchCount : (ℕ → Bool) → ℕ → ℕ
+stretchCount alike n = sumBelow (starts alike) n
 
 -- the positions start .. end, which have as many marks each
 pub record Stretch : Type 0 where

@@ -6,6 +6,7 @@ use mathlib.Core.List.{List, [], _∷_}
 use lib.ListN.{length, getD, drop}
 use lib.Dec.{ltb, eqb}
 use lib.Bits.{bitOr, bitAnd}
+use Rattle.runs.specs.Positions.{sumBelow}
 
 -- `len` positions, each with the set `set`
 pub record Run : Type 0 where
@@ -79,9 +80,8 @@ adding bits = changing bits 0
 
 -- ---- Where a position is found
 -- the sum of the first k lengths: where run k starts
-unfoldable pub sums : List ℕ → ℕ → ℕ
-sums lens zero = 0
-sums lens (suc k) = sums lens k + getD lens k 0
+abbrev pub sums : List ℕ → ℕ → ℕ
+sums lens k = sumBelow (λ i. getD lens i 0) k
 
 -- run i of n starts at `start` and holds `pos`; past the end i is n
 pub record Found (lens : List ℕ) (n pos i start : ℕ) : Type 0 where

@@ -14,7 +14,7 @@ use Rattle.styles.specs.Marks.{sameMarks}
 use Rattle.styles.proofs.OrderLaws.{is-same-of, same-eq}
 use Rattle.styles.proofs.SameLaws.{same-marks-self}
 use Rattle.styles.proofs.ValueLaws.{both-hold}
-use Rattle.runs.specs.Positions.{starts, stretchCount}
+use Rattle.runs.specs.Positions.{sumBelow, starts, stretchCount}
 use Rattle.runs.proofs.StretchLaws.{stretch-count-ext}
 use Rattle.tank.specs.Rules.{View, afterDelete, alike, runsHeld}
 
@@ -34,7 +34,7 @@ same-chain (x ∷ xs) (y ∷ ys) (z ∷ zs) e f =
 
 -- ---- starts among more positions
 more-starts : (f : ℕ → Bool) (n j : ℕ) → stretchCount f n ≤ stretchCount f (n + j)
-unfolding stretchCount
+unfolding sumBelow
 more-starts f n zero = let e : n + 0 ≡ n = omega arith in rw e (omega arith)
 more-starts f n (suc j) = let e : n + suc j ≡ suc (n + j) = omega arith in rw e (omega (arith, more-starts f n j))
 
@@ -53,7 +53,7 @@ starts-one f (suc n) = cond-one (f n)
 
 -- where no stretch starts behind position a, up to a + j, those two have one set
 along : (at : ℕ → List Mark) (a j : ℕ) → stretchCount (alike at) (suc a + j) ≡ stretchCount (alike at) (suc a) → sameMarks (at a) (at (a + j)) ≡ true
-unfolding stretchCount starts
+unfolding sumBelow starts
 along at a zero e = let z : a + 0 ≡ a = omega arith in rw z (same-marks-self (at a))
 along at a (suc j) e =
     let g : suc a + suc j ≡ suc (suc (a + j)) = omega arith in
@@ -95,7 +95,7 @@ module _ (at : ℕ → List Mark) (a d : ℕ) where
 
 -- the first position behind the cut starts a stretch only where it did or one of those cut out
 cut-meets : (at : ℕ → List Mark) (a d : ℕ) → stretchCount (alike (cut at a d)) a + starts (alike (cut at a d)) a ≤ stretchCount (alike at) (a + d + 1)
-unfolding starts stretchCount
+unfolding starts sumBelow
 cut-meets at zero d = let e : 0 + d + 1 ≡ 1 + d = omega arith in rw e (more-starts (alike at) 1 d)
 cut-meets at (suc a) d =
     let same = starts-before at (suc a) d in
@@ -114,7 +114,7 @@ cut-meets at (suc a) d =
 
 -- so however far one counts behind the cut, there are no more stretches than there were
 cut-fewer : (at : ℕ → List Mark) (a d k : ℕ) → stretchCount (alike (cut at a d)) (a + k) ≤ stretchCount (alike at) (a + d + k)
-unfolding stretchCount
+unfolding sumBelow
 cut-fewer at a d zero =
     let e : a + 0 ≡ a = omega arith in
     let g : a + d + 0 ≡ a + d = omega arith in

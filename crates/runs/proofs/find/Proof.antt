@@ -2,6 +2,7 @@
 use Prim.Native.Nat.{_+_, _-_, _≤_}
 use mathlib.Core.Path.{_≡_, refl}
 use native.Mathlib.Omega.{arith}
+use Rattle.runs.specs.Positions.{sumBelow}
 use Rattle.runs.specs.Runs.{sums}
 use Rattle.runs.proofs.Laws.{sums-more, sums-mono}
 use Rattle.runs.proofs.find.Statement.{statement}
@@ -16,7 +17,7 @@ abbrev μ-loop : tie.MeasureT-loop
 μ-loop lens n pos i₀ start₀ i start = n - i
 
 loop-holds : tie.Need-loop-holds Inv-loop μ-loop
-unfolding sums
+unfolding sumBelow
 loop-holds c = (omega arith, refl, omega arith)
 
 mul-end : tie.Need-mul-end Inv-loop μ-loop
