@@ -10,6 +10,7 @@ use lib.Seq.{getD-set-same, getD-set-other}
 use borrow.Author.Tests.{lt-ltb, le-ltb, eq-eqb, ne-eqb}
 use Rattle.runs.specs.Positions.{sumBelow}
 use Rattle.runs.specs.Runs.{Run, run, runs, total, setAt, Other, Canon, joinRun, pushRun, clip, copyRuns, sums, Found}
+use Rattle.runs.proofs.SumLaws.{sum-more, sum-up}
 
 -- ---- the three forms of a push
 pub push-none : (rs : List Run) (l s : ℕ) → l ≡ 0 → pushRun rs l s ≡ rs
@@ -244,6 +245,12 @@ module _ (lens sets : List ℕ) (n l s : ℕ) where
       let d = runs-set-set lens sets n n s (omega arith) in
       rw (add-one, push-new (runs lens sets n) l s nz o) (cc)
 
+-- ---- the runs hold as many positions as their lengths sum up to
+pub total-sums : (lens sets : List ℕ) (n : ℕ) → total (runs lens sets n) ≡ sums lens n
+unfolding runs total sumBelow
+total-sums lens sets zero = refl
+total-sums lens sets (suc n) = ap (λ (x : ℕ). x + getD lens n 0) (total-sums lens sets n)
+
 -- ---- the runs of one entry more
 module _ (lens sets : List ℕ) where
   pub total-more : (k : ℕ) → total (runs lens sets (k + 1)) ≡ total (runs lens sets k) + getD lens k 0
@@ -251,13 +258,7 @@ module _ (lens sets : List ℕ) where
   total-more k = rw add-one
 
   pub total-mono : (k m : ℕ) → k ≤ m → total (runs lens sets k) ≤ total (runs lens sets m)
-  unfolding runs total
-  total-mono k zero h = let e : k ≡ 0 = omega arith in rw e (omega arith)
-  total-mono k (suc m) h =
-      elim (decLe k m) [
-        | yes g ↦ omega (arith, total-mono k m g)
-        | no g ↦ let e : k ≡ suc m = omega arith in rw e (omega arith)
-      ]
+  total-mono k m h = omega (arith, total-sums lens sets k, total-sums lens sets m, sum-up (λ i. getD lens i 0) k m h)
 
   module _ (f : ℕ → ℕ) (base : List Run) (from to k : ℕ) where
     pub copy-more : copyRuns f base from to (runs lens sets (k + 1))
@@ -281,24 +282,11 @@ module _ (lens sets : List ℕ) where
   copy-holds f base from to k m h =
       omega (arith, total-copy f base from to (runs lens sets k), total-copy f base from to (runs lens sets m), total-mono k m h)
 
--- ---- where a run starts
-pub sums-more : (lens : List ℕ) (k : ℕ) → sums lens (k + 1) ≡ sums lens k + getD lens k 0
-unfolding sumBelow
-sums-more lens k = rw add-one
-
-pub total-sums : (lens sets : List ℕ) (n : ℕ) → total (runs lens sets n) ≡ sums lens n
-unfolding runs total sumBelow
-total-sums lens sets zero = refl
-total-sums lens sets (suc n) = ap (λ (x : ℕ). x + getD lens n 0) (total-sums lens sets n)
-
-pub sums-mono : (lens : List ℕ) (k m : ℕ) → k ≤ m → sums lens k ≤ sums lens m
-sums-mono lens k m h = omega (arith, total-mono lens lens k m h, total-sums lens lens k, total-sums lens lens m)
-
--- both are determined
+-- ---- where a run starts is determined
 found-le : (lens : List ℕ) (n pos i start j start′ : ℕ) → Found lens n pos i start → Found lens n pos j start′ → i < j → ⊥
 found-le lens n pos i start j start′ f g h =
     let below = f .inside (omega arith) in
-    omega (arith, sums-more lens i, sums-mono lens (i + 1) j (omega arith))
+    omega (arith, sum-more (λ k. getD lens k 0) i, sum-up (λ k. getD lens k 0) (i + 1) j (omega arith))
 
 pub found-index : (lens : List ℕ) (n pos i start j start′ : ℕ) → Found lens n pos i start → Found lens n pos j start′ → i ≡ j
 found-index lens n pos i start j start′ f g =
@@ -315,7 +303,7 @@ found-set lens sets (suc n) pos i start f h =
     let s = total-sums lens sets n in
     elim (decLt i n) [
       | yes g ↦
-          at-in (run (getD lens n 0) (getD sets n 0)) (runs lens sets n) pos (omega (arith, sums-more lens i, sums-mono lens (i + 1) n (omega arith)))
+          at-in (run (getD lens n 0) (getD sets n 0)) (runs lens sets n) pos (omega (arith, sum-more (λ k. getD lens k 0) i, sum-up (λ k. getD lens k 0) (i + 1) n (omega arith)))
           ∙ found-set lens sets n pos i start (record { within = omega arith; starts = f .starts; reached = f .reached; inside = λ _. below }) g
       | no g ↦
           let e : i ≡ n = omega arith in

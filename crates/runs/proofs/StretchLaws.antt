@@ -10,6 +10,7 @@ use borrow.Author.Tests.{eq-eqb, ne-eqb}
 use Rattle.runs.specs.Runs.{Run, total, setAt, Other, Canon}
 use Rattle.runs.specs.Positions.{sumBelow, starts, stretchCount}
 use Rattle.runs.proofs.Laws.{at-in, at-last}
+use Rattle.runs.proofs.SumLaws.{sum-same}
 
 -- the positions p and p + 1 have one set
 abbrev pub alikeIn : List Run → ℕ → Bool
@@ -22,10 +23,7 @@ starts-ext f g zero h = refl
 starts-ext f g (suc p) h = rw (h p (omega arith))
 
 pub stretch-count-ext : (f g : ℕ → Bool) (n : ℕ) → ((p : ℕ) → suc p < n → f p ≡ g p) → stretchCount f n ≡ stretchCount g n
-unfolding sumBelow
-stretch-count-ext f g zero h = refl
-stretch-count-ext f g (suc n) h =
-    omega (arith, stretch-count-ext f g n (λ p k. h p (omega arith)), starts-ext f g n (λ p k. h p (omega arith)))
+stretch-count-ext f g n h = sum-same (starts f) (starts g) n (λ u l. starts-ext f g u (λ p k. h p (omega arith)))
 
 -- positions that are all alike add the start of the first alone
 level : (f : ℕ → Bool) (n j : ℕ) → ((p : ℕ) → n ≤ p → p < n + j → f p ≡ true) → stretchCount f (n + suc j) ≡ stretchCount f n + starts f n

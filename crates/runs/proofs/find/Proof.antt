@@ -2,9 +2,10 @@
 use Prim.Native.Nat.{_+_, _-_, _≤_}
 use mathlib.Core.Path.{_≡_, refl}
 use native.Mathlib.Omega.{arith}
+use lib.ListN.{getD}
 use Rattle.runs.specs.Positions.{sumBelow}
 use Rattle.runs.specs.Runs.{sums}
-use Rattle.runs.proofs.Laws.{sums-more, sums-mono}
+use Rattle.runs.proofs.SumLaws.{sum-more, sum-up}
 use Rattle.runs.proofs.find.Statement.{statement}
 use Rattle.runs.proofs.find.Tie as tie
 use Rattle.runs.proofs.find.Reads as reads
@@ -30,7 +31,7 @@ add-end : tie.Need-add-end Inv-loop μ-loop
 add-end c =
     let a = c .before .before .before .args in
     let i = c .before .before .loop .i in
-    omega (arith, sums-more (a .lens .now) i, sums-mono (a .lens .now) (i + 1) (a .n) (omega arith))
+    omega (arith, sum-more (λ k. getD (a .lens .now) k 0) i, sum-up (λ k. getD (a .lens .now) k 0) (i + 1) (a .n) (omega arith))
 
 returns : tie.Need-returns Inv-loop μ-loop
 returns c = omega arith
@@ -42,7 +43,7 @@ loop-less : tie.Need-loop-less Inv-loop μ-loop
 loop-less c = omega arith
 
 loop-again : tie.Need-loop-again Inv-loop μ-loop
-loop-again c = omega (arith, sums-more (c .before .before .before .before .args .lens .now) (c .before .before .before .loop .i))
+loop-again c = omega (arith, sum-more (λ k. getD (c .before .before .before .before .args .lens .now) k 0) (c .before .before .before .loop .i))
 
 returns-2 : tie.Need-returns-2 Inv-loop μ-loop
 returns-2 c = omega arith

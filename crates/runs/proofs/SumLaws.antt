@@ -1,0 +1,38 @@
+-- Sums over the first n: one term more, term by term, and a longer sum. Assumes nothing.
+use mathlib.Core.Path.{_≡_, refl}
+use Prim.Native.Nat.{ℕ, zero, suc, _+_, _*_, _≤_, _<_}
+use native.Mathlib.Numerals.{add-one}
+use native.Mathlib.Omega.{arith}
+use native.Mathlib.Decide.{decLe}
+use Rattle.runs.specs.Positions.{sumBelow}
+
+pub sum-more : (f : ℕ → ℕ) (n : ℕ) → sumBelow f (n + 1) ≡ sumBelow f n + f n
+unfolding sumBelow
+sum-more f n = rw add-one
+
+-- ---- term by term
+pub sum-same : (f g : ℕ → ℕ) (n : ℕ) → ((u : ℕ) → u < n → f u ≡ g u) → sumBelow f n ≡ sumBelow g n
+unfolding sumBelow
+sum-same f g zero h = refl
+sum-same f g (suc n) h = omega (arith, sum-same f g n (λ u l. h u (omega arith)), h n (omega arith))
+
+pub sum-least : (f g : ℕ → ℕ) (n : ℕ) → ((u : ℕ) → u < n → f u ≤ g u) → sumBelow f n ≤ sumBelow g n
+unfolding sumBelow
+sum-least f g zero h = omega arith
+sum-least f g (suc n) h = omega (arith, sum-least f g n (λ u l. h u (omega arith)), h n (omega arith))
+
+-- no term is over k
+pub sum-bound : (f : ℕ → ℕ) (k n : ℕ) → ((u : ℕ) → u < n → f u ≤ k) → sumBelow f n ≤ n * k
+unfolding sumBelow
+sum-bound f k zero h = omega arith
+sum-bound f k (suc n) h = omega (arith, sum-bound f k n (λ u l. h u (omega arith)), h n (omega arith))
+
+-- ---- more terms are no less
+pub sum-up : (f : ℕ → ℕ) (n m : ℕ) → n ≤ m → sumBelow f n ≤ sumBelow f m
+unfolding sumBelow
+sum-up f n zero h = let e : n ≡ 0 = omega arith in rw e (omega arith)
+sum-up f n (suc m) h =
+    elim (decLe n m) [
+      | yes l ↦ omega (arith, sum-up f n m l)
+      | no l ↦ let e : n ≡ suc m = omega arith in rw e (omega arith)
+    ]
