@@ -14,6 +14,7 @@ use Rattle.runs.specs.Edits.{altered, deleted, inserted}
 use Rattle.runs.specs.Gather.{gather}
 use Rattle.runs.specs.Positions.{anyAt, stretchTo}
 use Rattle.runs.specs.Scan.{commonAt}
+use Rattle.runs.specs.Positions.{sumBelow}
 use Rattle.tank.specs.Rules.{View, Edit, annotating, inserting, deleting, removing, inherited, forInsert, backFrom, empty, over, long, notNumber, clash, clashes, full, refusal}
 use Rattle.tank.proofs.Counted.{counted}
 use Rattle.tank.proofs.OnRuns.{known, numberOn, runsAfter, touchedAfter}
@@ -22,7 +23,7 @@ use Rattle.lists.proofs.AnchorsOnRuns.{edges, anchorsOn, anchors-on}
 use Rattle.questions.specs.declared.Told.the-variants.{Refused}
 use Rattle.questions.specs.Questions.{yesNo, yesNoRefusal, rangeContainsKey}
 use Rattle.tanks.specs.declared.Setting.{Setting}
-use Rattle.tanks.specs.Settings.{allKeepRule, shares, accepted as settingsFit, claims, judgement}
+use Rattle.tanks.specs.Settings.{allKeepRule, accepted as settingsFit, claims, judgement}
 use Rattle.tanks.specs.House.{House, tankAt, openNumber, noTank, refusalAt, insertedSetAt, removedFirstAt}
 use Rattle.tanks.specs.Pool.{tankNumbers}
 use Rattle.tanks.proofs.OnRuns.{Kept, fresh, keptAt, heldOn, viewOn, houseOn, numberAt, allAfter, may, Way, step, steps, Fit, AllFit, all-fresh, opening-on, tank-on, held-on, number-on, after-fit, after-on, step-clear, steps-clear, steps-on}
@@ -215,8 +216,8 @@ all-hold (c ∷ cs) e =
     (case-holds c here, all-hold cs there)
 
 pub examples : AllHold table
-unfolding table found claimed abc settingsFit allKeepRule shares
-    numberAt allAfter step steps may judgement claims known numberOn runsAfter touchedAfter ranges rangeOf anchorsOn edges anchorsOf
+unfolding table found claimed abc settingsFit allKeepRule sumBelow
+    numberAt allAfter step steps may judgement known numberOn runsAfter touchedAfter ranges rangeOf anchorsOn edges anchorsOf
     altered deleted inserted copyRuns pushRun joinRun changing gather commonAt setAt total
     pick withBit placeOf member stands numbers clash sameContent common hasKey winner winners
     refusal empty over long notNumber clashes full forInsert inherited backFrom stretchTo anyAt yesNo yesNoRefusal

@@ -6,6 +6,7 @@ use native.Mathlib.Omega.{arith}
 use native.Mathlib.Decide.{decLt}
 use lib.ListN.{length}
 use borrow.Author.Tests.{le-ltb}
+use Rattle.runs.specs.Positions.{sumBelow}
 use Rattle.tank.specs.Rules.{View, freshView}
 use Rattle.tank.specs.State.{view}
 use Rattle.tanks.specs.declared.Tanks.{Tanks}
@@ -22,12 +23,12 @@ use Rattle.lists.proofs.Most.{range-most, whole-most, anchors-most}
 -- ---- the runs of one tank
 module _ (st : List Setting) (f : ℕ → ℕ) where
   claims-some : (n : ℕ) → ((u : ℕ) → u < n → 1 ≤ shareOf st u) → n ≤ claims st f n
-  unfolding claims
+  unfolding sumBelow
   claims-some zero h = omega arith
   claims-some (suc n) h = omega (arith, claims-some n (λ u l. h u (omega arith)), h n (omega arith))
 
   claims-one : (n t : ℕ) → ((u : ℕ) → u < n → 1 ≤ shareOf st u) → t < n → f t + n ≤ claims st f n + 1
-  unfolding claims
+  unfolding sumBelow
   claims-one zero t h l = absurd (omega arith)
   claims-one (suc n) t h l =
       elim (decLt t n) [

@@ -36,3 +36,6 @@ sum-up f n (suc m) h =
       | yes l ↦ omega (arith, sum-up f n m l)
       | no l ↦ let e : n ≡ suc m = omega arith in rw e (omega arith)
     ]
+
+pub sum-next : (f : ℕ → ℕ) (n m : ℕ) → n < m → sumBelow f n + f n ≤ sumBelow f m
+sum-next f n m h = omega (arith, sum-more f n, sum-up f (n + 1) m (omega arith))

@@ -8,6 +8,8 @@ use native.Mathlib.Decide.{decLt, decLe}
 use native.Mathlib.Numerals.{add-one}
 use lib.ListN.{length, getD, set, replicate, length-set, getD-replicate, length-replicate, List·getD-eq-default}
 use lib.Seq.{getD-set-same, getD-set-other, set-comm}
+use Rattle.runs.specs.Positions.{sumBelow}
+use Rattle.runs.proofs.SumLaws.{sum-same, sum-next}
 use Rattle.tanks.specs.declared.Head.{Head}
 use Rattle.tanks.specs.Pool.{noHead, runsIn, laid, runsBelow}
 
@@ -70,31 +72,16 @@ module _ {A : Type 0} where
       ]
 
 -- ---- where tanks begin
-pub below-more : (hs : List Head) (t : ℕ) → runsBelow hs (t + 1) ≡ runsBelow hs t + runsIn hs t
-unfolding runsBelow
-below-more hs t = rw add-one
-
-pub below-mono : (hs : List Head) (t u : ℕ) → t ≤ u → runsBelow hs t ≤ runsBelow hs u
-unfolding runsBelow
-below-mono hs t zero h = let e : t ≡ 0 = omega arith in rw e (omega arith)
-below-mono hs t (suc u) h =
-    elim (decLe t u) [
-      | yes l ↦ omega (arith, below-mono hs t u l)
-      | no l ↦ let e : t ≡ suc u = omega arith in rw e (omega arith)
-    ]
-
 -- tank u lies below tank v
 pub below-next : (hs : List Head) (u v : ℕ) → u < v → runsBelow hs u + runsIn hs u ≤ runsBelow hs v
-below-next hs u v h = omega (arith, below-mono hs (u + 1) v (omega arith), below-more hs u)
+below-next hs u v h = sum-next (runsIn hs) u v h
 
 pub below-same : (hs : List Head) (t : ℕ) (h : Head) (u : ℕ) → u ≤ t → runsBelow (set hs t h) u ≡ runsBelow hs u
-unfolding runsBelow
-below-same hs t h zero l = refl
-below-same hs t h (suc u) l =
-    omega (arith, below-same hs t h u (omega arith), ap (λ (x : Head). x .runs) (getD-set-other hs t u h noHead (λ e. omega arith)))
+below-same hs t h u l =
+    sum-same (runsIn (set hs t h)) (runsIn hs) u (λ v k. ap (λ (x : Head). x .runs) (getD-set-other hs t v h noHead (λ e. omega arith)))
 
 pub below-later : (hs : List Head) (t : ℕ) (h : Head) (u : ℕ) → t < length hs → t < u → runsBelow (set hs t h) u + runsIn hs t ≡ runsBelow hs u + h .runs
-unfolding runsBelow
+unfolding sumBelow
 below-later hs t h zero g l = absurd (omega arith)
 below-later hs t h (suc u) g l =
     elim (decLt t u) [

@@ -20,7 +20,7 @@ use Rattle.tanks.specs.House.{held, first, withTank}
 use Rattle.tanks.specs.Pool.{noHead, runsIn, runsBelow, tankIn, tankOf, headOf, tableIn, meaning, Sound}
 use Rattle.tanks.proofs.Put.{puts}
 use Rattle.tanks.proofs.PutLaws.{put-length, put-blank, put-same, put-other}
-use Rattle.tanks.proofs.SettingLaws.{claims-cong, below-claims, judge-within, judge-sum, second-zero}
+use Rattle.tanks.proofs.SettingLaws.{claims-cong, runs-claims, judge-within, judge-sum, second-zero}
 
 -- what holds at t and at every other place holds everywhere
 pub at-each : (P : ℕ → Type 0) (t u : ℕ) → P t → (u ≢ t → P u) → P u
@@ -91,7 +91,7 @@ module _ (s : Tanks) (t : ℕ) (x : Tank) (ok : Sound s) (t8 : t < 8) (formed : 
 
   pub room : runsBelow (set (s .heads) t (headOf x)) 8 ≤ 512
   unfolding next
-  room = omega (arith, sum-next, below-claims (s .settings) next 8)
+  room = omega (arith, sum-next, runs-claims (s .settings) (runsIn next) 8)
 
   pub put-sound : Sound (puts s t x)
   unfolding puts next

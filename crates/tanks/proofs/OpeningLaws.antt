@@ -7,6 +7,8 @@ use native.Mathlib.Omega.{arith}
 use lib.ListN.{length, getD, set, replicate, getD-replicate}
 use Rattle.styles.specs.Marks.{blank}
 use Rattle.runs.specs.Runs.{Spare}
+use Rattle.runs.specs.Positions.{sumBelow}
+use Rattle.runs.proofs.SumLaws.{sum-same}
 use Rattle.tank.specs.declared.Tank.{Tank}
 use Rattle.tank.specs.Rules.{freshLength, freshView}
 use Rattle.tank.specs.State as state
@@ -16,7 +18,7 @@ use Rattle.tanks.specs.declared.Setting.{Setting}
 use Rattle.tanks.specs.declared.Head.{Head}
 use Rattle.tanks.specs.declared.Run as pool
 use Rattle.tanks.specs.declared.Table.{Table}
-use Rattle.tanks.specs.Settings.{accepted, allKeepRule, shares, claims}
+use Rattle.tanks.specs.Settings.{accepted, allKeepRule, shareOf, shares, claim, claims}
 use Rattle.tanks.specs.House.{smallest, openNumber, opening}
 use Rattle.tanks.specs.Pool.{noHead, noRun, noTable, runsIn, laid, runsBelow, tankIn, tankOf, headOf, tableIn, meaning, Sound, freshly}
 use Rattle.tanks.specs.Contracts.{Opens}
@@ -40,7 +42,7 @@ unfolding eight
 runs-one u h = ap (λ (x : Head). x .runs) (getD-replicate 8 u (headOf fresh) noHead h)
 
 below-one : (u : ℕ) → u ≤ 8 → runsBelow eight u ≡ u
-unfolding runsBelow
+unfolding sumBelow
 below-one zero h = refl
 below-one (suc u) h = omega (arith, below-one u (omega arith), runs-one u (omega arith))
 
@@ -75,10 +77,9 @@ module _ (st : List Setting) where
       (λ u h. ap view (tank-fresh u h) ∙ fresh-is .1 ∙ sym (getD-replicate 8 u freshView freshView h))
 
   module _ (l : length st ≡ 8) (ok : accepted st ≡ true) where
-    claims-one : (n : ℕ) → n ≤ 8 → claims st (runsIn eight) n ≡ shares st n
-    unfolding claims shares
-    claims-one zero h = refl
-    claims-one (suc n) h = omega (arith, claims-one n (omega arith), runs-one n (omega arith), accepted-at st ok n (omega arith))
+    claims-one : claims st (runsIn eight) 8 ≡ shares st 8
+    claims-one =
+        sum-same (claim st (runsIn eight)) (shareOf st) 8 (λ u h. omega (arith, runs-one u h, accepted-at st ok u h))
 
     pub fresh-sound : Sound (freshly st)
     unfolding freshly eight
@@ -89,7 +90,7 @@ module _ (st : List Setting) where
       pool-512 = length-laid (replicate 512 noRun) 0 (λ _. record { len = T; set = 0 }) 8;
       rule = ok;
       limits = λ u h. omega (arith, runs-one u h, accepted-at st ok u h);
-      sum = omega (arith, claims-one 8 (omega arith), accepted-sum st ok);
+      sum = omega (arith, claims-one, accepted-sum st ok);
       each = λ u h. subst Formed (sym (tank-fresh u h)) (fresh-is .0 .formed);
       spare = λ k h. laid-out (replicate 512 noRun) 0 (λ _. record { len = T; set = 0 }) 8 k noRun (λ j g e. omega (arith, below-one 8 (omega arith))) ∙ blank-at 512 k noRun;
     }
@@ -103,7 +104,7 @@ module _ (st : List Setting) where
     }
 
 pub ones-ok : accepted (replicate 8 smallest) ≡ true
-unfolding accepted allKeepRule shares
+unfolding accepted allKeepRule sumBelow
 ones-ok = refl
 
 pub opens-2 : (st : List Setting) → accepted st ≡ false → Opens st (record { number = 2; tanks = freshly (replicate 8 smallest) })

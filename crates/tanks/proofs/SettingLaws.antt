@@ -1,6 +1,6 @@
 -- The laws of the settings' rule and of the judgement.
 use Prim.Native.Nat.{ℕ, zero, suc, _+_, _*_, _≤_, _<_, max}
-use mathlib.Core.Path.{_≡_, refl}
+use mathlib.Core.Path.{_≡_, refl, ap}
 use mathlib.Core.Bool.{Bool, true, false, cond, _&&_}
 use mathlib.Core.List.{List}
 use native.Mathlib.Omega.{arith}
@@ -12,9 +12,11 @@ use lib.ListN.{getD}
 use Rattle.tanks.specs.declared.Setting.{Setting}
 use Rattle.tanks.specs.declared.Head.{Head}
 use Rattle.tanks.specs.declared.Tanks.{Tanks}
+use Rattle.runs.specs.Positions.{sumBelow}
+use Rattle.runs.proofs.SumLaws.{sum-same, sum-least, sum-bound}
 use Rattle.tanks.specs.House.{first}
 use Rattle.tanks.specs.Pool.{tankIn, runsIn, runsBelow, tankOf, Sound}
-use Rattle.tanks.specs.Settings.{noSetting, shareOf, limitOf, keepsRule, allKeepRule, shares, accepted, claims, heldAfter, judgement}
+use Rattle.tanks.specs.Settings.{noSetting, shareOf, limitOf, keepsRule, allKeepRule, shares, accepted, claim, claims, heldAfter, judgement}
 use Rattle.tank.specs.declared.Tank.{Tank}
 use Rattle.tank.specs.State as state
 use Rattle.tanks.specs.Contracts.{Judged, Small}
@@ -63,10 +65,6 @@ all-keep-not st (suc n) u g h =
     last true = refl
     last false = refl
 
-pub shares-more : (st : List Setting) (n : ℕ) → shares st (n + 1) ≡ shares st n + shareOf st n
-unfolding shares
-shares-more st n = rw add-one
-
 module _ (st : List Setting) (ok : accepted st ≡ true) where
   pub accepted-at : (u : ℕ) → u < 8 → Keeps (getD st u noSetting)
   unfolding accepted
@@ -77,25 +75,12 @@ module _ (st : List Setting) (ok : accepted st ≡ true) where
   accepted-sum = leb-true (shares st 8) 512 (both (allKeepRule st 8) (leb (shares st 8) 512) ok .1)
 
 -- ---- claims
-pub claims-more : (st : List Setting) (f : ℕ → ℕ) (n : ℕ) → claims st f (n + 1) ≡ claims st f n + max (f n) (shareOf st n)
-unfolding claims
-claims-more st f n = rw add-one
-
-claims-bound : (st : List Setting) (f : ℕ → ℕ) (n : ℕ) → ((u : ℕ) → u < n → f u ≤ 512) → ((u : ℕ) → u < n → shareOf st u ≤ 512) → claims st f n ≤ 512 * n
-unfolding claims
-claims-bound st f zero h g = omega arith
-claims-bound st f (suc n) h g =
-    omega (arith, claims-bound st f n (λ u l. h u (omega arith)) (λ u l. g u (omega arith)), h n (omega arith), g n (omega arith))
-
 pub claims-cong : (st : List Setting) (f g : ℕ → ℕ) (n : ℕ) → ((u : ℕ) → u < n → f u ≡ g u) → claims st f n ≡ claims st g n
-unfolding claims
-claims-cong st f g zero h = refl
-claims-cong st f g (suc n) h = rw (claims-cong st f g n (λ u l. h u (omega arith)), h n (omega arith))
+claims-cong st f g n h = sum-same (claim st f) (claim st g) n (λ u l. ap (λ (x : ℕ). max x (shareOf st u)) (h u l))
 
-pub below-claims : (st : List Setting) (hs : List Head) (n : ℕ) → runsBelow hs n ≤ claims st (runsIn hs) n
-unfolding runsBelow claims
-below-claims st hs zero = omega arith
-below-claims st hs (suc n) = omega (arith, below-claims st hs n)
+-- the tanks hold no more runs than they claim
+pub runs-claims : (st : List Setting) (f : ℕ → ℕ) (n : ℕ) → sumBelow f n ≤ claims st f n
+runs-claims st f n = sum-least f (claim st f) n (λ u l. omega arith)
 
 pub cond-le : (b : Bool) (x y k : ℕ) → x ≤ k → y ≤ k → cond b x y ≤ k
 cond-le true x y k h g = h
@@ -107,7 +92,7 @@ small-more st hs t n u s h =
     let f : (v : ℕ) → v < 8 → heldAfter (runsIn hs) t n v ≤ 512 = λ v l. cond-le (eqb v t) n (runsIn hs v) 512 (s .more) (s .runs v l) in
     omega (
       arith,
-      claims-bound st (heldAfter (runsIn hs) t n) u (λ v l. f v (omega arith)) (λ v l. s .shares v (omega arith)),
+      sum-bound (claim st (heldAfter (runsIn hs) t n)) 512 u (λ v l. omega (arith, f v (omega arith), s .shares v (omega arith))),
       f u h,
       s .shares u h,
     )
@@ -126,7 +111,7 @@ pub record TakenOut (s : Tanks) (t : ℕ) (x : Tank) : Type 0 where
 
 module _ (s : Tanks) (ok : Sound s) where
   pub sound-held : runsBelow (s .heads) 8 ≤ 512
-  sound-held = omega (arith, ok .sum, below-claims (s .settings) (s .heads) 8)
+  sound-held = omega (arith, ok .sum, runs-claims (s .settings) (runsIn (s .heads)) 8)
 
   pub sound-place : (t : ℕ) → t < 8 → runsBelow (s .heads) t + runsIn (s .heads) t ≤ 512
   sound-place t h = omega (arith, sound-held, below-next (s .heads) t 8 h)

@@ -4,11 +4,12 @@ use mathlib.Core.Path.{_≡_, refl}
 use mathlib.Core.Bool.{true, false}
 use mathlib.Core.List.{[], _∷_}
 use lib.ListN.{replicate, getD, set}
+use Rattle.runs.specs.Positions.{sumBelow}
 use Rattle.tank.specs.Rules.{deleting}
 use Rattle.tanks.specs.declared.Setting.{Setting}
 use Rattle.tanks.specs.declared.Count.{Count}
 use Rattle.tanks.specs.declared.YesNo.{YesNo}
-use Rattle.tanks.specs.Settings.{accepted, allKeepRule, shares, claims, judgement}
+use Rattle.tanks.specs.Settings.{accepted, allKeepRule, claims, judgement}
 use Rattle.tanks.specs.House.{freshHouse, smallest, openNumber, opening, askNumber, refusalAt}
 use Rattle.tanks.specs.Contracts.{counts, says}
 
@@ -17,45 +18,45 @@ pair share limit = record { share = share; limit = limit }
 
 -- ---- the settings' rule: 1 <= share <= limit <= 512, and the shares sum to at most 512
 shares-40 : accepted (replicate 8 (pair 40 200)) ≡ true
-unfolding accepted allKeepRule shares
+unfolding accepted allKeepRule sumBelow
 shares-40 = refl
 
 shares-64 : accepted (replicate 8 (pair 64 512)) ≡ true
-unfolding accepted allKeepRule shares
+unfolding accepted allKeepRule sumBelow
 shares-64 = refl
 
 sum-520 : accepted (replicate 8 (pair 65 512)) ≡ false
-unfolding accepted allKeepRule shares
+unfolding accepted allKeepRule sumBelow
 sum-520 = refl
 
 share-0 : accepted (set (replicate 8 (pair 40 200)) 7 (pair 0 200)) ≡ false
-unfolding accepted allKeepRule shares
+unfolding accepted allKeepRule sumBelow
 share-0 = refl
 
 limit-513 : accepted (set (replicate 8 (pair 40 200)) 0 (pair 40 513)) ≡ false
-unfolding accepted allKeepRule shares
+unfolding accepted allKeepRule sumBelow
 limit-513 = refl
 
 share-over-limit : accepted (set (replicate 8 (pair 40 200)) 3 (pair 40 39)) ≡ false
-unfolding accepted allKeepRule shares
+unfolding accepted allKeepRule sumBelow
 share-over-limit = refl
 
 -- a number that is wider than 512 is not cut
 share-65537 : accepted (set (replicate 8 (pair 40 200)) 5 (pair 65537 65537)) ≡ false
-unfolding accepted allKeepRule shares
+unfolding accepted allKeepRule sumBelow
 share-65537 = refl
 
 -- ---- opening
 opens-0 : openNumber (replicate 8 (pair 40 200)) ≡ 0
-unfolding openNumber accepted allKeepRule shares
+unfolding openNumber accepted allKeepRule sumBelow
 opens-0 = refl
 
 opens-2 : openNumber (replicate 8 (pair 65 512)) ≡ 2
-unfolding openNumber accepted allKeepRule shares
+unfolding openNumber accepted allKeepRule sumBelow
 opens-2 = refl
 
 beside-2 : opening (replicate 8 (pair 65 512)) ≡ freshHouse (replicate 8 smallest)
-unfolding opening accepted allKeepRule shares
+unfolding opening accepted allKeepRule sumBelow
 beside-2 = refl
 
 -- ---- example 12: shares 40, limits 200
@@ -63,31 +64,31 @@ runs : ℕ → ℕ
 runs t = getD (200 ∷ 72 ∷ 40 ∷ 39 ∷ 40 ∷ 40 ∷ 40 ∷ 40 ∷ []) t 0
 
 full : claims (replicate 8 (pair 40 200)) runs 8 ≡ 512
-unfolding runs claims
+unfolding runs sumBelow
 full = refl
 
 two-to-41 : judgement (replicate 8 (pair 40 200)) runs 2 41 ≡ 10
-unfolding runs claims judgement
+unfolding runs sumBelow judgement
 two-to-41 = refl
 
 zero-to-201 : judgement (replicate 8 (pair 40 200)) runs 0 201 ≡ 9
-unfolding runs claims judgement
+unfolding runs sumBelow judgement
 zero-to-201 = refl
 
 three-to-40 : judgement (replicate 8 (pair 40 200)) runs 3 40 ≡ 0
-unfolding runs claims judgement
+unfolding runs sumBelow judgement
 three-to-40 = refl
 
 -- at the limit is within it; once another tank has given a run back, tank 2 may have it
 zero-at-200 : judgement (replicate 8 (pair 40 200)) runs 0 200 ≡ 0
-unfolding runs claims judgement
+unfolding runs sumBelow judgement
 zero-at-200 = refl
 
 less : ℕ → ℕ
 less t = getD (200 ∷ 71 ∷ 40 ∷ 39 ∷ 40 ∷ 40 ∷ 40 ∷ 40 ∷ []) t 0
 
 two-to-41-then : judgement (replicate 8 (pair 40 200)) less 2 41 ≡ 0
-unfolding less claims judgement
+unfolding less sumBelow judgement
 two-to-41-then = refl
 
 -- ---- 1 before the tank's own numbers: tank 8 and an empty range; tank 2^32 is no tank 0

@@ -10,15 +10,17 @@ use borrow.Author.Tests.{ltb-false, leb-false, eq-eqb, ne-eqb}
 use lib.ListN.{length, replicate, length-set}
 use lib.Seq.{getD-set-same, getD-set-other}
 use Rattle.styles.specs.declared.Identity.{Identity}
+use Rattle.runs.specs.Positions.{sumBelow}
+use Rattle.runs.proofs.SumLaws.{sum-least}
 use Rattle.tank.specs.Rules.{View, freshView, runsHeld, Edit, inserting, deleting, removing, after, empty, over, long, notNumber, clashes, full, refusal}
 use Rattle.tank.proofs.Sequences.{accepted-fits}
 use Rattle.tank.proofs.DeleteCount.{delete-fewer}
 use Rattle.tanks.specs.declared.Setting.{Setting}
 use Rattle.tanks.specs.declared.Tanks.{Tanks}
-use Rattle.tanks.specs.Settings.{shareOf, limitOf, accepted, claims, heldAfter, judgement}
-use Rattle.tanks.specs.House.{House, tankAt, held, smallest, opening, refusalAt, withTank, afterAt, insertedSetAt, removedFirstAt, Call, afterAll, reached, holds, Ten}
+use Rattle.tanks.specs.Settings.{shareOf, limitOf, accepted, claim, claims, heldAfter, judgement}
+use Rattle.tanks.specs.House.{House, tankAt, held, smallest, opening, refusalAt, withTank, afterAt, insertedSetAt, removedFirstAt, Call, afterAll, reached, Ten}
 use Rattle.tanks.specs.Pool.{runsIn, meaning, Sound, freshly}
-use Rattle.tanks.proofs.SettingLaws.{cond-le, accepted-at, claims-cong, judge-9, judge-10, judge-0, judge-within, judge-sum, first-zero, second-zero}
+use Rattle.tanks.proofs.SettingLaws.{cond-le, accepted-at, claims-cong, runs-claims, judge-9, judge-10, judge-0, judge-within, judge-sum, first-zero, second-zero}
 use Rattle.tanks.proofs.MeaningLaws.{at-each, held-is, tanks-length}
 use Rattle.tanks.proofs.CallLaws.{refusal-in, refusal-past, after-refused, after-done}
 use Rattle.tanks.proofs.OpeningLaws.{opens, opens-2}
@@ -178,22 +180,20 @@ ten-only h t e ten =
 
 -- ---- an edit that leaves its tank at or under its share, or with no more runs than it held, is refused by neither 9 nor 10
 module _ (h : House) (t : ℕ) (n : ℕ) (le : n ≤ max (held h t) (shareOf (h .settings) t)) where
-  claims-less : (k : ℕ) → claims (h .settings) (heldAfter (held h) t n) k ≤ claims (h .settings) (held h) k
-  unfolding claims
-  claims-less zero = omega arith
-  claims-less (suc k) = omega (arith, claims-less k, one-less)
-    where
-      one-less : max (heldAfter (held h) t n k) (shareOf (h .settings) k) ≤ max (held h k) (shareOf (h .settings) k)
-      one-less =
-          at-each (λ u. max (heldAfter (held h) t n u) (shareOf (h .settings) u) ≤ max (held h u) (shareOf (h .settings) u)) t k
-          (rw (eq-eqb t t refl) (omega arith))
-          (λ ne. rw (ne-eqb k t ne) (omega arith))
+  claim-less : (u : ℕ) → claim (h .settings) (heldAfter (held h) t n) u ≤ claim (h .settings) (held h) u
+  claim-less u =
+      at-each (λ k. claim (h .settings) (heldAfter (held h) t n) k ≤ claim (h .settings) (held h) k) t u
+      (rw (eq-eqb t t refl) (omega arith))
+      (λ ne. rw (ne-eqb u t ne) (omega arith))
+
+  claims-less : claims (h .settings) (heldAfter (held h) t n) 8 ≤ claims (h .settings) (held h) 8
+  claims-less = sum-least (claim (h .settings) (heldAfter (held h) t n)) (claim (h .settings) (held h)) 8 (λ u l. claim-less u)
 
   no-more-judged : Kept h → t < 8 → judgement (h .settings) (held h) t n ≡ 0
   no-more-judged kept t8 =
       judge-0 (h .settings) (held h) t n
       (omega (arith, accepted-at (h .settings) (kept .rule) t t8, kept .limits t t8))
-      (omega (arith, claims-less 8, kept .sum))
+      (omega (arith, claims-less, kept .sum))
 
 -- its number is that of the tank's own rules
 own-number : (h : House) (t : ℕ) (e : Edit) → Kept h → t < 8
@@ -286,12 +286,6 @@ module _ (h : House) (t : ℕ) (e : Edit) (u : ℕ) (ne : u ≢ t) where
   unfolding removedFirstAt
   first-stays id last p q = rw (number-stays (removing id last) p q, others-stay h t e u ne)
 
--- ---- the tanks hold no more runs than they claim
-holds-claims : (st : List Setting) (f : ℕ → ℕ) (n : ℕ) → holds f n ≤ claims st f n
-unfolding claims holds
-holds-claims st f zero = omega arith
-holds-claims st f (suc n) = omega (arith, holds-claims st f n)
-
 -- ---- demand 3: opened with accepted settings, after any calls, refused ones among them
 module _ (st : List Setting) (l : length st ≡ 8) (ok : accepted st ≡ true) (cs : List Call) where
   pub reached-kept : Kept (reached st cs)
@@ -310,8 +304,8 @@ module _ (st : List Setting) (l : length st ≡ 8) (ok : accepted st ≡ true) (
   pub within-512 : claims st (held (reached st cs)) 8 ≤ 512
   within-512 = rw reached-settings at (reached-kept .sum)
 
-  pub runs-512 : holds (held (reached st cs)) 8 ≤ 512
-  runs-512 = omega (arith, holds-claims st (held (reached st cs)) 8, within-512)
+  pub runs-512 : sumBelow (held (reached st cs)) 8 ≤ 512
+  runs-512 = omega (arith, runs-claims st (held (reached st cs)) 8, within-512)
 
   -- an edit that leaves its tank at or under its share is refused by neither 9 nor 10
   pub never-9-or-10 : (t : ℕ) (e : Edit) → t < 8 → runsHeld (after e (tankAt (reached st cs) t)) ≤ shareOf st t → refusalAt (reached st cs) t e ≤ 8

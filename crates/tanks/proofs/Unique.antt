@@ -6,6 +6,7 @@ use native.Mathlib.Omega.{arith}
 use native.Mathlib.Decide.{decLt}
 use lib.ListN.{length, getD, set, replicate}
 use lib.Seq.{ext-getD}
+use Rattle.runs.specs.Positions.{sumBelow}
 use Rattle.tanks.specs.declared.Setting.{Setting}
 use Rattle.tanks.specs.declared.Head.{Head}
 use Rattle.tanks.specs.declared.Run.{Run}
@@ -47,7 +48,7 @@ record Place (hs : List Head) (n k : ℕ) : Type 0 where
   is : k ≡ runsBelow hs tank + at
 
 place : (hs : List Head) (n k : ℕ) → k < runsBelow hs n → Place hs n k
-unfolding runsBelow
+unfolding sumBelow
 place hs zero k h = absurd (omega arith)
 place hs (suc n) k h =
     elim (decLt k (runsBelow hs n)) [

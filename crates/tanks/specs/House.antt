@@ -1,5 +1,5 @@
 -- Document 01 over eight tanks: the settings and what each tank means, with nothing of how they are stored.
-use Prim.Native.Nat.{ℕ, zero, suc, _+_, _≤_, _<_}
+use Prim.Native.Nat.{ℕ, _+_, _≤_, _<_}
 use mathlib.Core.Path.{_≡_}
 use mathlib.Core.Bool.{Bool, true, false, cond, _&&_}
 use mathlib.Core.List.{List, [], _∷_, _++_}
@@ -94,11 +94,6 @@ afterAll h (c ∷ cs) = afterAll (afterAt h (c .tank) (c .edit)) cs
 -- opened with these settings, after any calls, refused ones among them
 unfoldable pub reached : List Setting → List Call → House
 reached st cs = afterAll (opening st) cs
-
--- how many runs the first n tanks hold
-unfoldable pub holds : (ℕ → ℕ) → ℕ → ℕ
-holds f zero = 0
-holds f (suc n) = holds f n + f n
 
 -- when 10 is due: no lower number applies, and the sum over tanks of max(runs after, share) would pass 512
 pub record Ten (h : House) (t : ℕ) (e : Edit) : Type 0 where

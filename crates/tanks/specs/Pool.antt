@@ -5,6 +5,7 @@ use mathlib.Core.Bool.{true, false}
 use mathlib.Core.List.{List, [], _∷_, map}
 use lib.Dec.{ltb}
 use lib.ListN.{length, getD, set, replicate}
+use Rattle.runs.specs.Positions.{sumBelow}
 use Rattle.styles.specs.Marks.{blank}
 use Rattle.tank.specs.declared.Tank.{Tank}
 use Rattle.tank.specs.Rules.{freshLength}
@@ -40,9 +41,8 @@ laid p at f zero = p
 laid p at f (suc n) = set (laid p at f n) (at + n) (f n)
 
 -- how many runs the tanks below t hold: where tank t's begin
-unfoldable pub runsBelow : List Head → ℕ → ℕ
-runsBelow hs zero = 0
-runsBelow hs (suc t) = runsBelow hs t + runsIn hs t
+abbrev pub runsBelow : List Head → ℕ → ℕ
+runsBelow hs t = sumBelow (runsIn hs) t
 
 -- tank t on its own: its head, its runs' lengths and sets with zeros behind them, and its marks
 unfoldable pub tankIn : List Head → List Run → Table → ℕ → Tank

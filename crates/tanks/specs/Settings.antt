@@ -1,10 +1,11 @@
 -- Document 01, "Numbers" and refusals 2, 9 and 10: eight pairs of share and limit, the rule that they keep, and the judgement by how many
 -- runs each tank holds.
-use Prim.Native.Nat.{ℕ, zero, suc, _+_, max}
+use Prim.Native.Nat.{ℕ, zero, suc, max}
 use mathlib.Core.Bool.{Bool, true, cond, _&&_}
 use mathlib.Core.List.{List}
 use lib.Dec.{ltb, leb, eqb}
 use lib.ListN.{getD}
+use Rattle.runs.specs.Positions.{sumBelow}
 use Rattle.tanks.specs.declared.Setting.{Setting}
 
 -- what stands where there is no pair
@@ -30,19 +31,21 @@ allKeepRule st zero = true
 allKeepRule st (suc n) = allKeepRule st n && keepsRule (getD st n noSetting)
 
 -- the sum of the first n shares
-unfoldable pub shares : List Setting → ℕ → ℕ
-shares st zero = 0
-shares st (suc n) = shares st n + shareOf st n
+abbrev pub shares : List Setting → ℕ → ℕ
+shares st n = sumBelow (shareOf st) n
 
 -- eight pairs that keep it, the shares summing to at most 512
 unfoldable pub accepted : List Setting → Bool
 accepted st = allKeepRule st 8 && leb (shares st 8) 512
 
 -- ---- Refusals 9 and 10, by how many runs each tank holds
--- the sum over the first n tanks of max(runs, share)
-unfoldable pub claims : List Setting → (ℕ → ℕ) → ℕ → ℕ
-claims st held zero = 0
-claims st held (suc n) = claims st held n + max (held n) (shareOf st n)
+-- what tank u claims: max(runs, share)
+abbrev pub claim : List Setting → (ℕ → ℕ) → ℕ → ℕ
+claim st held u = max (held u) (shareOf st u)
+
+-- the sum over the first n tanks
+abbrev pub claims : List Setting → (ℕ → ℕ) → ℕ → ℕ
+claims st held n = sumBelow (claim st held) n
 
 -- tank t comes to hold n runs, the others hold what they held
 abbrev pub heldAfter : (ℕ → ℕ) → ℕ → ℕ → ℕ → ℕ

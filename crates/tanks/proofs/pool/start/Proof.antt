@@ -3,8 +3,10 @@ use borrow.Author.Needs.{needs}
 use native.Mathlib.Omega.{arith}
 use Prim.Native.Nat.{_-_, _≤_}
 use mathlib.Core.Path.{_≡_, refl}
-use Rattle.tanks.specs.Pool.{runsBelow}
-use Rattle.tanks.proofs.LaidLaws.{below-more, below-next}
+use Rattle.runs.specs.Positions.{sumBelow}
+use Rattle.runs.proofs.SumLaws.{sum-more}
+use Rattle.tanks.specs.Pool.{runsIn, runsBelow}
+use Rattle.tanks.proofs.LaidLaws.{below-next}
 use Rattle.tanks.proofs.pool.start.Statement.{statement}
 use Rattle.tanks.proofs.pool.start.Tie as tie
 use Rattle.tanks.proofs.pool.start.Reads as reads
@@ -17,7 +19,7 @@ abbrev μ-loop : tie.MeasureT-loop
 μ-loop t heads at₀ u₀ at u = t - u
 
 loop-holds : tie.Need-loop-holds Inv-loop μ-loop
-unfolding runsBelow
+unfolding sumBelow
 loop-holds c = (omega arith, refl)
 
 mul-at : tie.Need-mul-at Inv-loop μ-loop
@@ -36,7 +38,7 @@ loop-less : tie.Need-loop-less Inv-loop μ-loop
 loop-less c = search needs
 
 loop-again : tie.Need-loop-again Inv-loop μ-loop
-loop-again c = omega (arith, below-more (c .before .before .args .t1) (c .before .loop .u))
+loop-again c = omega (arith, sum-more (runsIn (c .before .before .args .t1)) (c .before .loop .u))
 
 returns : tie.Need-returns Inv-loop μ-loop
 returns c = let e : c .before .loop .u ≡ c .before .before .args .t = omega arith in rw (← e) (c .before .loop .inv .1)

@@ -6,9 +6,10 @@ use mathlib.Core.Path.{_≡_, refl, sym, _∙_}
 use mathlib.Core.Bool.{true}
 use lib.ListN.{getD}
 use borrow.Author.Tests.{not-true, not-false}
-use Rattle.tanks.specs.Settings.{noSetting, keepsRule, allKeepRule, shares}
-use Rattle.tanks.specs.Pool.{runsBelow}
-use Rattle.tanks.proofs.SettingLaws.{keeps-facts, all-keep-grown, accepts-not, accepts-last, shares-more}
+use Rattle.tanks.specs.Settings.{noSetting, shareOf, keepsRule, allKeepRule, shares}
+use Rattle.runs.specs.Positions.{sumBelow}
+use Rattle.runs.proofs.SumLaws.{sum-more}
+use Rattle.tanks.proofs.SettingLaws.{keeps-facts, all-keep-grown, accepts-not, accepts-last}
 use Rattle.tanks.proofs.settings.accepts.Statement.{statement}
 use Rattle.tanks.proofs.settings.accepts.Tie as tie
 use Rattle.tanks.proofs.settings.accepts.Reads as reads
@@ -22,7 +23,7 @@ abbrev μ-loop : tie.MeasureT-loop
 μ-loop settings sum₀ u₀ sum u = 8 - u
 
 loop-holds : tie.Need-loop-holds Inv-loop μ-loop
-unfolding shares allKeepRule
+unfolding sumBelow allKeepRule
 loop-holds c = (omega arith, refl, omega arith, refl)
 
 mul-s : tie.Need-mul-s Inv-loop μ-loop
@@ -52,7 +53,7 @@ loop-again c =
     let l = c .before .before .before .before .before .loop in
     let ok : keepsRule (getD st (l .u) noSetting) ≡ true = sym (c .before .before .keeps-rule .ensures) ∙ not-false (c .before .before .keeps-rule .result) (c .before .if1 .left) in
     let f = keeps-facts (getD st (l .u) noSetting) ok in
-    (omega arith, omega (arith, shares-more st (l .u)), omega (arith, f), all-keep-grown st (l .u) (l .inv .3) ok)
+    (omega arith, omega (arith, sum-more (shareOf st) (l .u)), omega (arith, f), all-keep-grown st (l .u) (l .inv .3) ok)
 
 returns-2 : tie.Need-returns-2 Inv-loop μ-loop
 returns-2 c = accepts-last (c .before .before .args .t1) (c .before .loop .sum) (c .before .loop .u) (omega arith) (c .before .loop .inv .1) (c .before .loop .inv .3)

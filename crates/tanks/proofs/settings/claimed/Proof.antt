@@ -5,9 +5,11 @@ use Prim.Native.Nat.{ℕ, _-_, _≤_, max}
 use mathlib.Core.Path.{_≡_, refl, ap, _∙_}
 use mathlib.Core.Bool.{cond}
 use lib.Dec.{eqb}
-use Rattle.tanks.specs.Settings.{shareOf, claims, heldAfter}
+use Rattle.runs.specs.Positions.{sumBelow}
+use Rattle.runs.proofs.SumLaws.{sum-more}
+use Rattle.tanks.specs.Settings.{shareOf, claim, claims, heldAfter}
 use Rattle.tanks.specs.Pool.{runsIn, runsBelow}
-use Rattle.tanks.proofs.SettingLaws.{claims-more, small-more}
+use Rattle.tanks.proofs.SettingLaws.{small-more}
 use Rattle.tanks.proofs.settings.claimed.Statement.{statement}
 use Rattle.tanks.proofs.settings.claimed.Tie as tie
 use Rattle.tanks.proofs.settings.claimed.Reads as reads
@@ -33,7 +35,7 @@ counted c =
     c .larger .ensures ∙ ap (λ (y : ℕ). max y (shareOf (a .t1) (l .u))) w
 
 loop-holds : tie.Need-loop-holds Inv-loop μ-loop
-unfolding claims
+unfolding sumBelow
 loop-holds c = (omega arith, refl)
 
 mul-wide : tie.Need-mul-wide Inv-loop μ-loop
@@ -67,7 +69,7 @@ loop-less : tie.Need-loop-less Inv-loop μ-loop
 loop-less c = search needs
 
 loop-again : tie.Need-loop-again Inv-loop μ-loop
-loop-again c = let a = c .before .before .before .before .before .args in let l = c .before .before .before .before .loop in omega (arith, counted c, claims-more (a .t1) (heldAfter (runsIn (a .t2)) (a .t) (a .n)) (l .u))
+loop-again c = let a = c .before .before .before .before .before .args in let l = c .before .before .before .before .loop in omega (arith, counted c, sum-more (claim (a .t1) (heldAfter (runsIn (a .t2)) (a .t) (a .n))) (l .u))
 
 returns : tie.Need-returns Inv-loop μ-loop
 returns c = let e : c .before .loop .u ≡ 8 = omega arith in rw (← e) (c .before .loop .inv .1)
