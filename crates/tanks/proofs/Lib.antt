@@ -1,4 +1,5 @@
 pub mod LaidLaws
+pub mod SliceLaws
 pub mod SettingLaws
 pub mod Put
 pub mod PutLaws

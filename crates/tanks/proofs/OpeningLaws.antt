@@ -1,10 +1,11 @@
 -- A fresh state: eight fresh tanks, sound.
-use Prim.Native.Nat.{ℕ, zero, suc, _+_, _≤_, _<_}
+use Prim.Native.Nat.{ℕ, zero, suc, _+_, _-_, _≤_, _<_}
 use mathlib.Core.Path.{_≡_, refl, sym, ap, _∙_, subst}
 use mathlib.Core.Bool.{true, false}
-use mathlib.Core.List.{List}
+use mathlib.Core.List.{List, [], _∷_, map}
 use native.Mathlib.Omega.{arith}
-use lib.ListN.{length, getD, set, replicate, getD-replicate}
+use lib.ListN.{length, take, set, replicate, getD-replicate, List·getD-append}
+use lib.Seq.{drop-cons, getD-append-add}
 use Rattle.styles.specs.Marks.{blank}
 use Rattle.runs.specs.Runs.{Spare}
 use Rattle.runs.specs.Positions.{sumBelow}
@@ -20,9 +21,9 @@ use Rattle.tanks.specs.declared.Run as pool
 use Rattle.tanks.specs.declared.Table.{Table}
 use Rattle.tanks.specs.Settings.{accepted, allKeepRule, shareOf, shares, claim, claims}
 use Rattle.tanks.specs.House.{smallest, openNumber, opening}
-use Rattle.tanks.specs.Pool.{noHead, noRun, noTable, runsIn, laid, runsBelow, tankIn, tankOf, headOf, tableIn, meaning, Sound, freshly}
+use Rattle.tanks.specs.Pool.{noHead, noRun, noTable, runsIn, runsBelow, ownRuns, padded, tankIn, tankOf, headOf, tableIn, meaning, Sound, freshly}
 use Rattle.tanks.specs.Contracts.{Opens}
-use Rattle.tanks.proofs.LaidLaws.{length-laid, laid-front, laid-out, blank-at}
+use Rattle.tanks.proofs.LaidLaws.{blank-at}
 use Rattle.tanks.proofs.PutLaws.{tank-eq}
 use Rattle.tanks.proofs.SettingLaws.{accepted-at, accepted-sum}
 use Rattle.tanks.proofs.MeaningLaws.{views-are}
@@ -52,14 +53,17 @@ unfolding Spare
 fresh-is = tank.fresh-sound (replicate 514 0) (replicate 514 0) (λ i h. (blank-at 514 i 0, blank-at 514 i 0)) refl refl (replicate 64 blank) refl (λ i. blank-at 64 i blank)
 
 module _ (st : List Setting) where
-  run-fresh : (u : ℕ) → u < 8 → getD (freshly st .pool) (runsBelow eight u + 0) noRun ≡ record { len = T; set = 0 }
+  -- each tank's one run
+  own-fresh : (u : ℕ) → u < 8 → ownRuns eight (freshly st .pool) u ≡ record { len = T; set = 0 } ∷ []
   unfolding freshly
-  run-fresh u h =
-      let e : runsBelow eight u + 0 ≡ u = omega (arith, below-one u (omega arith)) in
-      rw e (laid-front (replicate 512 noRun) (λ _. record { len = T; set = 0 }) 8 u noRun (omega arith) h)
+  own-fresh u h =
+      let first : List pool.Run = replicate 8 (record { len = T; set = 0 }) in
+      rw (runs-one u h, below-one u (omega arith))
+      (ap (take 1) (drop-cons (freshly st .pool) u noRun (omega arith))
+      ∙ ap (λ (r : pool.Run). r ∷ []) (List·getD-append first (replicate 504 noRun) noRun u h ∙ getD-replicate 8 u (record { len = T; set = 0 }) noRun h))
 
   pub tank-fresh : (u : ℕ) → u < 8 → tankOf (freshly st) u ≡ fresh
-  unfolding tankOf tankIn freshly laid eight
+  unfolding tankOf tankIn freshly eight
   tank-fresh u h =
       let e = getD-replicate 8 u (headOf fresh) noHead h in
       tank-eq (tankOf (freshly st) u) fresh
@@ -67,8 +71,8 @@ module _ (st : List Setting) where
       (ap (λ (x : Head). x .length) e)
       (ap (λ (x : Head). x .runs) e)
       (ap (λ (x : Head). x .marks) e)
-      (rw (runs-one u h) (ap (λ (r : pool.Run). set (replicate 514 0) 0 (r .len)) (run-fresh u h)))
-      (rw (runs-one u h) (ap (λ (r : pool.Run). set (replicate 514 0) 0 (r .set)) (run-fresh u h)))
+      (ap (λ (rs : List pool.Run). padded (map (λ (r : pool.Run). r .len) rs)) (own-fresh u h))
+      (ap (λ (rs : List pool.Run). padded (map (λ (r : pool.Run). r .set) rs)) (own-fresh u h))
       (ap (λ (m : Table). m .marks) (getD-replicate 8 u (tableIn fresh) noTable h))
 
   pub means-fresh : meaning (freshly st) .tanks ≡ replicate 8 freshView
@@ -87,12 +91,14 @@ module _ (st : List Setting) where
       settings-8 = l;
       heads-8 = refl;
       tables-8 = refl;
-      pool-512 = length-laid (replicate 512 noRun) 0 (λ _. record { len = T; set = 0 }) 8;
+      pool-512 = refl;
       rule = ok;
       limits = λ u h. omega (arith, runs-one u h, accepted-at st ok u h);
       sum = omega (arith, claims-one, accepted-sum st ok);
       each = λ u h. subst Formed (sym (tank-fresh u h)) (fresh-is .0 .formed);
-      spare = λ k h. laid-out (replicate 512 noRun) 0 (λ _. record { len = T; set = 0 }) 8 k noRun (λ j g e. omega (arith, below-one 8 (omega arith))) ∙ blank-at 512 k noRun;
+      spare = λ k h.
+          let e : 8 + (k - 8) ≡ k = omega (arith, below-one 8 (omega arith)) in
+          (rw e at (getD-append-add (replicate 8 (record { len = T; set = 0 })) (replicate 504 noRun) (k - 8) noRun)) ∙ blank-at 504 (k - 8) noRun;
     }
 
     pub opens : Opens st (record { number = 0; tanks = freshly st })

@@ -8,7 +8,8 @@ use Rattle.tank.specs.declared.Tank.{Tank}
 use Rattle.tanks.specs.declared.Run.{Run}
 use Rattle.tanks.specs.declared.Spots.{Spots}
 use Rattle.tanks.specs.declared.Tanks.{Tanks}
-use Rattle.tanks.specs.Pool.{noRun, laid, headOf, tableIn, spotsOf}
+use Rattle.tanks.specs.Pool.{noRun, headOf, tableIn, spotsOf}
+use Rattle.tanks.proofs.LaidLaws.{laid}
 
 -- a tank's k-th run
 abbrev pub runOf : List ℕ → List ℕ → ℕ → Run

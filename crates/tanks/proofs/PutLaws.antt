@@ -2,11 +2,11 @@
 use Prim.Native.Nat.{ℕ, _+_, _-_, _≤_, _<_, max}
 use mathlib.Core.Path.{_≡_, sym, ap, _∙_}
 use mathlib.Core.Logic.{_≢_}
-use mathlib.Core.List.{List}
+use mathlib.Core.List.{List, map}
 use native.Mathlib.Omega.{arith}
 use borrow.Author.Tests.{lt-ltb, le-ltb}
 use native.Mathlib.Decide.{decLt}
-use lib.ListN.{length, getD, set, replicate}
+use lib.ListN.{length, getD, set, List·getD-eq-default}
 use lib.Seq.{getD-set-same, getD-set-other, ext-getD}
 use Rattle.tanks.specs.declared.Head.{Head}
 use Rattle.tanks.specs.declared.Run.{Run}
@@ -15,10 +15,11 @@ use Rattle.tanks.specs.declared.Table.{Table}
 use Rattle.tanks.specs.declared.Tanks.{Tanks}
 use Rattle.runs.specs.Runs.{Spare}
 use Rattle.tank.specs.State.{Formed}
-use Rattle.tanks.specs.Pool.{noRun, noHead, noTable, runsIn, laid, runsBelow, tankIn, tankOf, headOf, tableIn, Sound}
+use Rattle.tanks.specs.Pool.{noRun, noHead, noTable, runsIn, runsBelow, ownRuns, padded, tankIn, tankOf, headOf, tableIn, Sound}
 use Rattle.tanks.proofs.Put.{runOf, runFrom, puts}
-use Rattle.tanks.proofs.SettingLaws.{sound-held}
-use Rattle.tanks.proofs.LaidLaws.{length-laid, laid-out, laid-in, laid-front, laid-cong, blank-at, below-next, below-same, below-later}
+use Rattle.tanks.proofs.SettingLaws.{sound-held, sound-place}
+use Rattle.tanks.proofs.LaidLaws.{laid, length-laid, laid-out, laid-in, below-next, below-same, below-later}
+use Rattle.tanks.proofs.SliceLaws.{length-padded, padded-at, lens-at, sets-at, own-at, length-own, length-own-map}
 
 -- two tanks with equal fields are equal
 pub tank-eq : (x y : Tank) → x .touched ≡ y .touched → x .length ≡ y .length → x .runs ≡ y .runs → x .marks ≡ y .marks → x .lens ≡ y .lens → x .sets ≡ y .sets → x .table ≡ y .table → x ≡ y
@@ -126,40 +127,59 @@ module _ (s : Tanks) (t : ℕ) (x : Tank) (ok : Sound s) (t8 : t < 8) (formed : 
             ∙ ap (λ (z : ℕ). getD (s .pool) z noRun) i)
       ]
 
+  -- every tank's runs stand within the pool
+  put-inside : (u : ℕ) → u < 8 → runsBelow (puts s t x .heads) u + runsIn (puts s t x .heads) u ≤ length (puts s t x .pool)
+  unfolding puts
+  put-inside u h = omega (arith, put-length, room, below-next (set (s .heads) t (headOf x)) u 8 h)
+
   -- an array of x is its part below the runs, and zeros
-  array : (xs : List ℕ) (f : ℕ → ℕ) → length xs ≡ 514 → x .runs ≤ 514 → ((k : ℕ) → k < x .runs → f k ≡ getD xs k 0) → ((k : ℕ) → x .runs ≤ k → getD xs k 0 ≡ 0)
-      → laid (replicate 514 0) 0 f (x .runs) ≡ xs
-  array xs f l r eq spare =
-      ext-getD 0 (laid (replicate 514 0) 0 f (x .runs)) xs (length-laid (replicate 514 0) 0 f (x .runs) ∙ sym l)
+  array : (ns xs : List ℕ) → length ns ≡ x .runs → length xs ≡ 514 → ((k : ℕ) → k < x .runs → getD (padded ns) k 0 ≡ getD xs k 0) → ((k : ℕ) → x .runs ≤ k → getD xs k 0 ≡ 0)
+      → padded ns ≡ xs
+  array ns xs n l eq spare =
+      ext-getD 0 (padded ns) xs (length-padded ns (omega (arith, fits)) ∙ sym l)
       (λ k _. elim (decLt k (x .runs)) [
-        | yes h ↦ laid-front (replicate 514 0) f (x .runs) k 0 r h ∙ eq k h
-        | no h ↦ laid-out (replicate 514 0) 0 f (x .runs) k 0 (λ j g i. omega arith) ∙ blank-at 514 k 0 ∙ sym (spare k (omega arith))
+        | yes h ↦ eq k h
+        | no h ↦ padded-at ns k ∙ List·getD-eq-default ns 0 (omega arith) ∙ sym (spare k (omega arith))
       ])
 
   pub put-same : tankOf (puts s t x) t ≡ x
   unfolding tankOf tankIn puts Spare
   put-same =
+      let heads = puts s t x .heads in
+      let pool = puts s t x .pool in
       let r : runsIn (set (s .heads) t (headOf x)) t ≡ x .runs = ap (λ (h : Head). h .runs) head-same in
-      let few : x .runs ≤ 514 = omega (arith, fits) in
       tank-eq (tankOf (puts s t x) t) x
       (ap (λ (h : Head). h .touched) head-same)
       (ap (λ (h : Head). h .length) head-same)
       r
       (ap (λ (h : Head). h .marks) head-same)
-      (rw r (array (x .lens) (λ k. getD (puts s t x .pool) (runsBelow (puts s t x .heads) t + k) noRun .len) (formed .laid .lens-514) few (λ k h. ap (λ (r : Run). r .len) (put-run k h)) (λ k h. formed .laid .spare k h .0)))
-      (rw r (array (x .sets) (λ k. getD (puts s t x .pool) (runsBelow (puts s t x .heads) t + k) noRun .set) (formed .laid .sets-514) few (λ k h. ap (λ (r : Run). r .set) (put-run k h)) (λ k h. formed .laid .spare k h .1)))
+      (array (map (λ (r : Run). r .len) (ownRuns heads pool t)) (x .lens) (length-own-map heads pool t (put-inside t t8) (λ (r : Run). r .len) ∙ r) (formed .laid .lens-514)
+      (λ k h. lens-at heads pool t k (omega (arith, r)) ∙ ap (λ (r : Run). r .len) (put-run k h)) (λ k h. formed .laid .spare k h .0))
+      (array (map (λ (r : Run). r .set) (ownRuns heads pool t)) (x .sets) (length-own-map heads pool t (put-inside t t8) (λ (r : Run). r .set) ∙ r) (formed .laid .sets-514)
+      (λ k h. sets-at heads pool t k (omega (arith, r)) ∙ ap (λ (r : Run). r .set) (put-run k h)) (λ k h. formed .laid .spare k h .1))
       (ap (λ (m : Table). m .marks) (getD-set-same (s .tables) t (tableIn x) noTable (omega (arith, ok .tables-8))))
+
+  own-other : (u : ℕ) → u ≢ t → u < 8 → ownRuns (puts s t x .heads) (puts s t x .pool) u ≡ ownRuns (s .heads) (s .pool) u
+  unfolding puts
+  own-other u ne u8 =
+      let heads = puts s t x .heads in
+      let pool = puts s t x .pool in
+      let r : runsIn heads u ≡ runsIn (s .heads) u = ap (λ (h : Head). h .runs) (getD-set-other (s .heads) t u (headOf x) noHead ne) in
+      let n = length-own heads pool u (put-inside u u8) in
+      ext-getD noRun (ownRuns heads pool u) (ownRuns (s .heads) (s .pool) u)
+      (n ∙ r ∙ sym (length-own (s .heads) (s .pool) u (omega (arith, ok .pool-512, sound-place s ok u u8))))
+      (λ k h.
+      own-at heads pool u k (omega (arith, n)) ∙ moved u ne u8 k (omega (arith, n, r)) ∙ sym (own-at (s .heads) (s .pool) u k (omega (arith, n, r))))
 
   pub put-other : (u : ℕ) → u ≢ t → u < 8 → tankOf (puts s t x) u ≡ tankOf s u
   unfolding tankOf tankIn puts
   put-other u ne u8 =
       let e : getD (set (s .heads) t (headOf x)) u noHead ≡ getD (s .heads) u noHead = getD-set-other (s .heads) t u (headOf x) noHead ne in
-      let r : runsIn (set (s .heads) t (headOf x)) u ≡ runsIn (s .heads) u = ap (λ (h : Head). h .runs) e in
       tank-eq (tankOf (puts s t x) u) (tankOf s u)
       (ap (λ (h : Head). h .touched) e)
       (ap (λ (h : Head). h .length) e)
-      r
+      (ap (λ (h : Head). h .runs) e)
       (ap (λ (h : Head). h .marks) e)
-      (rw r (laid-cong (replicate 514 0) 0 _ _ (runsIn (s .heads) u) (λ k h. ap (λ (r : Run). r .len) (moved u ne u8 k h))))
-      (rw r (laid-cong (replicate 514 0) 0 _ _ (runsIn (s .heads) u) (λ k h. ap (λ (r : Run). r .set) (moved u ne u8 k h))))
+      (ap (λ (rs : List Run). padded (map (λ (r : Run). r .len) rs)) (own-other u ne u8))
+      (ap (λ (rs : List Run). padded (map (λ (r : Run). r .set) rs)) (own-other u ne u8))
       (ap (λ (m : Table). m .marks) (getD-set-other (s .tables) t u (tableIn x) noTable ne))

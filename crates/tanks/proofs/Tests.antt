@@ -1,4 +1,4 @@
--- Closed examples of the settings' rule, of the judgement (example 12 of document 01), and of numbers beside answers.
+-- Closed examples of the settings' rule, of the judgement (example 12 of document 01), of tanks packed, and of numbers beside answers.
 use Prim.Native.Nat.{ℕ}
 use mathlib.Core.Path.{_≡_, refl}
 use mathlib.Core.Bool.{true, false}
@@ -7,10 +7,13 @@ use lib.ListN.{replicate, getD, set}
 use Rattle.runs.specs.Positions.{sumBelow}
 use Rattle.tank.specs.Rules.{deleting}
 use Rattle.tanks.specs.declared.Setting.{Setting}
+use Rattle.tanks.specs.declared.Head.{Head}
+use Rattle.tanks.specs.declared.Run.{Run}
 use Rattle.tanks.specs.declared.Count.{Count}
 use Rattle.tanks.specs.declared.YesNo.{YesNo}
 use Rattle.tanks.specs.Settings.{accepted, allKeepRule, claims, judgement}
 use Rattle.tanks.specs.House.{freshHouse, smallest, openNumber, opening, askNumber, refusalAt}
+use Rattle.tanks.specs.Pool.{noRun, noTable, runsBelow, ownRuns, tankIn}
 use Rattle.tanks.specs.Contracts.{counts, says}
 
 abbrev pair : ℕ → ℕ → Setting
@@ -99,6 +102,21 @@ no-tank = refl
 no-tank-wide : refusalAt (freshHouse (replicate 8 (pair 40 200))) 4294967296 (deleting 5 5) ≡ 1
 unfolding refusalAt
 no-tank-wide = refl
+
+-- ---- packed: two runs of tank 0, then one of tank 1
+head : ℕ → Head
+head n = record { touched = true; length = 0; runs = n; marks = 0 }
+
+run : ℕ → ℕ → Run
+run len set = record { len = len; set = set }
+
+own-1 : ownRuns (head 2 ∷ head 1 ∷ []) (run 3 0 ∷ run 4 1 ∷ run 5 2 ∷ noRun ∷ []) 1 ≡ run 5 2 ∷ []
+unfolding head sumBelow
+own-1 = refl
+
+sets-0 : tankIn (head 2 ∷ head 1 ∷ []) (run 3 0 ∷ run 4 1 ∷ run 5 2 ∷ noRun ∷ []) noTable 0 .sets ≡ 0 ∷ 1 ∷ replicate 512 0
+unfolding head run sumBelow tankIn
+sets-0 = refl
 
 -- ---- numbers and values of the answers' cases
 counts-7 : counts (askNumber 7) 5 ≡ Count.Counts 5

@@ -1,10 +1,10 @@
 -- One meaning, one state.
-use Prim.Native.Nat.{ℕ, zero, suc, _+_, _-_, _≤_, _<_}
+use Prim.Native.Nat.{ℕ, zero, suc, _+_, _-_, _<_}
 use mathlib.Core.Path.{_≡_, sym, ap, _∙_}
 use mathlib.Core.List.{List}
 use native.Mathlib.Omega.{arith}
 use native.Mathlib.Decide.{decLt}
-use lib.ListN.{length, getD, set, replicate}
+use lib.ListN.{length, getD}
 use lib.Seq.{ext-getD}
 use Rattle.runs.specs.Positions.{sumBelow}
 use Rattle.tanks.specs.declared.Setting.{Setting}
@@ -25,8 +25,7 @@ use Rattle.tanks.specs.declared.Done.{Done}
 use Rattle.tanks.specs.House.{House, insertedSetAt, removedFirstAt}
 use Rattle.tanks.specs.Pool.{noHead, noRun, noTable, runsIn, runsBelow, tankIn, tankOf, meaning, Sound}
 use Rattle.tanks.specs.Contracts.{Opens, CalledAt, DoneAt, Taken}
-use Rattle.tanks.proofs.LaidLaws.{laid-front}
-use Rattle.tanks.proofs.SettingLaws.{sound-place}
+use Rattle.tanks.proofs.SliceLaws.{lens-at, sets-at}
 use Rattle.tanks.proofs.MeaningLaws.{tank-at}
 use Rattle.tanks.proofs.CallLaws.{after-refused}
 
@@ -74,14 +73,9 @@ module _ (a b : Tanks) (sa : Sound a) (sb : Sound b) (same : (u : ℕ) → u < 8
   unfolding tankOf tankIn
   run-same u h j g =
       let r : runsIn (a .heads) u ≡ runsIn (b .heads) u = ap (λ (x : List Head). runsIn x u) heads-same in
-      let m : runsIn (a .heads) u ≤ 514 = omega (arith, sound-place a sa u h) in
       run-eq (getD (a .pool) (runsBelow (a .heads) u + j) noRun) (getD (b .pool) (runsBelow (b .heads) u + j) noRun)
-      (sym (laid-front (replicate 514 0) (λ k. getD (a .pool) (runsBelow (a .heads) u + k) noRun .len) (runsIn (a .heads) u) j 0 m g)
-      ∙ ap (λ (x : Tank). getD (x .lens) j 0) (same u h)
-      ∙ laid-front (replicate 514 0) (λ k. getD (b .pool) (runsBelow (b .heads) u + k) noRun .len) (runsIn (b .heads) u) j 0 (omega arith) (omega arith))
-      (sym (laid-front (replicate 514 0) (λ k. getD (a .pool) (runsBelow (a .heads) u + k) noRun .set) (runsIn (a .heads) u) j 0 m g)
-      ∙ ap (λ (x : Tank). getD (x .sets) j 0) (same u h)
-      ∙ laid-front (replicate 514 0) (λ k. getD (b .pool) (runsBelow (b .heads) u + k) noRun .set) (runsIn (b .heads) u) j 0 (omega arith) (omega arith))
+      (sym (lens-at (a .heads) (a .pool) u j g) ∙ ap (λ (x : Tank). getD (x .lens) j 0) (same u h) ∙ lens-at (b .heads) (b .pool) u j (omega arith))
+      (sym (sets-at (a .heads) (a .pool) u j g) ∙ ap (λ (x : Tank). getD (x .sets) j 0) (same u h) ∙ sets-at (b .heads) (b .pool) u j (omega arith))
 
   pool-same : a .pool ≡ b .pool
   pool-same =

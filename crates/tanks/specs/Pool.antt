@@ -1,10 +1,10 @@
 -- How eight tanks stand in one state: a head and a table of marks for each, and their runs packed one tank after another.
-use Prim.Native.Nat.{ℕ, zero, suc, _+_, _-_, _≤_, _<_, max}
+use Prim.Native.Nat.{ℕ, _+_, _-_, _≤_, _<_, max}
 use mathlib.Core.Path.{_≡_}
 use mathlib.Core.Bool.{true, false}
-use mathlib.Core.List.{List, [], _∷_, map}
+use mathlib.Core.List.{List, [], _∷_, _++_, map}
 use lib.Dec.{ltb}
-use lib.ListN.{length, getD, set, replicate}
+use lib.ListN.{length, getD, take, drop, replicate}
 use Rattle.runs.specs.Positions.{sumBelow}
 use Rattle.styles.specs.Marks.{blank}
 use Rattle.tank.specs.declared.Tank.{Tank}
@@ -35,14 +35,17 @@ noTable = record { marks = [] }
 abbrev pub runsIn : List Head → ℕ → ℕ
 runsIn hs t = getD hs t noHead .runs
 
--- p with f 0, .., f (n - 1) written from the place `at` on
-unfoldable pub laid {ℓ} : {A : Type ℓ} → List A → ℕ → (ℕ → A) → ℕ → List A
-laid p at f zero = p
-laid p at f (suc n) = set (laid p at f n) (at + n) (f n)
-
 -- how many runs the tanks below t hold: where tank t's begin
 abbrev pub runsBelow : List Head → ℕ → ℕ
 runsBelow hs t = sumBelow (runsIn hs) t
+
+-- the runs of tank t in the pool
+abbrev pub ownRuns : List Head → List Run → ℕ → List Run
+ownRuns hs pool t = take (runsIn hs t) (drop (runsBelow hs t) pool)
+
+-- numbers with zeros behind them, 514 in all
+abbrev pub padded : List ℕ → List ℕ
+padded ns = ns ++ replicate (514 - length ns) 0
 
 -- tank t on its own: its head, its runs' lengths and sets with zeros behind them, and its marks
 unfoldable pub tankIn : List Head → List Run → Table → ℕ → Tank
@@ -51,8 +54,8 @@ tankIn hs pool table t = record {
   length = getD hs t noHead .length;
   runs = runsIn hs t;
   marks = getD hs t noHead .marks;
-  lens = laid (replicate 514 0) 0 (λ k. getD pool (runsBelow hs t + k) noRun .len) (runsIn hs t);
-  sets = laid (replicate 514 0) 0 (λ k. getD pool (runsBelow hs t + k) noRun .set) (runsIn hs t);
+  lens = padded (map (λ r. r .len) (ownRuns hs pool t));
+  sets = padded (map (λ r. r .set) (ownRuns hs pool t));
   table = table .marks;
 }
 
@@ -107,5 +110,5 @@ freshly st = record {
   settings = st;
   heads = replicate 8 (record { touched = false; length = freshLength; runs = 1; marks = 0 });
   tables = replicate 8 (record { marks = replicate 64 blank });
-  pool = laid (replicate 512 noRun) 0 (λ _. record { len = freshLength; set = 0 }) 8;
+  pool = replicate 8 (record { len = freshLength; set = 0 }) ++ replicate 504 noRun;
 }

@@ -3,8 +3,10 @@ use borrow.Author.Needs.{needs}
 use native.Mathlib.Omega.{arith}
 use Prim.Native.Nat.{_-_, _≤_}
 use mathlib.Core.Path.{_≡_, refl}
-use Rattle.tanks.specs.Pool.{laid, freshly}
-use Rattle.tanks.proofs.LaidLaws.{laid-more-front}
+use mathlib.Core.List.{_++_}
+use lib.ListN.{replicate}
+use Rattle.tanks.specs.Pool.{noRun, freshly}
+use Rattle.tanks.proofs.LaidLaws.{laid, laid-more-front}
 use Rattle.tanks.proofs.fresh.Statement.{statement}
 use Rattle.tanks.proofs.fresh.Tie as tie
 use Rattle.tanks.proofs.fresh.Reads as reads
@@ -39,9 +41,14 @@ loop-again c = (omega arith, rw (c .before .loop .inv .1) (laid-more-front _ (λ
 blank-requires : tie.Need-blank-requires Inv-loop μ-loop
 blank-requires c κs = search needs
 
+-- after the last turn: eight runs, and blanks
+all-laid : laid (replicate 512 noRun) 0 (λ _. record { len = 4611686018427387903; set = 0 }) 8 ≡ replicate 8 (record { len = 4611686018427387903; set = 0 }) ++ replicate 504 noRun
+unfolding laid
+all-laid = refl
+
 returns : tie.Need-returns Inv-loop μ-loop
 unfolding freshly
-returns c = let e : c .before .before .loop .u ≡ 8 = omega arith in simp (c .before .before .loop .inv .1, e, c .blank .ensures)
+returns c = let e : c .before .before .loop .u ≡ 8 = omega arith in simp (c .before .before .loop .inv .1, e, all-laid, c .blank .ensures)
 
 pub fresh-spec : {M : Type 1} → statement M
 fresh-spec =

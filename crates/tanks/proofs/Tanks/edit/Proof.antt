@@ -5,7 +5,8 @@ use Prim.Native.Nat.{ℕ, _-_, _≤_, _<_}
 use mathlib.Core.Path.{_≡_, refl, sym, ap, _∙_}
 use Rattle.tanks.specs.Settings.{judgement}
 use Rattle.tanks.specs.House.{first}
-use Rattle.tanks.specs.Pool.{runsIn, laid, tankOf}
+use Rattle.tanks.specs.Pool.{runsIn, tankOf}
+use Rattle.tanks.proofs.LaidLaws.{laid}
 use Rattle.tanks.proofs.Put.{runFrom}
 use Rattle.tanks.specs.Contracts.{editOf}
 use Rattle.tanks.proofs.SettingLaws.{sound-held, sound-judged, TakenOut, taken}

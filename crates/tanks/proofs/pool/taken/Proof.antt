@@ -3,9 +3,11 @@ use borrow.Author.Needs.{needs}
 use native.Mathlib.Omega.{arith}
 use Prim.Native.Nat.{_+_, _-_, _≤_}
 use mathlib.Core.Path.{_≡_, refl, _∙_}
-use lib.ListN.{getD, set, replicate}
-use Rattle.tanks.specs.Pool.{noRun, runsIn, laid, runsBelow, tankIn}
-use Rattle.tanks.proofs.LaidLaws.{laid-more-front, below-next}
+use lib.ListN.{length, getD, replicate}
+use Rattle.tanks.specs.declared.Run.{Run}
+use Rattle.tanks.specs.Pool.{noRun, runsIn, runsBelow, tankIn}
+use Rattle.tanks.proofs.LaidLaws.{laid, laid-more-front, below-next}
+use Rattle.tanks.proofs.SliceLaws.{own-laid}
 use Rattle.tanks.proofs.PutLaws.{tank-eq}
 use Rattle.tanks.proofs.pool.taken.Statement.{statement}
 use Rattle.tanks.proofs.pool.taken.Tie as tie
@@ -73,11 +75,17 @@ unfolding tankIn
 returns c =
     let a = c .before .before .before .before .before in
     let l = c .before .loop in
-    let e : l .i ≡ runsIn (a .args .t1) (a .args .t) = omega arith in
+    let hs = a .args .t1 in
+    let pool = a .args .t2 in
+    let t = a .args .t in
+    let e : l .i ≡ runsIn hs t = omega arith in
     let s = c .before .before .before .before .start .ensures in
-    tank-eq _ (tankIn (a .args .t1) (a .args .t2) (a .args .table) (a .args .t)) refl refl refl refl
-    (l .inv .2 ∙ (λ j. laid (replicate 514 0) 0 (λ k. getD (a .args .t2) (s j + k) noRun .len) (e j)))
-    (l .inv .3 ∙ (λ j. laid (replicate 514 0) 0 (λ k. getD (a .args .t2) (s j + k) noRun .set) (e j)))
+    let long : length pool ≡ 512 = a .good .1 .0 .1 .0 .1 in
+    let inside : runsBelow hs t + runsIn hs t ≤ length pool = omega (arith, below-next hs t 8 (a .pre .0), a .pre .1, long) in
+    let few : runsIn hs t ≤ 514 = omega (arith, inside, long) in
+    tank-eq _ (tankIn hs pool (a .args .table) t) refl refl refl refl
+    (l .inv .2 ∙ (λ j. laid (replicate 514 0) 0 (λ k. getD pool (s j + k) noRun .len) (e j)) ∙ own-laid hs pool t inside (λ (r : Run). r .len) few)
+    (l .inv .3 ∙ (λ j. laid (replicate 514 0) 0 (λ k. getD pool (s j + k) noRun .set) (e j)) ∙ own-laid hs pool t inside (λ (r : Run). r .set) few)
     refl
 
 pub taken-spec : {M : Type 1} → statement M

@@ -1,0 +1,55 @@
+-- The laws of `ownRuns` and `padded`: a tank's runs and its arrays, place by place.
+use Prim.Native.Nat.{ℕ, _+_, _-_, _≤_, _<_}
+use mathlib.Core.Path.{_≡_, sym, ap, _∙_}
+use mathlib.Core.List.{List, _++_, map}
+use native.Mathlib.Omega.{arith}
+use native.Mathlib.Decide.{decLt}
+use lib.ListN.{length, getD, drop, replicate, length-append, length-drop, length-replicate, length-map, List·getD-append, List·getD-eq-default, List·getD-map}
+use lib.Seq.{length-take-le, getD-append-add, getD-take, getD-drop}
+use Rattle.tanks.specs.declared.Head.{Head}
+use Rattle.tanks.specs.declared.Run.{Run}
+use Rattle.tanks.specs.Pool.{noRun, runsIn, runsBelow, ownRuns, padded}
+use Rattle.tanks.proofs.LaidLaws.{laid, laid-blanks, blank-at}
+
+pub length-padded : (ns : List ℕ) → length ns ≤ 514 → length (padded ns) ≡ 514
+length-padded ns h = omega (arith, length-append ns (replicate (514 - length ns) 0), length-replicate {A = ℕ} (514 - length ns) 0)
+
+-- zeros stand behind a list either way
+pub padded-at : (ns : List ℕ) (k : ℕ) → getD (padded ns) k 0 ≡ getD ns k 0
+padded-at ns k =
+    elim (decLt k (length ns)) [
+      | yes h ↦ List·getD-append ns (replicate (514 - length ns) 0) 0 k h
+      | no h ↦
+          let e : length ns + (k - length ns) ≡ k = omega arith in
+          (rw e at (getD-append-add ns (replicate (514 - length ns) 0) (k - length ns) 0)) ∙ blank-at (514 - length ns) (k - length ns) 0
+          ∙ sym (List·getD-eq-default ns 0 (omega arith))
+    ]
+
+module _ (hs : List Head) (pool : List Run) (t : ℕ) where
+  pub own-at : (k : ℕ) → k < runsIn hs t → getD (ownRuns hs pool t) k noRun ≡ getD pool (runsBelow hs t + k) noRun
+  own-at k h = getD-take (runsIn hs t) (drop (runsBelow hs t) pool) k noRun h ∙ getD-drop (runsBelow hs t) pool k noRun
+
+  -- a number of each run
+  map-at : (f : Run → ℕ) (k : ℕ) → k < runsIn hs t → getD (map f (ownRuns hs pool t)) k (f noRun) ≡ f (getD pool (runsBelow hs t + k) noRun)
+  map-at f k h = List·getD-map f (ownRuns hs pool t) k noRun ∙ ap f (own-at k h)
+
+  -- a tank's arrays
+  pub lens-at : (k : ℕ) → k < runsIn hs t → getD (padded (map (λ r. r .len) (ownRuns hs pool t))) k 0 ≡ getD pool (runsBelow hs t + k) noRun .len
+  lens-at k h = padded-at (map (λ r. r .len) (ownRuns hs pool t)) k ∙ map-at (λ r. r .len) k h
+
+  pub sets-at : (k : ℕ) → k < runsIn hs t → getD (padded (map (λ r. r .set) (ownRuns hs pool t))) k 0 ≡ getD pool (runsBelow hs t + k) noRun .set
+  sets-at k h = padded-at (map (λ r. r .set) (ownRuns hs pool t)) k ∙ map-at (λ r. r .set) k h
+
+  -- of runs that all stand in the pool
+  module _ (inside : runsBelow hs t + runsIn hs t ≤ length pool) where
+    pub length-own : length (ownRuns hs pool t) ≡ runsIn hs t
+    length-own = length-take-le (runsIn hs t) (drop (runsBelow hs t) pool) (omega (arith, length-drop (runsBelow hs t) pool))
+
+    pub length-own-map : (f : Run → ℕ) → length (map f (ownRuns hs pool t)) ≡ runsIn hs t
+    length-own-map f = length-map (ownRuns hs pool t) f ∙ length-own
+
+    -- the slices are what a loop lays run by run
+    pub own-laid : (f : Run → ℕ) → runsIn hs t ≤ 514 → laid (replicate 514 0) 0 (λ k. f (getD pool (runsBelow hs t + k) noRun)) (runsIn hs t) ≡ padded (map f (ownRuns hs pool t))
+    own-laid f h =
+        laid-blanks 514 0 (map f (ownRuns hs pool t)) (λ k. f (getD pool (runsBelow hs t + k) noRun)) (runsIn hs t) (f noRun) (length-own-map f) h (λ k g. sym (map-at f k g))
+        ∙ ap (λ (n : ℕ). map f (ownRuns hs pool t) ++ replicate (514 - n) 0) (sym (length-own-map f))
