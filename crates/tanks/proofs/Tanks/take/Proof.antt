@@ -1,5 +1,7 @@
 -- `Tanks::take` meets its contract: what is taken out is tank t, and every tank of a sound state is sound; a fresh tank where there is none.
 use borrow.Author.Needs.{needs}
+use native.Mathlib.Omega.{arith}
+use Prim.Native.Nat.{_<_}
 use Rattle.tanks.specs.Pool.{tankOf}
 use Rattle.tanks.proofs.SettingLaws.{sound-held, taken}
 use Rattle.tanks.proofs.AnswerLaws.{taken-in, taken-past}
@@ -17,22 +19,20 @@ element-copy-out-taken c = search needs
 
 taken-requires : tie.Need-taken-requires
 taken-requires c κs =
-    let e = c .before .before .before in
-    let a = e .before in
-    (e .if1 .taken, sound-held (a .args .t1) (a .pre))
+    let a = c .before .before .before .before in
+    (omega arith, sound-held (a .args .t1) (a .pre))
 
 returns : tie.Need-returns
 unfolding tankOf
 returns c =
-    let e = c .before .before .before .before in
-    let a = e .before in
-    taken-in (a .args .t1) (a .args .t) (e .if1 .taken) (taken (a .args .t1) (a .pre) (a .args .t) _ (e .if1 .taken) (c .taken .ensures))
+    let a = c .before .before .before .before .before in
+    let h : a .args .t < 8 = omega arith in
+    taken-in (a .args .t1) (a .args .t) h (taken (a .args .t1) (a .pre) (a .args .t) _ h (c .taken .ensures))
 
 returns-2 : tie.Need-returns-2
 returns-2 c =
-    let e = c .before in
-    let a = e .before in
-    taken-past (a .args .t1) (a .args .t) (e .if1 .left) (c .fresh .ensures)
+    let a = c .before .before in
+    taken-past (a .args .t1) (a .args .t) (omega arith) (c .fresh .ensures)
 
 pub take-spec : {M : Type 1} → statement M
 take-spec = tie.close (tie.spec mul-taken element-copy-out-taken taken-requires returns (λ c κs. search needs) returns-2)
