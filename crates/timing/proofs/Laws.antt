@@ -1,12 +1,15 @@
 -- How far a loop has come: the building, the sum, and the house that the edits leave; and small whole numbers.
 use native.Mathlib.Numerals.{add-one}
+use native.Mathlib.Nat.{mod-add-mod}
 use native.Mathlib.Omega.{arith}
 use Prim.Native.Nat.{ℕ, _+_, _%_, _^_, _≤_, _<_}
-use mathlib.Core.Path.{_≡_, refl}
+use mathlib.Core.Path.{_≡_, refl, sym, ap, _∙_}
 use lib.IntN.{pos}
 use mir.Syntax.{w64}
 use mir.Facts.{toZ-pos}
 use mir.Val.{toZ}
+use Rattle.runs.specs.Positions.{sumBelow}
+use Rattle.runs.proofs.SumLaws.{sum-more}
 use Rattle.tank.specs.Rules.{Edit}
 use Rattle.tanks.specs.declared.Tanks.{Tanks}
 use Rattle.tanks.specs.House.{House, afterAt}
@@ -36,12 +39,12 @@ pub record Summed (f : ℕ → ℕ) (n m sum : ℕ) : Type 0 where
   pub is : sum ≡ rules.summed f n
 
 pub summed-none : (f : ℕ → ℕ) (m : ℕ) → Summed f 0 m 0
-unfolding rules.summed
+unfolding sumBelow
 summed-none f m = record { most = omega arith; is = refl }
 
 pub summed-next : {f : ℕ → ℕ} {n m s x r : ℕ} → Summed f n m s → n < m → x ≡ f n → r ≡ (s + x) % 2 ^ 64 → Summed f (n + 1) m r
-unfolding rules.summed
-summed-next s l e w = record { most = omega arith; is = rw add-one (rw (w, s .is, e)) }
+summed-next {f} {n} s l e w =
+    record { most = omega arith; is = rw (w, s .is, e) (mod-add-mod (sumBelow f n) (2 ^ 64) (f n) ∙ ap (λ (k : ℕ). k % 2 ^ 64) (sym (sum-more f n))) }
 
 pub summed-all : {f : ℕ → ℕ} {n m s : ℕ} → Summed f n m s → m ≤ n → s ≡ rules.summed f m
 summed-all {f} {n} {m} s l = let e : n ≡ m = omega (arith, s .most, l) in rw (← e) (s .is)

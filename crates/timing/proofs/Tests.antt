@@ -1,6 +1,7 @@
 -- The definitions on numbers that can be worked out by hand.
 use Prim.Native.Nat.{_+_, _^_}
 use mathlib.Core.Path.{_≡_, refl}
+use Rattle.runs.specs.Positions.{sumBelow}
 use Rattle.tank.specs.Rules.{inserting, removing}
 use Rattle.styles.specs.Order.{idOf}
 use Rattle.timing.specs.Work.{extra, spot, editAt, summed, timed}
@@ -15,7 +16,7 @@ calls = (refl, refl)
 
 -- the sum has 64 bits
 wraps : summed (λ k. 2 ^ 63 + k) 2 ≡ 1
-unfolding summed
+unfolding sumBelow
 wraps = refl
 
 -- there is no work 11

@@ -10,6 +10,7 @@ use Rattle.styles.specs.declared.Mark.{Mark}
 use Rattle.styles.specs.declared.Value.the-variants.{Null, Whole}
 use Rattle.styles.specs.Order.{idOf}
 use Rattle.styles.specs.Values.{sameValue}
+use Rattle.runs.specs.Positions.{sumBelow}
 use Rattle.tank.specs.Rules.{Edit, annotating, inserting, deleting, removing}
 use Rattle.tanks.specs.declared.Setting.{Setting}
 use Rattle.tanks.specs.House.{House, tankAt, smallest, opening, afterAt, insertedSetAt}
@@ -156,9 +157,8 @@ valueScore runs marks h k = ifShown marks (valueAsked (spot runs k + 5) marks h)
 
 -- ---- The sums, in 64 bits
 -- of turns 0 to n - 1
-unfoldable pub summed : (ℕ → ℕ) → ℕ → ℕ
-summed score zero = 0
-summed score (suc n) = (summed score n + score n) % 2 ^ 64
+abbrev pub summed : (ℕ → ℕ) → ℕ → ℕ
+summed score n = sumBelow score n % 2 ^ 64
 
 -- the house after the last of n turns; each of them meets the same house
 unfoldable pub left : (ℕ → Edit) → ℕ → House → House
