@@ -11,8 +11,8 @@ use lib.ListN.{length, getD, length-append}
 use borrow.Author.Tests.{lt-ltb, le-ltb, eq-eqb, ne-eqb, ltb-true, eqb-true, eqb-false}
 use Rattle.io.specs.Digits.{glyph, digits, Fewest}
 use Rattle.text.specs.declared.Parsed.{Parsed}
-use Rattle.text.specs.Number.{digitOf, numberFrom, decimalOf, hexOf, Text, placesFrom, decimalText, hexText}
-use Rattle.text.proofs.Steps.{digit-low, digit-high, glyph-low, glyph-high}
+use Rattle.text.specs.Number.{digitOf, stepOf, followedBy, numberFrom, decimalOf, hexOf, Text, placesFrom, decimalText, hexText}
+use Rattle.text.proofs.Steps.{digit-low, digit-high, glyph-low, glyph-high, good, push-number}
 
 all-of : (b n : ℕ) → n / b ^ 0 ≡ n
 all-of b n = ap (λ (m : ℕ). n / m) (pow-zero b) ∙ div-one n
@@ -37,21 +37,27 @@ pub record Opened (b v c n : ℕ) (cs : List ℕ) : Type 0 where
   pub fits : v * b + digitOf c < 2 ^ 64
   pub rest : numberFrom b (v * b + digitOf c) cs ≡ Parsed.Number n
 
-opened : (t u w : Bool) (n : ℕ) (p : Parsed) → cond t (cond u (cond w p Parsed.Bad) Parsed.Bad) Parsed.Bad ≡ Parsed.Number n → (t ≡ true) × (u ≡ true) × (w ≡ true) × (p ≡ Parsed.Number n)
-opened true true true n p e = (refl, refl, refl, e)
-opened true true false n p e = let z : _≡_ {A = ℕ} 0 1 = cc in absurd (omega arith)
-opened true false w n p e = let z : _≡_ {A = ℕ} 0 1 = cc in absurd (omega arith)
-opened false u w n p e = let z : _≡_ {A = ℕ} 0 1 = cc in absurd (omega arith)
+-- a step that is good passed its three tests
+stepped : (t u w : Bool) (n x : ℕ) → cond t (cond u (cond w (Parsed.Number n) Parsed.Bad) Parsed.Bad) Parsed.Bad ≡ Parsed.Number x → (t ≡ true) × (u ≡ true) × (w ≡ true) × (x ≡ n)
+stepped true true true n x e = (refl, refl, refl, (cc))
+stepped true true false n x e = let z : _≡_ {A = ℕ} 0 1 = cc in absurd (omega arith)
+stepped true false w n x e = let z : _≡_ {A = ℕ} 0 1 = cc in absurd (omega arith)
+stepped false u w n x e = let z : _≡_ {A = ℕ} 0 1 = cc in absurd (omega arith)
+
+-- what is good behind a number follows a number
+followed : (p : Parsed) (more : ℕ → Parsed) (n : ℕ) → followedBy p more ≡ Parsed.Number n → (x : ℕ) × (p ≡ Parsed.Number x) × (more x ≡ Parsed.Number n)
+followed Parsed.Bad more n e = let z : _≡_ {A = ℕ} 0 1 = cc in absurd (omega arith)
+followed (Parsed.Number x) more n e = (x, refl, e)
 
 opens : (b v c n : ℕ) (cs : List ℕ) → numberFrom b v (c ∷ cs) ≡ Parsed.Number n → Opened b v c n cs
-unfolding numberFrom
+unfolding numberFrom stepOf
 opens b v c n cs e =
-    let o = opened (ltb (digitOf c) b) (eqb (glyph (digitOf c)) c) (ltb (v * b + digitOf c) (2 ^ 64)) n (numberFrom b (v * b + digitOf c) cs) e in
-    record { small = ltb-true _ _ (o .0); is-glyph = eqb-true _ _ (o .1); fits = ltb-true _ _ (o .2); rest = o .3 }
+    let f = followed (stepOf b v c) (λ (w : ℕ). numberFrom b w cs) n e in
+    let o = stepped (ltb (digitOf c) b) (eqb (glyph (digitOf c)) c) (ltb (v * b + digitOf c) (2 ^ 64)) (v * b + digitOf c) (f .0) (f .1) in
+    record { small = ltb-true _ _ (o .0); is-glyph = eqb-true _ _ (o .1); fits = ltb-true _ _ (o .2); rest = ap (λ (w : ℕ). numberFrom b w cs) (sym (o .3)) ∙ f .2 }
 
 shuts : (b v c n : ℕ) (cs : List ℕ) → Opened b v c n cs → numberFrom b v (c ∷ cs) ≡ Parsed.Number n
-unfolding numberFrom
-shuts b v c n cs o = simp (lt-ltb _ _ (o .small), eq-eqb _ _ (o .is-glyph), lt-ltb _ _ (o .fits)) (o .rest)
+shuts b v c n cs o = push-number b v c (v * b + digitOf c) cs (sym (good b v c (digitOf c) refl (o .small) (o .is-glyph) (o .fits))) ∙ o .rest
 
 -- the answer's last digits are the text, and what is in front of them is v
 pub record Read (b v n : ℕ) (cs : List ℕ) : Type 0 where

@@ -1,18 +1,16 @@
 -- What the code's steps rest on: digits, glyphs, and one digit more.
-use mathlib.Core.Path.{_≡_, refl, sym, ap, _∙_}
-use mathlib.Core.Bool.{Bool, true, false, cond}
+use mathlib.Core.Path.{_≡_, sym, ap, _∙_}
 use mathlib.Core.List.{List, _∷_}
 use Prim.Native.Nat.{ℕ, suc, _+_, _-_, _*_, _/_, _^_, _≤_, _<_}
 use native.Mathlib.Nat.{le-div-iff-mul-le}
 use native.Mathlib.Omega.{arith}
 use native.Mathlib.Numerals.{add-one}
-use lib.Dec.{ltb, eqb}
 use lib.ListN.{length, drop, getD}
 use lib.Seq.{drop-cons, drop-length}
 use borrow.Author.Tests.{lt-ltb, le-ltb, eq-eqb, ne-eqb}
 use Rattle.io.specs.Digits.{glyph}
 use Rattle.text.specs.declared.Parsed.{Parsed}
-use Rattle.text.specs.Number.{digitOf, stepOf, numberFrom}
+use Rattle.text.specs.Number.{digitOf, stepOf, followedBy, numberFrom}
 
 pub digit-low : (c : ℕ) → c < 58 → digitOf c ≡ c - 48
 digit-low c h = simp (lt-ltb c 58 h)
@@ -54,33 +52,14 @@ module _ (b v c d : ℕ) (is-d : d ≡ digitOf c) where
   unfolding stepOf
   good h g w = simp (lt-ltb (digitOf c) b (omega arith), eq-eqb (glyph (digitOf c)) c g, lt-ltb (v * b + digitOf c) (2 ^ 64) w) (ap (λ (x : ℕ). Parsed.Number (v * b + x)) is-d)
 
--- `stepOf` says how `numberFrom` goes on
-by-step : (t u w : Bool) (n x : ℕ) (p : Parsed) → cond t (cond u (cond w (Parsed.Number n) Parsed.Bad) Parsed.Bad) Parsed.Bad ≡ Parsed.Number x → cond t (cond u (cond w p Parsed.Bad) Parsed.Bad) Parsed.Bad ≡ p
-by-step true true true n x p e = refl
-by-step true true false n x p e = let z : _≡_ {A = ℕ} 0 1 = cc in absurd (omega arith)
-by-step true false w n x p e = let z : _≡_ {A = ℕ} 0 1 = cc in absurd (omega arith)
-by-step false u w n x p e = let z : _≡_ {A = ℕ} 0 1 = cc in absurd (omega arith)
-
-by-value : (t u w : Bool) (n x : ℕ) → cond t (cond u (cond w (Parsed.Number n) Parsed.Bad) Parsed.Bad) Parsed.Bad ≡ Parsed.Number x → n ≡ x
-by-value true true true n x e = cc
-by-value true true false n x e = let z : _≡_ {A = ℕ} 0 1 = cc in absurd (omega arith)
-by-value true false w n x e = let z : _≡_ {A = ℕ} 0 1 = cc in absurd (omega arith)
-by-value false u w n x e = let z : _≡_ {A = ℕ} 0 1 = cc in absurd (omega arith)
-
-by-bad : (t u w : Bool) (n : ℕ) (p : Parsed) → cond t (cond u (cond w (Parsed.Number n) Parsed.Bad) Parsed.Bad) Parsed.Bad ≡ Parsed.Bad → cond t (cond u (cond w p Parsed.Bad) Parsed.Bad) Parsed.Bad ≡ Parsed.Bad
-by-bad true true true n p e = let z : _≡_ {A = ℕ} 0 1 = cc in absurd (omega arith)
-by-bad true true false n p e = refl
-by-bad true false w n p e = refl
-by-bad false u w n p e = refl
-
+-- a step that is good goes on from its number, and a bad one ends the text
 pub push-number : (b v c x : ℕ) (cs : List ℕ) → stepOf b v c ≡ Parsed.Number x → numberFrom b v (c ∷ cs) ≡ numberFrom b x cs
-unfolding stepOf numberFrom
-push-number b v c x cs e =
-    by-step (ltb (digitOf c) b) (eqb (glyph (digitOf c)) c) (ltb (v * b + digitOf c) (2 ^ 64)) (v * b + digitOf c) x (numberFrom b (v * b + digitOf c) cs) e ∙ ap (λ (y : ℕ). numberFrom b y cs) (by-value (ltb (digitOf c) b) (eqb (glyph (digitOf c)) c) (ltb (v * b + digitOf c) (2 ^ 64)) (v * b + digitOf c) x e)
+unfolding numberFrom
+push-number b v c x cs e = ap (λ (p : Parsed). followedBy p (λ (w : ℕ). numberFrom b w cs)) e
 
 pub push-bad : (b v c : ℕ) (cs : List ℕ) → stepOf b v c ≡ Parsed.Bad → numberFrom b v (c ∷ cs) ≡ Parsed.Bad
-unfolding stepOf numberFrom
-push-bad b v c cs e = by-bad (ltb (digitOf c) b) (eqb (glyph (digitOf c)) c) (ltb (v * b + digitOf c) (2 ^ 64)) (v * b + digitOf c) (numberFrom b (v * b + digitOf c) cs) e
+unfolding numberFrom
+push-bad b v c cs e = ap (λ (p : Parsed). followedBy p (λ (w : ℕ). numberFrom b w cs)) e
 
 -- a turn of the loop
 module _ (b v i : ℕ) (s : List ℕ) (whole : Parsed) (h : i < length s) (inv : numberFrom b v (drop i s) ≡ whole) where

@@ -16,10 +16,16 @@ digitOf c = cond (ltb c 58) (c - 48) (c - 87)
 unfoldable pub stepOf : ℕ → ℕ → ℕ → Parsed
 stepOf b v c = cond (ltb (digitOf c) b) (cond (eqb (glyph (digitOf c)) c) (cond (ltb (v * b + digitOf c) (2 ^ 64)) (Parsed.Number (v * b + digitOf c)) Parsed.Bad) Parsed.Bad) Parsed.Bad
 
--- the digits of a text after the number v
+-- what comes behind a number; behind what is bad nothing does
+abbrev pub followedBy : Parsed → (ℕ → Parsed) → Parsed
+followedBy Parsed.Bad more = Parsed.Bad
+followedBy (Parsed.Number v) more = more v
+
+-- the digits of a text after the number v, one after another
 unfoldable pub numberFrom : ℕ → ℕ → List ℕ → Parsed
+unfolding stepOf
 numberFrom b v [] = Parsed.Number v
-numberFrom b v (c ∷ cs) = cond (ltb (digitOf c) b) (cond (eqb (glyph (digitOf c)) c) (cond (ltb (v * b + digitOf c) (2 ^ 64)) (numberFrom b (v * b + digitOf c) cs) Parsed.Bad) Parsed.Bad) Parsed.Bad
+numberFrom b v (c ∷ cs) = followedBy (stepOf b v c) (λ w. numberFrom b w cs)
 
 -- a decimal: at least one digit, and no 0 in front of another
 unfoldable pub decimalOf : List ℕ → Parsed
