@@ -17,6 +17,7 @@ use Rattle.script.specs.Lines.{State, lineFront, hasEnd, stateOf, turnedOf, eve
 use Rattle.script.specs.Reading.{lineOf}
 use Rattle.script.proofs.CutLaws.{front-newline, front-other, end-newline, end-other}
 use Rattle.script.proofs.CutAnywhere.{after-part, after-cut, brings-cut, grown-append}
+use Rattle.script.proofs.Unique.{fed-call}
 use Rattle.answers.specs.Waiting.{Waiting, waiting, withAll, Adds}
 use Rattle.clerk.specs.declared.Done.{Done}
 use Rattle.clerk.specs.Calls.{afterOp, saysOf, Performs}
@@ -160,7 +161,7 @@ module _ (s : Tanks) (at : ℕ) (out : List ℕ) {r : Reader} {from : ℕ} {inpu
   turn-call {d} {out'} h p =
       sym
       (line-taken
-      ∙ ap (λ (y : Course). afterBytes y (drop (f .at) input)) (line-is Event.Call h ∙ ap (λ (k : Call). onEvent Event.Call (standing s r at out) (stateOf (f .reader)) k) (sym (fed .call h)) ∙ sym performed))
+      ∙ ap (λ (y : Course). afterBytes y (drop (f .at) input)) (line-is Event.Call h ∙ ap (λ (k : Call). onEvent Event.Call (standing s r at out) (stateOf (f .reader)) k) (sym (fed-call fed h)) ∙ sym performed))
     where
       performed : standing (d .tanks) (f .reader) (d .at) out' ≡ onEvent Event.Call (standing s r at out) (stateOf (f .reader)) (f .call)
       performed = ap₂ (λ (h : _) (w : Waiting). record { house = h; reader = stateOf (f .reader); waits = w; over = false }) (p .is) (p .answer .is)

@@ -123,11 +123,10 @@ callAfter s rest = cond (hasEnd rest) (readOf s rest .call) (s .call)
 -- the bytes from a place on, fed to a reader
 pub record Feeds (r : Reader) (bytes : List ℕ) (from : ℕ) (f : Fed) : Type 0 where
   pub state : stateOf (f .reader) ≡ afterOf (stateOf r) (drop from bytes)
-  pub event : f .event ≡ bringsOf (stateOf r) (drop from bytes)
-  pub call : f .event ≡ Event.Call → f .call ≡ readOf (stateOf r) (drop from bytes) .call
-  pub at : f .at ≡ pastLine bytes from
   pub line : f .reader .line ≡ lineAfter (r .line) (drop from bytes)
-  pub made : f .call ≡ callAfter (stateOf r) (drop from bytes)
+  pub event : f .event ≡ bringsOf (stateOf r) (drop from bytes)
+  pub call : f .call ≡ callAfter (stateOf r) (drop from bytes)
+  pub at : f .at ≡ pastLine bytes from
 
 -- an input ends well where a line that names an op would come next
 abbrev pub endingBy : Holds → Ending

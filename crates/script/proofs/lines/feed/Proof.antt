@@ -3,7 +3,6 @@ use mathlib.Core.Path.{_≡_, sym, ap, _∙_}
 use mathlib.Core.Bool.{true, false}
 use mathlib.Core.List.{List}
 use Prim.Native.Nat.{ℕ}
-use native.Mathlib.Omega.{arith}
 use lib.ListN.{drop}
 use borrow.Author.Needs.{needs}
 use Rattle.script.specs.declared.Cut.{Cut}
@@ -15,9 +14,6 @@ use Rattle.script.specs.Lines.{hasEnd, heldOf, emptyLine, grownLine, cut
 use Rattle.script.proofs.CutLaws.{held-grown}
 use Rattle.script.proofs.lines.feed.Statement.{statement}
 use Rattle.script.proofs.lines.feed.Tie as tie
-
-no-call : Event.Nothing ≡ Event.Call → ⊥
-no-call e = let z : _≡_ {A = ℕ} 0 1 = cc in omega arith
 
 module _ (r : Reader) (bytes : List ℕ) (from : ℕ) (c : Cut) (is-cut : c ≡ cutOf bytes from (r .line)) where
   held : heldOf (c .line) ≡ heldOf (grownLine (r .line) (drop from bytes))
@@ -37,11 +33,10 @@ module _ (r : Reader) (bytes : List ℕ) (from : ℕ) (c : Cut) (is-cut : c ≡ 
     feeds-whole =
         record {
           state = is-next .0 ∙ ap (λ (q : Read). turnedOf (r .newlines) (q .progress) (q .call)) is-of ∙ rw (sym has);
-          event = is-event ∙ ap (λ (q : Read). eventOf (q .progress)) is-of ∙ rw (sym has);
-          call = λ _. ap (λ (q : Read). q .call) is-of;
-          at = ap (λ (x : Cut). x .at) is-cut;
           line = is-next .1 ∙ rw (sym has);
-          made = ap (λ (q : Read). q .call) is-of ∙ rw (sym has);
+          event = is-event ∙ ap (λ (q : Read). eventOf (q .progress)) is-of ∙ rw (sym has);
+          call = ap (λ (q : Read). q .call) is-of ∙ rw (sym has);
+          at = ap (λ (x : Cut). x .at) is-cut;
         }
 
   -- the line goes on
@@ -54,11 +49,10 @@ module _ (r : Reader) (bytes : List ℕ) (from : ℕ) (c : Cut) (is-cut : c ≡ 
     feeds-open =
         record {
           state = rw (held ∙ held-grown (r .line) (drop from bytes), sym lacks);
-          event = rw (sym lacks);
-          call = λ x. absurd (no-call x);
-          at = ap (λ (x : Cut). x .at) is-cut;
           line = ap (λ (x : Cut). x .line) is-cut ∙ rw (sym lacks);
-          made = rw (sym lacks);
+          event = rw (sym lacks);
+          call = rw (sym lacks);
+          at = ap (λ (x : Cut). x .at) is-cut;
         }
 
 returns : tie.Need-returns
