@@ -2,7 +2,7 @@
 use mathlib.Core.Path.{_≡_, refl, sym, ap, ap₂, subst, _∙_}
 use mathlib.Core.Bool.{Bool, true, false, cond}
 use mathlib.Core.List.{List, [], _∷_, _++_}
-use Prim.Native.Nat.{ℕ, zero, suc, _+_, _<_, _≤_, min}
+use Prim.Native.Nat.{ℕ, suc, _+_, _<_, min}
 use native.Mathlib.Decide.{ℕ-discrete, decLt}
 use native.Mathlib.Omega.{arith}
 use lib.ListN.{length, drop, take, getD, drop-of-length-le}
@@ -20,7 +20,7 @@ use Rattle.script.proofs.CutAnywhere.{after-part, after-cut, brings-cut, grown-
 use Rattle.script.proofs.Unique.{fed-call}
 use Rattle.answers.specs.Waiting.{Waiting, waiting, withAll, Adds}
 use Rattle.clerk.specs.declared.Done.{Done}
-use Rattle.clerk.specs.Calls.{afterOp, saysOf, Performs}
+use Rattle.clerk.specs.Calls.{Performs}
 use Rattle.clerk.specs.Course.{Course, malformedSays, onEvent, afterLine, afterByte, afterBytes}
 
 -- what comes behind the first newline
@@ -62,21 +62,14 @@ module _ (x : Course) where
   part : ℕ → Course
   part c = record { house = x .house; reader = afterOf (x .reader) (c ∷ []); waits = x .waits; over = false }
 
-  on-part : (c : ℕ) (e : Event) (r : State) (k : Call) → onEvent e (part c) r k ≡ onEvent e x r k
-  unfolding onEvent part
-  on-part c Event.Nothing r k = refl
-  on-part c Event.Bad r k = refl
-  on-part c Event.Call r k = refl
-
   part-brings : (c : ℕ) → hasEnd (c ∷ []) ≡ false → afterLine x (c ∷ []) ≡ part c
-  unfolding bringsOf onEvent part
+  unfolding bringsOf onEvent part withAll
   part-brings c e = rw e
 
   part-line : (c : ℕ) (cs : List ℕ) → hasEnd (c ∷ []) ≡ false → afterLine (part c) cs ≡ afterLine x (c ∷ cs)
-  unfolding part
+  unfolding part onEvent
   part-line c cs e =
-      on-part c (bringsOf (afterOf (x .reader) (c ∷ [])) cs) (afterOf (afterOf (x .reader) (c ∷ [])) cs) (readOf (afterOf (x .reader) (c ∷ [])) cs .call)
-      ∙ ap (λ (v : Event). onEvent v x (afterOf (afterOf (x .reader) (c ∷ [])) cs) (readOf (afterOf (x .reader) (c ∷ [])) cs .call)) (brings-cut (x .reader) (c ∷ []) cs e)
+      ap (λ (v : Event). onEvent v x (afterOf (afterOf (x .reader) (c ∷ [])) cs) (readOf (afterOf (x .reader) (c ∷ [])) cs .call)) (brings-cut (x .reader) (c ∷ []) cs e)
       ∙ ap (λ (r : State). onEvent (bringsOf (x .reader) (c ∷ cs)) x r (readOf (afterOf (x .reader) (c ∷ [])) cs .call)) (after-cut (x .reader) (c ∷ []) cs e)
       ∙ ap (λ (k : Call). onEvent (bringsOf (x .reader) (c ∷ cs)) x (afterOf (x .reader) (c ∷ cs)) k) read-cut
     where
@@ -153,7 +146,7 @@ module _ (s : Tanks) (at : ℕ) (out : List ℕ) {r : Reader} {from : ℕ} {inpu
       ∙ ap (λ (t : State). onEvent e (standing s r at out) t (readOf (stateOf r) (drop from input) .call)) (sym (fed .state))
 
   pub turn-nothing : f .event ≡ Event.Nothing → afterBytes (standing s (f .reader) at out) (drop (f .at) input) ≡ afterBytes (standing s r at out) (drop from input)
-  unfolding onEvent
+  unfolding onEvent withAll
   turn-nothing h = sym (line-taken ∙ ap (λ (y : Course). afterBytes y (drop (f .at) input)) (line-is Event.Nothing h))
 
   pub turn-call : {d : Done} {out' : List ℕ} → f .event ≡ Event.Call → Performs (f .call .op) s (f .call) out at d out' → afterBytes (standing (d .tanks) (f .reader) (d .at) out') (drop (f .at) input) ≡ afterBytes (standing s r at out) (drop from input)

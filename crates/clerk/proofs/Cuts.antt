@@ -6,24 +6,14 @@ use Prim.Native.Nat.{ℕ, _<_}
 use native.Mathlib.Omega.{arith}
 use lib.ListN.{length}
 use borrow.Author.Tests.{ne-eqb}
-use Rattle.script.specs.declared.Call.{Call}
-use Rattle.script.specs.declared.Ending.{Ending}
-use Rattle.script.specs.declared.Event.{Event}
-use Rattle.script.specs.Lines.{State, afterOf, bringsOf, readOf, endingOf}
+use Rattle.script.specs.Lines.{endingOf}
 use Rattle.answers.specs.Waiting.{Pieces, Waiting, withAll, joined}
 use Rattle.answers.proofs.Laws.{with-append}
 use Rattle.clerk.specs.Course.{Course, onEvent, afterLine, afterByte, afterBytes, endedAs, atEnd, afterRead, written, afterReads}
-use Rattle.clerk.specs.Course.{Whereabouts, whereOf, saidOn, saidLine, saidByte, saidBytes, saidEnding, saidAtEnd, saidRead, saidReads, NoneEmpty}
+use Rattle.clerk.specs.Course.{Whereabouts, whereOf, saidLine, saidByte, saidBytes, saidEnding, saidAtEnd, saidRead, saidReads, NoneEmpty}
 use Rattle.clerk.proofs.Bytes.{cut-anywhere, over-stays}
 
 -- ---- What is said is what is put into the output
--- a line's end puts what it says
-waits-event : (e : Event) (x : Course) (r : State) (c : Call) → onEvent e x r c .waits ≡ withAll (x .waits) (saidOn e x r c)
-unfolding onEvent saidOn withAll
-waits-event Event.Nothing x r c = refl
-waits-event Event.Bad x r c = refl
-waits-event Event.Call x r c = refl
-
 -- by whether the run is over
 waits-by : (over : Bool) (x y : Course) (said : Pieces) → y .waits ≡ withAll (x .waits) said → cond over x y .waits ≡ withAll (x .waits) (cond over [] said)
 unfolding withAll
@@ -32,10 +22,8 @@ waits-by false x y said e = e
 
 -- one byte puts what it says
 waits-byte : (x : Course) (byte : ℕ) → afterByte x byte .waits ≡ withAll (x .waits) (saidByte x byte)
-unfolding afterByte saidByte
-waits-byte x byte =
-    waits-by (x .over) x (afterLine x (byte ∷ [])) (saidLine x (byte ∷ []))
-    (waits-event (bringsOf (x .reader) (byte ∷ [])) x (afterOf (x .reader) (byte ∷ [])) (readOf (x .reader) (byte ∷ []) .call))
+unfolding afterByte saidByte onEvent
+waits-byte x byte = waits-by (x .over) x (afterLine x (byte ∷ [])) (saidLine x (byte ∷ [])) refl
 
 -- bytes put into the output what they say
 pub waits-bytes : (x : Course) (input : List ℕ) → afterBytes x input .waits ≡ withAll (x .waits) (saidBytes x input)
@@ -46,16 +34,10 @@ waits-bytes x (byte ∷ more) =
     ∙ ap (λ (w : Waiting). withAll w (saidBytes (afterByte x byte) more)) (waits-byte x byte)
     ∙ sym (with-append (x .waits) (saidByte x byte) (saidBytes (afterByte x byte) more))
 
--- an ending puts what it says
-waits-ending : (e : Ending) (x : Course) → endedAs e x .waits ≡ withAll (x .waits) (saidEnding e (x .reader))
-unfolding withAll
-waits-ending Ending.Clean x = refl
-waits-ending Ending.Cut x = refl
-
--- the end of the input puts what it says, in a run that is not over: one that is reads no further
-pub waits-end : (x : Course) → x .over ≡ false → atEnd x .waits ≡ withAll (x .waits) (saidAtEnd x)
+-- the end of the input puts what it says
+pub waits-end : (x : Course) → atEnd x .waits ≡ withAll (x .waits) (saidAtEnd x)
 unfolding atEnd saidAtEnd
-waits-end x goes = waits-ending (endingOf (x .reader)) x ∙ ap (λ (b : Bool). withAll (x .waits) (cond b [] (saidEnding (endingOf (x .reader)) (x .reader)))) (sym goes)
+waits-end x = waits-by (x .over) x (endedAs (endingOf (x .reader)) x) (saidEnding (endingOf (x .reader)) (x .reader)) refl
 
 -- a read that is not empty takes its bytes
 some-taken : (x : Course) (input : List ℕ) → 0 < length input → afterRead x input ≡ afterBytes x input
@@ -65,10 +47,10 @@ some-taken x input some = ap (λ (b : Bool). cond b (atEnd x) (afterBytes x inpu
 some-said : (x : Course) (input : List ℕ) → 0 < length input → saidRead x input ≡ saidBytes x input
 some-said x input some = ap (λ (b : Bool). cond b (saidAtEnd x) (saidBytes x input)) (ne-eqb (length input) 0 λ e. omega (arith, e, some))
 
--- a read puts what it says, whatever it gave, in a run that is not over
-pub waits-read : (x : Course) (input : List ℕ) → x .over ≡ false → afterRead x input .waits ≡ withAll (x .waits) (saidRead x input)
-waits-read x [] goes = waits-end x goes
-waits-read x (byte ∷ more) goes =
+-- a read puts what it says, whatever it gave
+pub waits-read : (x : Course) (input : List ℕ) → afterRead x input .waits ≡ withAll (x .waits) (saidRead x input)
+waits-read x [] = waits-end x
+waits-read x (byte ∷ more) =
     ap (λ (y : Course). y .waits) (some-taken x (byte ∷ more) (omega arith))
     ∙ waits-bytes x (byte ∷ more)
     ∙ ap (withAll (x .waits)) (sym (some-said x (byte ∷ more) (omega arith)))
@@ -82,20 +64,6 @@ placed p w = record { house = p .house; reader = p .reader; waits = w; over = p 
 by-place : {A : Type 0} (f : Course → A) → ((p : Whereabouts) (v w : Waiting) → f (placed p v) ≡ f (placed p w)) → (x y : Course) → whereOf x ≡ whereOf y → f x ≡ f y
 by-place f same x y e = same (whereOf x) (x .waits) (y .waits) ∙ ap (λ (p : Whereabouts). f (placed p (y .waits))) e
 
--- where a line's end leads
-place-event : (e : Event) (p : Whereabouts) (v w : Waiting) (r : State) (c : Call) → whereOf (onEvent e (placed p v) r c) ≡ whereOf (onEvent e (placed p w) r c)
-unfolding onEvent
-place-event Event.Nothing p v w r c = refl
-place-event Event.Bad p v w r c = refl
-place-event Event.Call p v w r c = refl
-
--- what it says
-said-event : (e : Event) (p : Whereabouts) (v w : Waiting) (r : State) (c : Call) → saidOn e (placed p v) r c ≡ saidOn e (placed p w) r c
-unfolding saidOn
-said-event Event.Nothing p v w r c = refl
-said-event Event.Bad p v w r c = refl
-said-event Event.Call p v w r c = refl
-
 -- by whether the run is over
 place-by : (over : Bool) (x y z u : Course) → whereOf x ≡ whereOf y → whereOf z ≡ whereOf u → whereOf (cond over x z) ≡ whereOf (cond over y u)
 place-by true x y z u e f = e
@@ -103,18 +71,15 @@ place-by false x y z u e f = f
 
 -- where one byte leads
 place-byte : (byte : ℕ) (x y : Course) → whereOf x ≡ whereOf y → whereOf (afterByte x byte) ≡ whereOf (afterByte y byte)
-unfolding afterByte
+unfolding afterByte onEvent
 place-byte byte =
     by-place (λ (x : Course). whereOf (afterByte x byte)) λ p v w.
-    place-by (p .over) (placed p v) (placed p w) (afterLine (placed p v) (byte ∷ [])) (afterLine (placed p w) (byte ∷ [])) refl
-    (place-event (bringsOf (p .reader) (byte ∷ [])) p v w (afterOf (p .reader) (byte ∷ [])) (readOf (p .reader) (byte ∷ []) .call))
+    place-by (p .over) (placed p v) (placed p w) (afterLine (placed p v) (byte ∷ [])) (afterLine (placed p w) (byte ∷ [])) refl refl
 
 -- what it says
 said-byte : (byte : ℕ) (x y : Course) → whereOf x ≡ whereOf y → saidByte x byte ≡ saidByte y byte
 unfolding saidByte
-said-byte byte =
-    by-place (λ (x : Course). saidByte x byte) λ p v w.
-    ap (cond (p .over) []) (said-event (bringsOf (p .reader) (byte ∷ [])) p v w (afterOf (p .reader) (byte ∷ [])) (readOf (p .reader) (byte ∷ []) .call))
+said-byte byte = by-place (λ (x : Course). saidByte x byte) λ p v w. refl
 
 -- where bytes lead depends on the place alone
 pub place-bytes : (input : List ℕ) (x y : Course) → whereOf x ≡ whereOf y → whereOf (afterBytes x input) ≡ whereOf (afterBytes y input)
@@ -128,15 +93,12 @@ unfolding saidBytes
 said-bytes [] x y e = refl
 said-bytes (byte ∷ more) x y e = ap₂ _++_ (said-byte byte x y e) (said-bytes more (afterByte x byte) (afterByte y byte) (place-byte byte x y e))
 
--- where an ending leads
-place-ending : (e : Ending) (p : Whereabouts) (v w : Waiting) → whereOf (endedAs e (placed p v)) ≡ whereOf (endedAs e (placed p w))
-place-ending Ending.Clean p v w = refl
-place-ending Ending.Cut p v w = refl
-
 -- where the end of the input leads depends on the place alone
 pub place-end : (x y : Course) → whereOf x ≡ whereOf y → whereOf (atEnd x) ≡ whereOf (atEnd y)
 unfolding atEnd
-place-end = by-place (λ (x : Course). whereOf (atEnd x)) λ p v w. place-ending (endingOf (p .reader)) p v w
+place-end =
+    by-place (λ (x : Course). whereOf (atEnd x)) λ p v w.
+    place-by (p .over) (placed p v) (placed p w) (endedAs (endingOf (p .reader)) (placed p v)) (endedAs (endingOf (p .reader)) (placed p w)) refl refl
 
 -- and so does what it says
 pub said-end : (x y : Course) → whereOf x ≡ whereOf y → saidAtEnd x ≡ saidAtEnd y
@@ -206,16 +168,11 @@ cut-run x inputs some =
     )
 
 -- ---- A run that is over
--- an ending is over, and else leaves the place as it is
-over-ending : (e : Ending) (x : Course) → whereOf (endedAs e x) ≡ record { house = x .house; reader = x .reader; over = true }
-over-ending Ending.Clean x = refl
-over-ending Ending.Cut x = refl
-
--- a read more leaves a run that is over where it is
-over-read : (x : Course) (input : List ℕ) → x .over ≡ true → whereOf (afterRead x input) ≡ whereOf x
+-- a read more changes nothing
+pub over-read : (x : Course) (input : List ℕ) → x .over ≡ true → afterRead x input ≡ x
 unfolding atEnd
-over-read x [] e = over-ending (endingOf (x .reader)) x ∙ ap (λ (b : Bool). record { house = x .house; reader = x .reader; over = b }) (sym e)
-over-read x (byte ∷ more) e = ap whereOf (some-taken x (byte ∷ more) (omega arith) ∙ over-stays x (byte ∷ more) e)
+over-read x [] e = ap (λ (b : Bool). cond b x (endedAs (endingOf (x .reader)) x)) e
+over-read x (byte ∷ more) e = some-taken x (byte ∷ more) (omega arith) ∙ over-stays x (byte ∷ more) e
 
 -- a byte more says nothing
 silent-byte : (x : Course) (byte : ℕ) → x .over ≡ true → saidByte x byte ≡ []
@@ -245,8 +202,8 @@ unfolding afterReads saidReads
 over-silent x [] e = (refl, refl)
 over-silent x (input ∷ inputs) e =
     let stays = over-read x input e in
-    let more = over-silent (written (afterRead x input)) inputs (ap (λ (p : Whereabouts). p .over) stays ∙ e) in
-    (more .0 ∙ stays, ap₂ _++_ (silent-read x input e) (more .1))
+    let more = over-silent (written (afterRead x input)) inputs (ap (λ (y : Course). y .over) stays ∙ e) in
+    (more .0 ∙ ap whereOf stays, ap₂ _++_ (silent-read x input e) (more .1))
 
 -- so a run may stop reading as soon as it is over: it comes to the same place and says the same as if it had read on
 pub stops-early : (x : Course) (inputs more : List (List ℕ)) → afterReads x inputs .over ≡ true → (whereOf (afterReads x (inputs ++ more)) ≡ whereOf (afterReads x inputs)) × (saidReads x (inputs ++ more) ≡ saidReads x inputs)

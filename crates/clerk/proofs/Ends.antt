@@ -13,27 +13,32 @@ use Rattle.script.specs.declared.Op.{Op}
 use Rattle.script.specs.declared.Reader.{Reader}
 use Rattle.script.specs.Reading.{freshOf}
 use Rattle.script.specs.Lines.{readerAt, stateOf, endingOf}
-use Rattle.answers.specs.Waiting.{Waiting, waiting, Adds}
+use Rattle.answers.specs.Waiting.{Waiting, waiting, withAll, Adds}
 use Rattle.clerk.specs.declared.Eaten.{Eaten}
 use Rattle.clerk.specs.declared.Stand.{Stand}
-use Rattle.clerk.specs.Course.{Course, malformedSays, afterBytes, courseOf, Eats, endedAs, atEnd, Closes, Reads, afterRead, written, afterReads, Leads, going, mostReads, Runs, firstSettings, RunsWhole}
+use Rattle.clerk.specs.Course.{Course, malformedSays, afterBytes, saidEnding, endedAs, atEnd, afterRead, written, afterReads, courseOf, Eats, Closes, Reads, Leads, mostReads, RunsFrom, going, firstSettings, RunsWhole}
 use Rattle.clerk.proofs.Bytes.{standing}
 
-module _ {s : Tanks} {stand : Stand} (d : List ℕ) {r : Eaten} (out : List ℕ) {k : ℕ} (ok : Sound s)
+module _ {s : Tanks} {stand : Stand} (d : List ℕ) {r : Eaten} (out : List ℕ) {k : ℕ} (ok : Sound s) (goes : stand .over ≡ false)
     (stands : (r .tanks ≡ s) × (r .stand ≡ record { reader = stand .reader; at = k; over = true })) where
-  ends-as : (e : Ending) → endingOf (stateOf (stand .reader)) ≡ e → endedAs e (courseOf s stand d) ≡ courseOf s (record { reader = stand .reader; at = k; over = true }) out → Closes s stand d r out
+  ends-as : (e : Ending) → endingOf (stateOf (stand .reader)) ≡ e → waiting out k ≡ withAll (waiting d (stand .at)) (saidEnding e (stateOf (stand .reader))) → Closes s stand d r out
   unfolding atEnd
-  ends-as e h x =
+  ends-as e h w =
       record {
         sound = subst Sound (sym (stands .0)) ok;
-        is = ap₂ (λ (t : Tanks) (st : Stand). courseOf t st out) (stands .0) (stands .1) ∙ sym x ∙ sym (ap (λ (v : Ending). endedAs v (courseOf s stand d)) h);
+        is =
+            ap₂ (λ (t : Tanks) (st : Stand). courseOf t st out) (stands .0) (stands .1)
+            ∙ ap (λ (v : Waiting). record { house = meaning s; reader = stateOf (stand .reader); waits = v; over = true }) w
+            ∙ ap (λ (v : Ending). endedAs v (courseOf s stand d)) (sym h)
+            ∙ ap (λ (b : Bool). cond b (courseOf s stand d) (endedAs (endingOf (stateOf (stand .reader))) (courseOf s stand d))) (sym goes);
       }
 
   pub ends-clean : endingOf (stateOf (stand .reader)) ≡ Ending.Clean → waiting out k ≡ waiting d (stand .at) → Closes s stand d r out
-  ends-clean h w = ends-as Ending.Clean h (ap (λ (v : Waiting). record { house = meaning s; reader = stateOf (stand .reader); waits = v; over = true }) (sym w))
+  unfolding withAll
+  ends-clean h w = ends-as Ending.Clean h w
 
   pub ends-cut : endingOf (stateOf (stand .reader)) ≡ Ending.Cut → Adds d (stand .at) (malformedSays (stateOf (stand .reader))) k out → Closes s stand d r out
-  ends-cut h w = ends-as Ending.Cut h (ap (λ (v : Waiting). record { house = meaning s; reader = stateOf (stand .reader); waits = v; over = true }) (sym (w .is)))
+  ends-cut h w = ends-as Ending.Cut h (w .is)
 
 -- ---- a read
 -- all bytes are taken
@@ -96,8 +101,8 @@ module _ {s : Tanks} {reader : Reader} {stand : Stand} {d out : List ℕ} {r : E
   leads-on e = leads-more (ap (λ (b : Bool). record { house = meaning (r .tanks); reader = stateOf (r .stand .reader); waits = waiting out 0; over = b }) (sym e))
 
 -- a run that has come to its end
-pub runs-as : {s t : Tanks} {first reader : Reader} {d : List ℕ} {r : Eaten} {n : ℕ} (out : List ℕ) {over : Bool} → Sound t → (r .tanks ≡ t) × (r .stand ≡ record { reader = reader; at = 0; over = over }) → Leads n (going s first d) (record { house = meaning t; reader = stateOf reader; waits = waiting out 0; over = over }) → (over ≡ false → n ≡ mostReads) → Runs s first d r out
-runs-as {s} {t} {first} {reader} {d} {r} {n} out {over} ok stands l most =
+pub runs-as : {t : Tanks} {reader : Reader} {x : Course} {r : Eaten} {n : ℕ} (out : List ℕ) {over : Bool} → Sound t → (r .tanks ≡ t) × (r .stand ≡ record { reader = reader; at = 0; over = over }) → Leads n x (record { house = meaning t; reader = stateOf reader; waits = waiting out 0; over = over }) → (over ≡ false → n ≡ mostReads) → RunsFrom x r out
+runs-as {t} {reader} {x} {r} {n} out {over} ok stands l most =
     record {
       sound = subst Sound (sym (stands .0)) ok;
       reads = n;
@@ -106,13 +111,10 @@ runs-as {s} {t} {first} {reader} {d} {r} {n} out {over} ok stands l most =
     }
 
 -- from the very beginning
-pub runs-whole : {s : Tanks} {first : Reader} {d out : List ℕ} {r : Eaten} → meaning s ≡ opening firstSettings → first ≡ readerAt (freshOf Op.Nothing) 0 → Runs s first d r out → RunsWhole r
-runs-whole {s} {first} {d} {out} {r} e f x =
+pub runs-whole : {h : House} {first : Reader} {d out : List ℕ} {r : Eaten} → h ≡ opening firstSettings → first ≡ readerAt (freshOf Op.Nothing) 0 → RunsFrom (record { house = h; reader = stateOf first; waits = waiting d 0; over = false }) r out → RunsWhole r
+runs-whole {h} {first} {d} {out} {r} e f x =
     record {
       buffer = d;
       out = out;
-      sound = x .sound;
-      reads = x .reads;
-      leads = subst (λ (c : Course). Leads (x .reads) c (courseOf (r .tanks) (r .stand) out)) (ap₂ (λ (h : House) (i : Reader). record { house = h; reader = stateOf i; waits = waiting d 0; over = false }) e f) (x .leads);
-      ends = x .ends;
+      runs = subst (λ (c : Course). RunsFrom c r out) (ap₂ (λ (k : House) (i : Reader). record { house = k; reader = stateOf i; waits = waiting d 0; over = false }) e f) x;
     }

@@ -1,4 +1,4 @@
--- A run of the clerk, byte by byte: what the input so far has made of the tanks, where the script stands, and which answers still wait to be written.
+-- A run of the clerk, byte by byte: what the input so far has made of the tanks, where the script stands, and which answers still wait to be written. Beside where a step leads stands what it says.
 use mathlib.Core.Path.{_≡_}
 use mathlib.Core.Bool.{Bool, true, false, cond}
 use mathlib.Core.List.{List, [], _∷_, _++_}
@@ -30,40 +30,104 @@ pub record Course : Type 0 where
   pub waits : Waiting
   pub over : Bool
 
+-- ---- What a line's end brings: nothing yet, the end of the run, or a call, which is performed and answered
+-- the tanks after a line's end
+abbrev pub houseOn : Event → House → Call → House
+houseOn Event.Nothing h c = h
+houseOn Event.Bad h c = h
+houseOn Event.Call h c = afterOp (c .op) h c
+
 -- the line that ends a run: the first that is bad, by its number
 abbrev pub malformedSays : State → Pieces
 malformedSays r = lineSays (bytes "malformed=") (countedOf (r .newlines))
 
--- what a line's end brings: nothing yet, the end of the run, or a call, which is performed and answered
-unfoldable pub onEvent : Event → Course → State → Call → Course
-onEvent Event.Nothing x r c = record { house = x .house; reader = r; waits = x .waits; over = false }
-onEvent Event.Bad x r c = record { house = x .house; reader = r; waits = withAll (x .waits) (malformedSays r); over = true }
-onEvent Event.Call x r c =
-    record { house = afterOp (c .op) (x .house) c; reader = r; waits = withAll (x .waits) (saysOf (c .op) (x .house) c); over = false }
+-- what a line's end says: nothing yet, that the line is bad, or the answer to the call
+unfoldable pub saidOn : Event → House → State → Call → Pieces
+saidOn Event.Nothing h r c = []
+saidOn Event.Bad h r c = malformedSays r
+saidOn Event.Call h r c = saysOf (c .op) h c
 
+-- whether it ends the run
+abbrev pub overOn : Event → Bool
+overOn Event.Nothing = false
+overOn Event.Bad = true
+overOn Event.Call = false
+
+-- the course after a line's end: what it says is put behind what waits
+unfoldable pub onEvent : Event → Course → State → Call → Course
+unfolding saidOn
+onEvent e x r c = record { house = houseOn e (x .house) c; reader = r; waits = withAll (x .waits) (saidOn e (x .house) r c); over = overOn e }
+
+-- ---- Bytes
 -- some bytes up to the first newline, taken at once
 abbrev pub afterLine : Course → List ℕ → Course
 afterLine x line = onEvent (bringsOf (x .reader) line) x (afterOf (x .reader) line) (readOf (x .reader) line .call)
 
+-- what they say
+abbrev pub saidLine : Course → List ℕ → Pieces
+saidLine x line = saidOn (bringsOf (x .reader) line) (x .house) (afterOf (x .reader) line) (readOf (x .reader) line .call)
+
 -- one byte more; when the run is over nothing more is taken
 unfoldable pub afterByte : Course → ℕ → Course
 afterByte x byte = cond (x .over) x (afterLine x (byte ∷ []))
+
+-- what it says; when the run is over, nothing
+unfoldable pub saidByte : Course → ℕ → Pieces
+saidByte x byte = cond (x .over) [] (saidLine x (byte ∷ []))
 
 -- bytes one after another
 unfoldable pub afterBytes : Course → List ℕ → Course
 afterBytes x [] = x
 afterBytes x (byte ∷ more) = afterBytes (afterByte x byte) more
 
--- how an input ends: in the middle of a line or a group it is a bad line
+-- all that is said meanwhile
+unfoldable pub saidBytes : Course → List ℕ → Pieces
+saidBytes x [] = []
+saidBytes x (byte ∷ more) = saidByte x byte ++ saidBytes (afterByte x byte) more
+
+-- ---- The end of the input
+-- what an input's end says, by how it ends: in the middle of a line or a group it is a bad line
+abbrev pub saidEnding : Ending → State → Pieces
+saidEnding Ending.Clean r = []
+saidEnding Ending.Cut r = malformedSays r
+
+-- the course after it
 abbrev pub endedAs : Ending → Course → Course
-endedAs Ending.Clean x = record { house = x .house; reader = x .reader; waits = x .waits; over = true }
-endedAs Ending.Cut x = record { house = x .house; reader = x .reader; waits = withAll (x .waits) (malformedSays (x .reader)); over = true }
+endedAs e x = record { house = x .house; reader = x .reader; waits = withAll (x .waits) (saidEnding e (x .reader)); over = true }
 
--- the course at the end of the input
+-- the course at the end of the input; when the run is over that changes nothing
 unfoldable pub atEnd : Course → Course
-atEnd x = endedAs (endingOf (x .reader)) x
+atEnd x = cond (x .over) x (endedAs (endingOf (x .reader)) x)
 
--- where tanks, a stand and a buffer are in it
+-- what the end of the input says; when the run is over, nothing
+unfoldable pub saidAtEnd : Course → Pieces
+saidAtEnd x = cond (x .over) [] (saidEnding (endingOf (x .reader)) (x .reader))
+
+-- ---- Reads
+-- what a read gives: bytes, and none at the end of the input
+abbrev pub afterRead : Course → List ℕ → Course
+afterRead x input = cond (eqb (length input) 0) (atEnd x) (afterBytes x input)
+
+-- what it says
+abbrev pub saidRead : Course → List ℕ → Pieces
+saidRead x input = cond (eqb (length input) 0) (saidAtEnd x) (saidBytes x input)
+
+-- what waited is written out, and all of the buffer is free again
+abbrev pub written : Course → Course
+written x = record { house = x .house; reader = x .reader; waits = waiting (x .waits .buffer) 0; over = x .over }
+
+-- reads one after another; the answers to each are written out before the next
+unfoldable pub afterReads : Course → List (List ℕ) → Course
+afterReads x [] = x
+afterReads x (input ∷ inputs) = afterReads (written (afterRead x input)) inputs
+
+-- all that is said meanwhile
+unfoldable pub saidReads : Course → List (List ℕ) → Pieces
+saidReads x [] = []
+saidReads x (input ∷ inputs) = saidRead x input ++ saidReads (written (afterRead x input)) inputs
+
+-- ---- What the code hands back
+-- where tanks, a stand and a buffer are in a course
 abbrev pub courseOf : Tanks → Stand → List ℕ → Course
 courseOf s stand buffer = record { house = meaning s; reader = stateOf (stand .reader); waits = waiting buffer (stand .at); over = stand .over }
 
@@ -77,24 +141,11 @@ pub record Closes (s : Tanks) (stand : Stand) (buffer : List ℕ) (r : Eaten) (o
   pub sound : Sound (r .tanks)
   pub is : courseOf (r .tanks) (r .stand) out ≡ atEnd (courseOf s stand buffer)
 
--- what a read gives: bytes, and none at the end of the input
-abbrev pub afterRead : Course → List ℕ → Course
-afterRead x input = cond (eqb (length input) 0) (atEnd x) (afterBytes x input)
-
 -- one read, whatever its bytes were: they lead where the run stands afterwards
 pub record Reads (s : Tanks) (stand : Stand) (buffer : List ℕ) (r : Eaten) (out : List ℕ) : Type 0 where
   pub input : List ℕ
   pub sound : Sound (r .tanks)
   pub is : courseOf (r .tanks) (r .stand) out ≡ afterRead (courseOf s stand buffer) input
-
--- what waited is written out, and all of the buffer is free again
-abbrev pub written : Course → Course
-written x = record { house = x .house; reader = x .reader; waits = waiting (x .waits .buffer) 0; over = x .over }
-
--- reads one after another; the answers to each are written out before the next
-unfoldable pub afterReads : Course → List (List ℕ) → Course
-afterReads x [] = x
-afterReads x (input ∷ inputs) = afterReads (written (afterRead x input)) inputs
 
 -- so many reads lead from one place to another
 pub record Leads (reads : ℕ) (x y : Course) : Type 0 where
@@ -102,27 +153,30 @@ pub record Leads (reads : ℕ) (x y : Course) : Type 0 where
   pub count : length inputs ≡ reads
   pub is : y ≡ afterReads x inputs
 
--- a run that goes on, with nothing waiting
-abbrev pub going : Tanks → Reader → List ℕ → Course
-going s reader buffer = record { house = meaning s; reader = stateOf reader; waits = waiting buffer 0; over = false }
-
 -- more reads are not made: there is no run that uses them up
 abbrev pub mostReads : ℕ
 mostReads = 2 ^ 64 - 1
 
--- a run, whatever its reads gave: it goes on until it is over
-pub record Runs (s : Tanks) (first : Reader) (buffer : List ℕ) (r : Eaten) (out : List ℕ) : Type 0 where
+-- a run from a place on, whatever its reads gave: it goes on until it is over
+pub record RunsFrom (x : Course) (r : Eaten) (out : List ℕ) : Type 0 where
   pub sound : Sound (r .tanks)
   pub reads : ℕ
-  pub leads : Leads reads (going s first buffer) (courseOf (r .tanks) (r .stand) out)
+  pub leads : Leads reads x (courseOf (r .tanks) (r .stand) out)
   pub ends : r .stand .over ≡ false → reads ≡ mostReads
 
--- ---- A whole run
+-- a run that goes on, with nothing waiting
+abbrev pub going : Tanks → Reader → List ℕ → Course
+going s reader buffer = record { house = meaning s; reader = stateOf reader; waits = waiting buffer 0; over = false }
+
+-- a run from such a place on
+abbrev pub Runs : Tanks → Reader → List ℕ → Eaten → List ℕ → Type 0
+Runs s first buffer r out = RunsFrom (going s first buffer) r out
+
 -- before the first `open` each tank has share 1 and limit 1
 abbrev pub firstSettings : List Setting
 firstSettings = replicate 8 (record { share = 1; limit = 1 })
 
--- where a run begins: fresh tanks, at the start of a script, with nothing waiting
+-- where a whole run begins: fresh tanks, at the start of a script, with nothing waiting
 abbrev pub beginning : List ℕ → Course
 beginning buffer = record { house = opening firstSettings; reader = stateOf (readerAt (freshOf Op.Nothing) 0); waits = waiting buffer 0; over = false }
 
@@ -130,12 +184,9 @@ beginning buffer = record { house = opening firstSettings; reader = stateOf (rea
 pub record RunsWhole (r : Eaten) : Type 0 where
   pub buffer : List ℕ
   pub out : List ℕ
-  pub sound : Sound (r .tanks)
-  pub reads : ℕ
-  pub leads : Leads reads (beginning buffer) (courseOf (r .tanks) (r .stand) out)
-  pub ends : r .stand .over ≡ false → reads ≡ mostReads
+  pub runs : RunsFrom (beginning buffer) r out
 
--- ---- What a run says
+-- ---- What the laws of runs speak of
 -- where a run is, but for the output that waits
 pub record Whereabouts : Type 0 where
   pub house : House
@@ -145,43 +196,6 @@ pub record Whereabouts : Type 0 where
 -- the place of a course
 abbrev pub whereOf : Course → Whereabouts
 whereOf x = record { house = x .house; reader = x .reader; over = x .over }
-
--- what a line's end says: nothing yet, that the line is bad, or the answer to a call
-unfoldable pub saidOn : Event → Course → State → Call → Pieces
-saidOn Event.Nothing x r c = []
-saidOn Event.Bad x r c = malformedSays r
-saidOn Event.Call x r c = saysOf (c .op) (x .house) c
-
--- what some bytes up to the first newline say
-abbrev pub saidLine : Course → List ℕ → Pieces
-saidLine x line = saidOn (bringsOf (x .reader) line) x (afterOf (x .reader) line) (readOf (x .reader) line .call)
-
--- what one byte more says; when the run is over it says nothing
-unfoldable pub saidByte : Course → ℕ → Pieces
-saidByte x byte = cond (x .over) [] (saidLine x (byte ∷ []))
-
--- all that is said while bytes are taken one after another
-unfoldable pub saidBytes : Course → List ℕ → Pieces
-saidBytes x [] = []
-saidBytes x (byte ∷ more) = saidByte x byte ++ saidBytes (afterByte x byte) more
-
--- what an input's end says, by how it ends
-abbrev pub saidEnding : Ending → State → Pieces
-saidEnding Ending.Clean r = []
-saidEnding Ending.Cut r = malformedSays r
-
--- what the end of the input says; a run that is over reads no further and says nothing more, though `atEnd` does not ask whether it is over
-unfoldable pub saidAtEnd : Course → Pieces
-saidAtEnd x = cond (x .over) [] (saidEnding (endingOf (x .reader)) (x .reader))
-
--- what a read says
-abbrev pub saidRead : Course → List ℕ → Pieces
-saidRead x input = cond (eqb (length input) 0) (saidAtEnd x) (saidBytes x input)
-
--- all that a run says, read after read
-unfoldable pub saidReads : Course → List (List ℕ) → Pieces
-saidReads x [] = []
-saidReads x (input ∷ inputs) = saidRead x input ++ saidReads (written (afterRead x input)) inputs
 
 -- reads of which none is empty: the input has not ended
 unfoldable pub NoneEmpty : List (List ℕ) → Type 0

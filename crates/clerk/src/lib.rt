@@ -155,7 +155,7 @@ fn eat(bytes: &[u8], s: Tanks, stand: Stand, out: &mut [u8]) -> Eaten
 
 // The end of the input: in the middle of a line or a group it is a bad line.
 fn closed(s: Tanks, stand: Stand, out: &mut [u8]) -> Eaten
-    requires { ⌜ Sound s ⌝ }
+    requires { ⌜ (Sound s) × (stand .over ≡ false) ⌝ }
     requires { ⌜ 512 ≤ length (now out) ⌝ }
     ensures { λ r. ⌜ Closes s stand (now (out .entry)) r (now (out .exit)) ⌝ }
 {
