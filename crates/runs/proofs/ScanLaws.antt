@@ -10,12 +10,12 @@ use lib.Dec.{ltb, leb, eqb}
 use lib.Bits.{bitAnd, and-zero-r}
 use lib.ListN.{length, getD}
 use lib.Pow.{shr-lt, pow-pos}
-use borrow.Author.Tests.{lt-ltb, le-ltb, le-leb, lt-leb, eq-eqb, ne-eqb, not-false}
+use borrow.Author.Tests.{ltb-true, lt-ltb, le-ltb, le-leb, lt-leb, eq-eqb, ne-eqb, not-false}
 use Rattle.styles.specs.Bits.{hasBit, TopIn}
 use Rattle.styles.proofs.MaskLaws.{top-set, one-top}
-use Rattle.runs.specs.Runs.{Run, runs, total, setAt, sums}
+use Rattle.runs.specs.Runs.{Run, runs, total, setAt, sums, clip}
 use Rattle.runs.specs.Positions.{anyAt, allAt, stretchTo}
-use Rattle.runs.specs.Scan.{meets, topIn, walked, commonAt, CanLook}
+use Rattle.runs.specs.Scan.{meets, topIn, commonAt, CanLook}
 use Rattle.runs.proofs.Laws.{total-sums, found-set, at-past}
 
 -- ---- tests
@@ -231,7 +231,7 @@ at-run lens sets n k p h a b =
     found-set lens sets n p k (total (runs lens sets k)) (record { within = omega arith; starts = s; reached = a; inside = λ _. b }) h
 
 -- ---- a turn of the walk back
-module _ (lens sets : List ℕ) (n mask last k start from : ℕ) (in-turn : k < n) (begun : start ≡ total (runs lens sets k)) where
+module _ (lens sets : List ℕ) (n mask last k start : ℕ) (in-turn : k < n) (begun : start ≡ total (runs lens sets k)) where
   test : ℕ → Bool
   test p = meets mask (setAt (runs lens sets n) p)
 
@@ -242,26 +242,29 @@ module _ (lens sets : List ℕ) (n mask last k start from : ℕ) (in-turn : k < 
   unfolding test
   on-run p a b = ap (meets mask) (at-run lens sets n k p in-turn (omega arith) (omega arith))
 
-  pub walk-turn : from ≡ stretchTo (λ p. meets mask (setAt (runs lens sets n) p)) (min start (last + 1))
-      → walked from start (min (start + getD lens k 0) (last + 1)) (bitAnd (getD sets k 0) mask)
-      ≡ stretchTo (λ p. meets mask (setAt (runs lens sets n) p)) (min (start + getD lens k 0) (last + 1))
-  unfolding walked test upto
-  walk-turn so-far =
-      elim (decLe upto start) [
+  -- a run that is asked and misses the mask: the stretch begins after it
+  pub back-missed : (ltb 0 (clip 0 (last + 1) start (getD lens k 0)) && not (meets mask (getD sets k 0))) ≡ true
+      → min (start + getD lens k 0) (last + 1) ≡ stretchTo (λ p. meets mask (setAt (runs lens sets n) p)) (min (start + getD lens k 0) (last + 1))
+  unfolding test upto
+  back-missed e =
+      let b = and-true (ltb 0 (clip 0 (last + 1) start (getD lens k 0))) _ e in
+      let some = ltb-true 0 (clip 0 (last + 1) start (getD lens k 0)) (b .0) in
+      sym (stretch-end test upto (omega arith) (on-run (upto - 1) (omega arith) (omega arith) ∙ not-flip (meets mask (getD sets k 0)) true (b .1)))
+
+  -- one that is not asked, or has a bit of it: the stretch begins where it did
+  pub back-over : (from : ℕ) → from ≡ stretchTo (λ p. meets mask (setAt (runs lens sets n) p)) (min start (last + 1))
+      → (ltb 0 (clip 0 (last + 1) start (getD lens k 0)) && not (meets mask (getD sets k 0))) ≡ false
+      → from ≡ stretchTo (λ p. meets mask (setAt (runs lens sets n) p)) (min (start + getD lens k 0) (last + 1))
+  unfolding test upto
+  back-over from so-far e =
+      elim (decLt 0 (clip 0 (last + 1) start (getD lens k 0))) [
         | yes h ↦
-            let i : min start (last + 1) ≡ min (start + getD lens k 0) (last + 1) = omega arith in
-            simp (le-leb upto start h) (so-far ∙ ap (stretchTo test) i)
-        | no h ↦
             let i : min start (last + 1) ≡ start = omega arith in
-            elim (decLt 0 (bitAnd (getD sets k 0) mask)) [
-              | yes g ↦
-                  simp (lt-leb upto start (omega arith), lt-ltb 0 (bitAnd (getD sets k 0) mask) g)
-                  (so-far ∙ ap (stretchTo test) i
-                  ∙ sym (stretch-over test start upto (omega arith) (λ p a b. on-run p a (omega arith) ∙ lt-ltb 0 (bitAnd (getD sets k 0) mask) g)))
-              | no g ↦
-                  simp (lt-leb upto start (omega arith), le-ltb 0 (bitAnd (getD sets k 0) mask) (omega arith))
-                  (sym (stretch-end test upto (omega arith) (on-run (upto - 1) (omega arith) (omega arith) ∙ le-ltb 0 (bitAnd (getD sets k 0) mask) (omega arith))))
-            ]
+            let has = not-flip (meets mask (getD sets k 0)) false (and-false (ltb 0 (clip 0 (last + 1) start (getD lens k 0))) _ (lt-ltb 0 (clip 0 (last + 1) start (getD lens k 0)) h) e) in
+            so-far ∙ ap (stretchTo test) i ∙ sym (stretch-over test start upto (omega arith) (λ p a b. on-run p a (omega arith) ∙ has))
+        | no h ↦
+            let i : min start (last + 1) ≡ upto = omega arith in
+            so-far ∙ ap (stretchTo test) i
       ]
 
 -- ---- what a look at a position asks

@@ -12,7 +12,7 @@ use Rattle.runs.specs.Runs.{Run, run, runs, total, setAt, Other, Canon, 
 use Rattle.runs.specs.Edits.{part, altered, deleted, inserted}
 use Rattle.runs.specs.Gather.{gather, Renumbered}
 use Rattle.runs.specs.Positions.{sumBelow, anyAt, allAt, stretchTo, starts, stretchCount, stretch, extended, stretchesAt, asNumbers}
-use Rattle.runs.specs.Scan.{meets, topIn, shows, passes, commonAt, walked}
+use Rattle.runs.specs.Scan.{meets, topIn, shows, passes, commonAt}
 use Rattle.runs.specs.Count.{tallyOf}
 use Rattle.runs.specs.Stretches.{clipped, entry, inFront, listed}
 use Rattle.runs.proofs.MapLaws.{AllSets}
@@ -188,11 +188,6 @@ passes-each = (refl, refl, refl, refl)
 common : (commonAt t 12 ≡ 2) × (commonAt t 10 ≡ 0) × (commonAt t 0 ≡ 0) × (commonAt t 15 ≡ 0)
 unfolding commonAt setAt t
 common = (refl, refl, refl, refl)
-
--- the walk keeps its start over a run that has the bit, moves it past one that has not, and leaves it past the end
-walks : (walked 3 7 9 2 ≡ 3) × (walked 3 7 9 0 ≡ 9) × (walked 3 7 7 0 ≡ 3)
-unfolding walked
-walks = (refl, refl, refl)
 
 -- ---- counts
 two-stretches : stretchCount (alikeIn t) 15 ≡ 2

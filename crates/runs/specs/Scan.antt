@@ -2,7 +2,7 @@
 use Prim.Native.Nat.{ℕ, zero, suc, _≤_, _<_, _^_}
 use mathlib.Core.Bool.{Bool, false, cond, not}
 use mathlib.Core.List.{List}
-use lib.Dec.{ltb, leb, eqb}
+use lib.Dec.{ltb, eqb}
 use lib.Bits.{bitAnd}
 use lib.ListN.{length}
 use Rattle.styles.specs.Bits.{hasBit}
@@ -34,10 +34,6 @@ passes (Differs other) s = not (eqb s other)
 unfoldable pub commonAt : List Run → ℕ → ℕ
 commonAt rs zero = 0
 commonAt rs (suc p) = bitAnd (setAt rs p) (setAt rs (suc p))
-
--- where the stretch begins that was walked from `from` to `start`, after the positions start .. upto, whose set has `here` of the mask
-unfoldable pub walked : ℕ → ℕ → ℕ → ℕ → ℕ
-walked from start upto here = cond (leb upto start) from (cond (ltb 0 here) from upto)
 
 -- what a look at the first n runs asks
 pub record CanLook (lens sets : List ℕ) (n : ℕ) : Type 0 where

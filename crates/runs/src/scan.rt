@@ -6,7 +6,7 @@ ghost use Prim.Native.Nat.{_+_, _<_};
 ghost use lib.Dec.{ltb, eqb};
 ghost use Rattle.runs.specs.Runs.{runs, setAt};
 ghost use Rattle.runs.specs.Positions.{anyAt, allAt, stretchTo};
-ghost use Rattle.runs.specs.Scan.{meets, shows, passes, commonAt, walked, CanScan, CanLook};
+ghost use Rattle.runs.specs.Scan.{meets, shows, passes, commonAt, CanScan, CanLook};
 use super::clip;
 use super::set_at;
 use super::sooner;
@@ -100,16 +100,6 @@ pub fn same_in(lens: &[u64], sets: &[u64], n: usize, from: u64, to: u64) -> bool
     !some_in(lens, sets, n, from, to, Test::Differs(first))
 }
 
-// Where the stretch that has been walked to `start` begins, after a run more, which is asked up to `upto` and has `here` of the mask.
-fn walk(from: u64, start: u64, upto: u64, here: u64) -> u64
-    ensures { λ r. ⌜ r ≡ walked from start upto here ⌝ }
-{
-    if upto <= start {
-        return from;
-    }
-    if 0 < here { from } else { upto }
-}
-
 // The first position of the stretch that ends at `last` and has a bit of the mask throughout, or last + 1.
 pub fn back(lens: &[u64], sets: &[u64], n: usize, mask: u64, last: u64) -> u64
     requires { ⌜ CanScan (now lens) (now sets) n (last + 1) ⌝ }
@@ -120,9 +110,13 @@ pub fn back(lens: &[u64], sets: &[u64], n: usize, mask: u64, last: u64) -> u64
     let mut from: u64 = 0;
     while i < n {
         let end = start + lens[i];
-        from = walk(from, start, sooner(end, last + 1), sets[i] & mask);
+        let len = clip(0, last + 1, start, end);
+        let missed = here(len, Test::Misses(mask), sets[i]);
         start = end;
         i += 1;
+        if missed {
+            from = sooner(end, last + 1);
+        }
     }
     from
 }

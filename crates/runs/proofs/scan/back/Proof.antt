@@ -1,22 +1,24 @@
 -- `scan::back` meets its contract. The invariant: `from` is where the stretch that ends before run k starts, as far as `last` goes.
 use Prim.Native.Nat.{ℕ, _+_, _-_, _≤_, _<_, _^_, min}
-use mathlib.Core.Path.{_≡_, refl, ap, _∙_}
+use mathlib.Core.Path.{_≡_, refl, sym, ap, _∙_}
+use mathlib.Core.Bool.{true, false, not, _&&_}
 use mathlib.Core.List.{List}
 use native.Mathlib.Nat.{zero-min}
 use native.Mathlib.Omega.{arith}
 use borrow.Author.Needs.{needs}
-use lib.Bits.{bitAnd}
+use lib.Dec.{ltb}
 use lib.ListN.{getD}
-use Rattle.runs.specs.Runs.{runs, total, setAt}
+use Rattle.runs.specs.Runs.{runs, total, setAt, clip}
 use Rattle.runs.specs.Positions.{stretchTo}
-use Rattle.runs.specs.Scan.{meets, walked, CanScan}
+use Rattle.runs.specs.Scan.{meets, passes, CanScan}
 use Rattle.runs.proofs.Laws.{total-more, total-mono}
-use Rattle.runs.proofs.ScanLaws.{walk-turn}
+use Rattle.runs.proofs.ScanLaws.{back-missed, back-over}
 use Rattle.runs.proofs.scan.back.Statement.{statement}
 use Rattle.runs.proofs.scan.back.Tie as tie
 use Rattle.runs.proofs.scan.back.Reads as reads
 use Rattle.runs.proofs.scan.back.Lts as lts
-use Rattle.runs.proofs.scan.walk.Reads as walk-reads
+use Rattle.runs.proofs.clip.Reads as clip-reads
+use Rattle.runs.proofs.scan.here.Reads as here-reads
 use Rattle.runs.proofs.sooner.Reads as sooner-reads
 
 record Walked (lens sets : List ℕ) (n mask last k start from : ℕ) : Type 0 where
@@ -28,14 +30,17 @@ module _ {lens sets : List ℕ} {n mask last k start from : ℕ} (can : CanScan 
   turn-end : start + getD lens k 0 < 2 ^ 63
   turn-end = omega (arith, total-more lens sets k, total-mono lens sets (k + 1) n (omega arith))
 
-  turn : (from′ : ℕ) → from′ ≡ walked from start (min (start + getD lens k 0) (last + 1)) (bitAnd (getD sets k 0) mask)
+  turn : (from′ : ℕ) → from′ ≡ stretchTo (λ p. meets mask (setAt (runs lens sets n) p)) (min (start + getD lens k 0) (last + 1))
       → Walked lens sets n mask last (k + 1) (start + getD lens k 0) from′
-  turn from′ e =
-      record {
-        within = omega arith;
-        begun = omega (arith, total-more lens sets k);
-        so-far = e ∙ walk-turn lens sets n mask last k start from in-turn (inv .begun) (inv .so-far);
-      }
+  turn from′ e = record { within = omega arith; begun = omega (arith, total-more lens sets k); so-far = e }
+
+  turn-missed : (from′ : ℕ) → (ltb 0 (clip 0 (last + 1) start (getD lens k 0)) && not (meets mask (getD sets k 0))) ≡ true
+      → from′ ≡ min (start + getD lens k 0) (last + 1) → Walked lens sets n mask last (k + 1) (start + getD lens k 0) from′
+  turn-missed from′ e g = turn from′ (g ∙ back-missed lens sets n mask last k start in-turn (inv .begun) e)
+
+  turn-over : (ltb 0 (clip 0 (last + 1) start (getD lens k 0)) && not (meets mask (getD sets k 0))) ≡ false
+      → Walked lens sets n mask last (k + 1) (start + getD lens k 0) from
+  turn-over e = turn from (back-over lens sets n mask last k start in-turn (inv .begun) from (inv .so-far) e)
 
 at-end : {lens sets : List ℕ} {n mask last k start from : ℕ} → CanScan lens sets n (last + 1) → Walked lens sets n mask last k start from → n ≤ k
     → from ≡ stretchTo (λ p. meets mask (setAt (runs lens sets n) p)) (last + 1)
@@ -59,14 +64,29 @@ add-end c =
     let i = c .before in
     omega (arith, turn-end (i .before .before .before .before .pre) (i .before .loop .inv) (omega arith))
 
-loop-again : tie.Need-loop-again Inv-loop μ-loop
-loop-again c =
-    let w = c .before in
-    let i = w .before .before .before in
+-- what the turn's test says
+asked : (c : tie.After-here Inv-loop μ-loop) → let i = c .before .before .before .before in
     let l = i .before .loop in
     let a = i .before .before .before .before .args in
-    turn (i .before .before .before .before .pre) (l .inv) (omega arith) (c .walk .result)
-    (c .walk .ensures ∙ ap (λ (x : ℕ). walked (l .from) (l .start) x (bitAnd (getD (a .sets .now) (l .i) 0) (a .mask))) (w .before .sooner .ensures))
+    c .here .result ≡ (ltb 0 (clip 0 (a .last + 1) (l .start) (getD (a .lens .now) (l .i) 0)) && not (meets (a .mask) (getD (a .sets .now) (l .i) 0)))
+unfolding passes
+asked c =
+    let i = c .before .before .before .before in
+    let a = i .before .before .before .before .args in
+    c .here .ensures ∙ ap (λ (x : ℕ). ltb 0 x && not (meets (a .mask) (getD (a .sets .now) (i .before .loop .i) 0))) (c .before .before .clip .ensures)
+
+loop-again : tie.Need-loop-again Inv-loop μ-loop
+loop-again c =
+    let h = c .before .before in
+    let i = h .before .before .before .before in
+    turn-missed (i .before .before .before .before .pre) (i .before .loop .inv) (omega arith) (c .sooner .result) (sym (asked h) ∙ c .before .if1 .taken)
+    (c .sooner .ensures)
+
+loop-again-2 : tie.Need-loop-again-2 Inv-loop μ-loop
+loop-again-2 c =
+    let h = c .before in
+    let i = h .before .before .before .before in
+    turn-over (i .before .before .before .before .pre) (i .before .loop .inv) (omega arith) (sym (asked h) ∙ c .if1 .left)
 
 returns : tie.Need-returns Inv-loop μ-loop
 returns c = at-end (c .before .before .before .before .pre) (c .before .loop .inv) (omega arith)
@@ -88,5 +108,9 @@ back-spec =
     (λ c κs. search needs)
     (λ c. omega arith)
     (λ c. omega arith)
+    (λ c κs. search needs)
+    (λ c. omega arith)
     loop-again
+    (λ c. omega arith)
+    loop-again-2
     returns)
