@@ -1,20 +1,24 @@
 -- A renumbering of sets in place: the runs stay as they are, and every position's set is changed.
 use Prim.Native.Nat.{ℕ, zero, suc, _+_, _<_}
-use mathlib.Core.Path.{_≡_, refl, sym, ap, _∙_}
+use mathlib.Core.Path.{_≡_, refl, sym, ap, ap₂, _∙_}
 use mathlib.Core.List.{List, [], _∷_}
 use native.Mathlib.Omega.{arith}
 use native.Mathlib.Decide.{decLt}
-use native.Mathlib.Numerals.{add-one}
 use lib.ListN.{length, getD, set, length-set}
 use lib.Seq.{getD-set-same, getD-set-other}
-use Rattle.runs.specs.Runs.{Run, run, runs, total, setAt, Other, Canon, mapRuns, Spare}
+use Rattle.runs.specs.Runs.{Run, run, runs, total, setAt, Other, Canon, Spare}
 use Rattle.runs.specs.Gather.{Renumbered}
-use Rattle.runs.proofs.Laws.{at-in, at-last, at-past, runs-set-set}
+use Rattle.runs.proofs.Laws.{at-in, at-last, at-past}
 
 -- each set is one of which P holds
 unfoldable pub AllSets : (ℕ → Type 0) → List Run → Type 0
 AllSets P [] = Unit {0}
 AllSets P (r ∷ rs) = P (r .set) × AllSets P rs
+
+-- the runs with each set changed by f, where f keeps different sets different: nothing is joined
+unfoldable pub mapRuns : (ℕ → ℕ) → List Run → List Run
+mapRuns f [] = []
+mapRuns f (r ∷ rs) = run (r .len) (f (r .set)) ∷ mapRuns f rs
 
 module _ (f : ℕ → ℕ) where
   pub total-map : (rs : List Run) → total (mapRuns f rs) ≡ total rs
@@ -55,23 +59,33 @@ module _ (f : ℕ → ℕ) where
 
 -- ---- sets renumbered where they stand, one at a time
 pub renumber-none : (f : ℕ → ℕ) (sets : List ℕ) → Renumbered f 0 sets sets
-unfolding runs mapRuns
-renumber-none f sets = record { front = λ lens. refl; rest = λ j h. refl; kept = refl }
+renumber-none f sets = record { front = λ j h. absurd (omega arith); rest = λ j h. refl; kept = refl }
 
 pub renumber-more : (f : ℕ → ℕ) {before sets : List ℕ} (k v : ℕ) → Renumbered f k before sets → k < length before → v ≡ f (getD sets k 0)
     → Renumbered f (k + 1) before (set sets k v)
-unfolding runs mapRuns
 renumber-more f {before} {sets} k v s h e =
     record {
-      front = λ lens.
-          let a = getD-set-same sets k v 0 (omega (arith, s .kept)) in
-          let b = runs-set-set lens sets k k v (omega arith) in
-          let d = s .front lens in
-          let g = ap f (s .rest k (omega arith)) in
-          rw add-one (cc);
+      front = λ j g.
+          elim (decLt j k) [
+            | yes l ↦ getD-set-other sets k j v 0 (omega arith) ∙ s .front j l
+            | no l ↦
+                let i : j ≡ k = omega arith in
+                rw i (getD-set-same sets k v 0 (omega (arith, s .kept)) ∙ e ∙ ap f (s .rest k (omega arith)))
+          ];
       rest = λ j g. getD-set-other sets k j v 0 (omega arith) ∙ s .rest j (omega arith);
       kept = length-set sets k v ∙ s .kept;
     }
+
+-- the runs that the sets stand in are changed by f, whatever their lengths
+runs-map : (f : ℕ → ℕ) (lens before after : List ℕ) (n : ℕ) → ((j : ℕ) → j < n → getD after j 0 ≡ f (getD before j 0))
+    → runs lens after n ≡ mapRuns f (runs lens before n)
+unfolding runs mapRuns
+runs-map f lens before after zero h = refl
+runs-map f lens before after (suc n) h =
+    ap₂ (λ (s : ℕ) (rs : List Run). run (getD lens n 0) s ∷ rs) (h n (omega arith)) (runs-map f lens before after n (λ j g. h j (omega arith)))
+
+pub renumber-runs : {f : ℕ → ℕ} {n : ℕ} {before after : List ℕ} (lens : List ℕ) → Renumbered f n before after → runs lens after n ≡ mapRuns f (runs lens before n)
+renumber-runs lens s = runs-map _ lens _ _ _ (s .front)
 
 -- blank places stay blank
 pub renumber-spare : {f : ℕ → ℕ} {n : ℕ} {before after : List ℕ} (lens : List ℕ) → Renumbered f n before after → Spare lens before n → Spare lens after n

@@ -8,14 +8,14 @@ use lib.Count.{ones, onesIn}
 use lib.ListN.{getD}
 use Rattle.styles.specs.Bits.{openBit}
 use Rattle.runs.specs.declared.scan.Test.the-variants.{Meets, Misses, Hides, Differs}
-use Rattle.runs.specs.Runs.{Run, run, runs, total, setAt, Other, Canon, pushRun, joinRun, clip, copyRuns, changing, adding, sums, Found, SameBehind, Spare, mapRuns}
+use Rattle.runs.specs.Runs.{Run, run, runs, total, setAt, Other, Canon, pushRun, joinRun, clip, copyRuns, changing, adding, sums, Found, SameBehind, Spare}
 use Rattle.runs.specs.Edits.{part, altered, deleted, inserted}
 use Rattle.runs.specs.Gather.{gather, Renumbered}
 use Rattle.runs.specs.Positions.{sumBelow, anyAt, allAt, stretchTo, starts, stretchCount, stretch, extended, stretchesAt, asNumbers}
 use Rattle.runs.specs.Scan.{meets, topIn, shows, passes, commonAt}
 use Rattle.runs.specs.Count.{tallyOf}
 use Rattle.runs.specs.Stretches.{clipped, entry, inFront, listed}
-use Rattle.runs.proofs.MapLaws.{AllSets}
+use Rattle.runs.proofs.MapLaws.{AllSets, mapRuns}
 use Rattle.runs.proofs.StretchLaws.{alikeIn}
 use Rattle.runs.proofs.PositionLaws.{marksIn}
 
@@ -133,9 +133,14 @@ gathered = refl
 
 -- the first two sets get bit 0 opened, the third stays
 renumbered-two : Renumbered (openBit 0) 2 (1 ∷ 3 ∷ 5 ∷ []) (2 ∷ 6 ∷ 5 ∷ [])
-unfolding runs mapRuns openBit
-renumbered-two = record { front = λ lens. refl; rest = after; kept = refl }
+unfolding openBit
+renumbered-two = record { front = opened; rest = after; kept = refl }
   where
+    opened : (j : ℕ) → j < 2 → getD {A = ℕ} (2 ∷ 6 ∷ 5 ∷ []) j 0 ≡ openBit 0 (getD {A = ℕ} (1 ∷ 3 ∷ 5 ∷ []) j 0)
+    opened zero h = refl
+    opened (suc zero) h = refl
+    opened (suc (suc j)) h = absurd (omega arith)
+
     after : (j : ℕ) → 2 ≤ j → getD {A = ℕ} (2 ∷ 6 ∷ 5 ∷ []) j 0 ≡ getD {A = ℕ} (1 ∷ 3 ∷ 5 ∷ []) j 0
     after zero h = absurd (omega arith)
     after (suc zero) h = absurd (omega arith)

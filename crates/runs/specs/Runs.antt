@@ -65,11 +65,6 @@ unfolding total pushRun
 copyRuns f base from to [] = base
 copyRuns f base from to (r ∷ rs) = pushRun (copyRuns f base from to rs) (clip from to (total rs) (r .len)) (f (r .set))
 
--- the runs with each set changed by f, where f keeps different sets different: nothing is joined
-unfoldable pub mapRuns : (ℕ → ℕ) → List Run → List Run
-mapRuns f [] = []
-mapRuns f (r ∷ rs) = run (r .len) (f (r .set)) ∷ mapRuns f rs
-
 -- a set with the bits of `bits` in it, and without those of `gone`
 unfoldable pub changing : ℕ → ℕ → ℕ → ℕ
 changing bits gone s = bitOr s bits - bitAnd (bitOr s bits) gone

@@ -16,9 +16,9 @@ use Rattle.styles.specs.Bits.{pick, openBit}
 use Rattle.styles.proofs.PickLaws.{pick-open}
 use Rattle.styles.proofs.TableLaws.{place-le, sorted-put}
 use Rattle.styles.proofs.UnionLaws.{open-within, open-none}
-use Rattle.runs.specs.Runs.{runs, total, setAt, mapRuns}
+use Rattle.runs.specs.Runs.{runs, total, setAt}
 use Rattle.runs.specs.Gather.{gather, Renumbered, CanOpen}
-use Rattle.runs.proofs.MapLaws.{total-map, at-map, renumber-spare, all-sets-at}
+use Rattle.runs.proofs.MapLaws.{mapRuns, total-map, at-map, renumber-runs, renumber-spare, all-sets-at}
 use Rattle.runs.proofs.RenumberLaws.{canon-open, gather-open, sets-less}
 use Rattle.tank.specs.declared.Tank.{Tank}
 use Rattle.tank.specs.State.{runsOf, tableOf, view, Numbers}
@@ -62,7 +62,7 @@ module _ {t : Tank} (i : ℕ) (m : Mark) (h : CanAdmit t i m) where
   module _ (sets : List ℕ) (table : List Mark) (opened : Renumbered (openBit i) (t .runs) (t .sets) sets)
       (front : take (t .marks + 1) table ≡ insertAt i m (tableOf t)) (rest : drop (t .marks + 1) table ≡ drop (t .marks + 1) (t .table)) where
     runs-are : runs (t .lens) sets (t .runs) ≡ mapRuns (openBit i) (runsOf t)
-    runs-are = opened .front (t .lens)
+    runs-are = renumber-runs (t .lens) opened
 
     table-64 : length table ≡ 64
     table-64 =

@@ -21,10 +21,10 @@ use Rattle.styles.proofs.CountLaws.{pick-length}
 use Rattle.styles.proofs.SqueezeLaws.{pick-squeeze}
 use Rattle.styles.proofs.UnionLaws.{squeeze-all, squeeze-none}
 use Rattle.styles.proofs.WalkLaws.{sorted-pick, pick-length-le}
-use Rattle.runs.specs.Runs.{runs, total, setAt, mapRuns}
+use Rattle.runs.specs.Runs.{runs, total, setAt}
 use Rattle.runs.specs.Gather.{gather, Renumbered}
 use Rattle.runs.proofs.Laws.{at-past}
-use Rattle.runs.proofs.MapLaws.{total-map, at-map, renumber-spare}
+use Rattle.runs.proofs.MapLaws.{mapRuns, total-map, at-map, renumber-runs, renumber-spare}
 use Rattle.runs.proofs.GatherLaws.{set-within}
 use Rattle.runs.proofs.RenumberLaws.{canon-squeeze, gather-squeeze, sets-within}
 use Rattle.tank.specs.declared.Tank.{Tank}
@@ -89,7 +89,7 @@ module _ {t : Tank} (f : Laid t) (e : t .touched ≡ true) where
     small = let a = f .inside in let b = f .few in omega (arith, pow-mono {i = t .marks} {j = 64} (omega arith))
 
     runs-are : runs (t .lens) sets (t .runs) ≡ mapRuns (squeeze 64 carried) (runsOf t)
-    runs-are = squeezed .front (t .lens)
+    runs-are = renumber-runs (t .lens) squeezed
 
     few : kept .count ≤ 64
     few = let a = f .few in omega (arith, count-is, pick-length-le (tableOf t) carried, table-length f)
