@@ -22,7 +22,7 @@ use Rattle.runs.specs.Runs.{runs, total, setAt, sums}
 use Rattle.runs.specs.Gather.{gather}
 use Rattle.runs.specs.Positions.{anyAt, allAt}
 use Rattle.runs.specs.Scan.{meets, shows, commonAt}
-use Rattle.runs.proofs.ScanLaws.{any-ext, all-ext, top-in-holds, can-look as can-ask}
+use Rattle.runs.proofs.ScanLaws.{any-ext, all-ext, can-look as can-ask}
 use lib.Dec.{eqb}
 use Rattle.tank.specs.declared.Tank.{Tank}
 use Rattle.questions.specs.declared.SetAsked.{SetAsked}
@@ -163,7 +163,7 @@ module _ {t : Tank} (f : Formed t) where
         (λ p g h.
         let s = setAt (runsOf t) p in
         (λ i. shows (m i) (n i) s)
-        ∙ shows-bits (tableOf t) s key w blank _ (f .laid .sorted) (top-in-holds 64 _ (maskOf (valueIs w) (tableOf t)) (first-small s))))
+        ∙ shows-bits (tableOf t) s key w blank 64 (f .laid .sorted) (first-small s)))
         ∙ told-done a b (valueNan w) _ some fits number e
 
   -- ---- same marks throughout

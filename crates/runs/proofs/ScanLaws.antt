@@ -1,5 +1,5 @@
--- The questions over a range: what `anyAt`, `allAt`, `stretchTo` and `topIn` say, and a turn of each loop over the runs.
-use Prim.Native.Nat.{ℕ, zero, suc, _+_, _-_, _/_, _%_, _^_, _≤_, _<_, min}
+-- The questions over a range: what `anyAt`, `allAt` and `stretchTo` say, and a turn of each loop over the runs.
+use Prim.Native.Nat.{ℕ, zero, suc, _+_, _-_, _^_, _≤_, _<_, min}
 use mathlib.Core.Path.{_≡_, refl, sym, ap, ap₂, _∙_}
 use mathlib.Core.Bool.{Bool, true, false, cond, not, _&&_, _||_, true≢false}
 use mathlib.Core.List.{List}
@@ -9,13 +9,10 @@ use native.Mathlib.Numerals.{sub-one}
 use lib.Dec.{ltb, leb, eqb}
 use lib.Bits.{bitAnd, and-zero-r}
 use lib.ListN.{length, getD}
-use lib.Pow.{shr-lt, pow-pos}
 use borrow.Author.Tests.{ltb-true, lt-ltb, le-ltb, le-leb, lt-leb, eq-eqb, ne-eqb, not-false}
-use Rattle.styles.specs.Bits.{hasBit, TopIn}
-use Rattle.styles.proofs.MaskLaws.{top-set, one-top}
 use Rattle.runs.specs.Runs.{Run, runs, total, setAt, sums, clip}
 use Rattle.runs.specs.Positions.{anyAt, allAt, stretchTo}
-use Rattle.runs.specs.Scan.{meets, topIn, commonAt, CanLook}
+use Rattle.runs.specs.Scan.{meets, commonAt, CanLook}
 use Rattle.runs.proofs.Laws.{total-sums, found-set, at-past}
 
 -- ---- tests
@@ -119,37 +116,6 @@ module _ (test : ℕ → Bool) (from : ℕ) where
 pub all-ext : (test test′ : ℕ → Bool) (from to : ℕ) → ((p : ℕ) → from ≤ p → p < to → test p ≡ test′ p) → allAt test from to ≡ allAt test′ from to
 all-ext test test′ from to h =
     all-is test from to ∙ ap not (any-ext (λ p. not (test p)) (λ p. not (test′ p)) from to (λ p a b. ap not (h p a b))) ∙ sym (all-is test′ from to)
-
--- ---- the highest bit
-small-clear : (k u : ℕ) → u < 2 ^ k → hasBit k u ≡ false
-small-clear k u h = ne-eqb (u / 2 ^ k % 2) 1 (λ e. omega (arith, shr-lt {n = u} 0 k (let z : 0 + k ≡ k = omega arith in rw z h)))
-
-pub top-in-is : (k u v : ℕ) (r : Bool) → u < 2 ^ k → TopIn u v r → r ≡ topIn k u v
-unfolding topIn
-top-in-is zero u v r h t = t .none (omega arith)
-top-in-is (suc k) u v r h t =
-    elim (decLt u (2 ^ k)) [
-      | yes g ↦ simp (small-clear k u g) (top-in-is k u v r g t)
-      | no g ↦ simp (top-set k u (omega arith) h) (t .top k (omega arith) h)
-    ]
-
-pub top-in-none : (k v : ℕ) → topIn k 0 v ≡ false
-unfolding topIn
-top-in-none zero v = refl
-top-in-none (suc k) v = simp (small-clear k 0 (pow-pos k)) (top-in-none k v)
-
-top-in-top : (k j u v : ℕ) → u < 2 ^ k → 2 ^ j ≤ u → u < 2 ^ suc j → topIn k u v ≡ hasBit j v
-unfolding topIn
-top-in-top zero j u v h a b = absurd (omega (arith, pow-pos j))
-top-in-top (suc k) j u v h a b =
-    elim (decLt u (2 ^ k)) [
-      | yes g ↦ simp (small-clear k u g) (top-in-top k j u v g a b)
-      | no g ↦ simp (top-set k u (omega arith) h) (ap (λ (x : ℕ). hasBit x v) (one-top k j u (omega arith) h a b))
-    ]
-
--- so it is the answer that `TopIn` speaks of
-pub top-in-holds : (k u v : ℕ) → u < 2 ^ k → TopIn u v (topIn k u v)
-top-in-holds k u v h = record { none = λ e. rw e (top-in-none k v); top = λ j a b. top-in-top k j u v h a b }
 
 -- ---- a stretch that ends just before a position
 module _ (test : ℕ → Bool) where

@@ -6,13 +6,13 @@ use mathlib.Core.List.{List, [], _∷_}
 use native.Mathlib.Omega.{arith}
 use lib.Count.{ones, onesIn}
 use lib.ListN.{getD}
-use Rattle.styles.specs.Bits.{openBit}
+use Rattle.styles.specs.Bits.{openBit, topIn}
 use Rattle.runs.specs.declared.scan.Test.the-variants.{Meets, Misses, Hides, Differs}
 use Rattle.runs.specs.Runs.{Run, run, runs, total, setAt, Other, Canon, pushRun, joinRun, clip, copyRuns, changing, adding, sums, Found, SameBehind, Spare}
 use Rattle.runs.specs.Edits.{part, altered, deleted, inserted}
 use Rattle.runs.specs.Gather.{gather, Renumbered}
 use Rattle.runs.specs.Positions.{sumBelow, anyAt, allAt, stretchTo, starts, stretchCount, stretch, extended, stretchesAt, asNumbers}
-use Rattle.runs.specs.Scan.{meets, topIn, shows, passes, commonAt}
+use Rattle.runs.specs.Scan.{meets, shows, passes, commonAt}
 use Rattle.runs.specs.Count.{tallyOf}
 use Rattle.runs.specs.Stretches.{clipped, entry, inFront, listed}
 use Rattle.runs.proofs.MapLaws.{AllSets, mapRuns}
@@ -172,15 +172,7 @@ from-none : stretchTo (λ p. meets 2 (setAt t p)) 10 ≡ 10
 unfolding stretchTo setAt t
 from-none = refl
 
--- the highest bit of 5 is bit 2
-top : topIn 4 5 4 ≡ true
-unfolding topIn
-top = refl
-
-not-top : topIn 4 5 1 ≡ false
-unfolding topIn
-not-top = refl
-
+-- the highest bit that 5 has of 3 is bit 0
 shown : shows 3 1 5 ≡ true
 unfolding topIn
 shown = refl

@@ -1,11 +1,11 @@
 -- Looks at the runs: the tests of a set that questions ask, and what neighbours have in common.
 use Prim.Native.Nat.{ℕ, zero, suc, _≤_, _<_, _^_}
-use mathlib.Core.Bool.{Bool, false, cond, not}
+use mathlib.Core.Bool.{Bool, not}
 use mathlib.Core.List.{List}
 use lib.Dec.{ltb, eqb}
 use lib.Bits.{bitAnd}
 use lib.ListN.{length}
-use Rattle.styles.specs.Bits.{hasBit}
+use Rattle.styles.specs.Bits.{topIn}
 use Rattle.runs.specs.Runs.{Run, runs, total, setAt}
 use Rattle.runs.specs.declared.scan.Test.{Test}
 use Rattle.runs.specs.declared.scan.Test.the-variants.{Meets, Misses, Hides, Differs}
@@ -13,11 +13,6 @@ use Rattle.runs.specs.declared.scan.Test.the-variants.{Meets, Misses, Hi
 -- the set has a bit of the mask
 abbrev pub meets : ℕ → ℕ → Bool
 meets mask s = ltb 0 (bitAnd s mask)
-
--- of the bits below k, from the highest down, the first that u has is one of v's; no where u has none
-unfoldable pub topIn : ℕ → ℕ → ℕ → Bool
-topIn zero u v = false
-topIn (suc k) u v = cond (hasBit k u) (hasBit k v) (topIn k u v)
 
 -- the highest bit that the set has of `first` is one of `second`
 abbrev pub shows : ℕ → ℕ → ℕ → Bool

@@ -13,7 +13,7 @@ use lib.Count.{leading-top}
 use borrow.Author.Tests.{eqb-true, eq-eqb, ne-eqb, lt-ltb, le-ltb}
 use lib.ListN.{length, take, drop, getD, drop-of-length-le, length-take, length-drop}
 use lib.Seq.{drop-cons, getD-take}
-use lib.Pow.{pow-mono}
+use lib.Pow.{pow-mono, pow-pos, shr-lt}
 use Rattle.styles.specs.declared.Identity.{Identity}
 use Rattle.styles.specs.declared.Mark.{Mark}
 use Rattle.styles.specs.declared.Stand.the-variants.{Before}
@@ -22,7 +22,7 @@ use Rattle.styles.specs.declared.Winner.{Winner}
 use Rattle.styles.specs.declared.Winner.the-variants.{Nothing, Shows}
 use Rattle.styles.specs.Order.{stands, idOf}
 use Rattle.styles.specs.Marks.{Above, Sorted, member, only, keyIs, valueIs, hasKey, better, winner, shownBy, showsValue}
-use Rattle.styles.specs.Bits.{keepBit, pick, hasBit, asBit, maskOf, TopIn}
+use Rattle.styles.specs.Bits.{keepBit, pick, hasBit, asBit, maskOf, topIn}
 use Rattle.styles.proofs.OrderLaws.{less-flip, same-self}
 use Rattle.styles.proofs.PickLaws.{pick-cons, above-pick, above-at, not-member}
 use Rattle.styles.proofs.BitLaws.{half-shr, half-less}
@@ -194,16 +194,34 @@ one-top i j s a b c e =
     let g = pow-back j (suc i) (omega arith) in
     omega arith
 
+-- what it says of the second mask is the answer
+small-clear : (k u : ℕ) → u < 2 ^ k → hasBit k u ≡ false
+small-clear k u h = ne-eqb (u / 2 ^ k % 2) 1 (λ e. omega (arith, shr-lt {n = u} 0 k (let z : 0 + k ≡ k = omega arith in rw z h)))
+
+pub top-in-none : (k v : ℕ) → topIn k 0 v ≡ false
+unfolding topIn
+top-in-none zero v = refl
+top-in-none (suc k) v = simp (small-clear k 0 (pow-pos k)) (top-in-none k v)
+
+pub top-in-top : (k j u v : ℕ) → u < 2 ^ k → 2 ^ j ≤ u → u < 2 ^ suc j → topIn k u v ≡ hasBit j v
+unfolding topIn
+top-in-top zero j u v h a b = absurd (omega (arith, pow-pos j))
+top-in-top (suc k) j u v h a b =
+    elim (decLt u (2 ^ k)) [
+      | yes g ↦ simp (small-clear k u g) (top-in-top k j u v g a b)
+      | no g ↦ simp (top-set k u (omega arith) h) (ap (λ (x : ℕ). hasBit x v) (one-top k j u (omega arith) h a b))
+    ]
+
 -- the value shown for a key, by two masks of the table
-pub shows-bits : (t : List Mark) (s key : ℕ) (w : Value) (d : Mark) (r : Bool) → Sorted t
-    → TopIn (bitAnd s (maskOf (keyIs key) t)) (maskOf (valueIs w) t) r → r ≡ showsValue key w (pick t s)
-shows-bits t s key w d r sorted h =
+pub shows-bits : (t : List Mark) (s key : ℕ) (w : Value) (d : Mark) (k : ℕ) → Sorted t → bitAnd s (maskOf (keyIs key) t) < 2 ^ k
+    → topIn k (bitAnd s (maskOf (keyIs key) t)) (maskOf (valueIs w) t) ≡ showsValue key w (pick t s)
+shows-bits t s key w d k sorted h =
     elim (ℕ-discrete (bitAnd s (maskOf (keyIs key) t)) 0) [
-      | yes e ↦ h .none e ∙ sym (ap (shownBy w) (no-winner t s key d sorted e))
+      | yes e ↦ ap (λ (x : ℕ). topIn k x (maskOf (valueIs w) t)) e ∙ top-in-none k (maskOf (valueIs w) t) ∙ sym (ap (shownBy w) (no-winner t s key d sorted e))
       | no e ↦
           let u : ℕ = bitAnd s (maskOf (keyIs key) t) in
           let q = leading-top (length t) u (omega arith) (omega (arith, and-le-r s (maskOf (keyIs key) t), mask-less (keyIs key) t)) in
-          h .top (q .0) (q .2) (q .3)
+          top-in-top k (q .0) u (maskOf (valueIs w) t) h (q .2) (q .3)
           ∙ mask-digit (valueIs w) t (q .0) d (omega (arith, q .1))
           ∙ sym (ap (shownBy w) (top-winner t s key d sorted (q .0) (q .2) (q .3)))
     ]

@@ -2,15 +2,10 @@
 -- Where the statement is an equation `r ≡ ..` that is `one-answer`; the functions that say it otherwise follow it.
 use Prim.Native.Nat.{ℕ, _+_, _^_, _≤_, _<_}
 use mathlib.Core.Path.{_≡_, sym, ap₂, _∙_}
-use mathlib.Core.Bool.{Bool}
 use mathlib.Core.List.{List, _++_}
-use native.Mathlib.Omega.{arith}
-use native.Mathlib.Decide.{ℕ-discrete}
 use native.Mathlib.Numerals.{add-one}
-use lib.Count.{leading-top}
 use lib.ListN.{take, drop, take-append-drop}
 use Rattle.styles.specs.declared.Mark.{Mark}
-use Rattle.styles.specs.Bits.{TopIn}
 use Rattle.styles.proofs.MaskLaws.{one-top}
 
 pub one-answer : {A : Type 0} {r s x : A} → r ≡ x → s ≡ x → r ≡ s
@@ -19,14 +14,6 @@ one-answer e f = e ∙ sym f
 -- `highest`
 pub one-highest : (set r s : ℕ) → (2 ^ r ≤ set) × (set < 2 ^ (r + 1)) → (2 ^ s ≤ set) × (set < 2 ^ (s + 1)) → r ≡ s
 one-highest set r s h k = one-top r s set (h .0) (rw (add-one r) at (h .1)) (k .0) (rw (add-one s) at (k .1))
-
--- `top_in`
-pub one-top-in : (u v : ℕ) (r s : Bool) → u < 2 ^ 64 → TopIn u v r → TopIn u v s → r ≡ s
-one-top-in u v r s h k l =
-    elim (ℕ-discrete u 0) [
-      | yes e ↦ one-answer (k .none e) (l .none e)
-      | no e ↦ let q = leading-top 64 u (omega arith) h in one-answer (k .top (q .0) (q .2) (q .3)) (l .top (q .0) (q .2) (q .3))
-    ]
 
 -- `insert_mark`: a front and what is behind it
 pub one-insert : {r s front rest : List Mark} (n : ℕ) → take n r ≡ front → drop n r ≡ rest → take n s ≡ front → drop n s ≡ rest → r ≡ s

@@ -1,12 +1,10 @@
 -- `scan::holds` meets its contract, variant by variant.
-use Prim.Native.Nat.{_<_, _^_}
 use mathlib.Core.Path.{ap}
 use mathlib.Core.Bool.{not}
-use native.Mathlib.Omega.{arith}
 use borrow.Author.Needs.{needs}
-use lib.Bits.{bitAnd, and-le-l}
+use lib.Bits.{bitAnd}
 use Rattle.runs.specs.Scan.{passes}
-use Rattle.runs.proofs.ScanLaws.{some-bit, no-bit, top-in-is}
+use Rattle.runs.proofs.ScanLaws.{some-bit, no-bit}
 use Rattle.runs.proofs.scan.holds.Statement.{statement}
 use Rattle.runs.proofs.scan.holds.Tie as tie
 use Rattle.runs.proofs.scan.holds.Reads as reads
@@ -28,10 +26,7 @@ returns-2 c =
 returns-3 : tie.Need-returns-3
 unfolding passes
 returns-3 c =
-    let g = c .before .before .test3 .given in
-    let s = c .before .before .before .before .args .set in
-    let small : bitAnd s (g .0 .0) < 2 ^ 64 = omega (arith, and-le-l s (g .0 .0)) in
-    rw (g .1) (ap not (top-in-is 64 _ _ _ small (c .top-in .ensures)))
+    rw (c .before .before .test3 .given .1) (ap not (c .top-in .ensures))
 
 returns-4 : tie.Need-returns-4
 unfolding passes
