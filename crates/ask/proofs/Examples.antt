@@ -7,7 +7,7 @@ use lib.Dec.{eqb}
 use lib.ListN.{length, replicate}
 use Rattle.styles.specs.declared.Mark.{Mark}
 use Rattle.styles.specs.Order.{numbers, stands}
-use Rattle.styles.specs.Marks.{Above, Sorted, member, placeOf, common, sameContent, hasKey, winner}
+use Rattle.styles.specs.Marks.{Above, Sorted, member, placeOf, only, sameContent, hasKey, winner}
 use Rattle.styles.specs.Bits.{pick, withBit}
 use Rattle.runs.specs.Runs.{total, setAt, copyRuns, pushRun, joinRun, changing}
 use Rattle.runs.specs.Edits.{altered, deleted, inserted}
@@ -219,6 +219,6 @@ pub examples : AllHold table
 unfolding table found claimed abc settingsFit allKeepRule sumBelow
     numberAt allAfter step steps may judgement known numberOn runsAfter touchedAfter ranges rangeOf anchorsOn edges anchorsOf
     altered deleted inserted copyRuns pushRun joinRun changing gather commonAt setAt total
-    pick withBit placeOf member stands numbers clash sameContent common hasKey winner winners
+    pick withBit placeOf member stands numbers clash sameContent only hasKey winner winners
     refusal empty over long notNumber clashes full forInsert inherited backFrom stretchTo anyAt yesNo yesNoRefusal
 examples = all-hold table refl

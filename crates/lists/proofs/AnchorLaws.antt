@@ -1,7 +1,7 @@
 -- The anchors by position are those at the boundaries of runs, by bits.
 use Prim.Native.Nat.{ℕ, zero, suc, _+_, _-_, _*_, _/_, _%_, _≤_, _<_, _^_, min}
 use mathlib.Core.Path.{_≡_, refl, sym, ap, ap₂, _∙_, subst}
-use mathlib.Core.Bool.{Bool, cond, not}
+use mathlib.Core.Bool.{Bool, not}
 use mathlib.Core.List.{List, [], _∷_, _++_}
 use native.Mathlib.Omega.{arith}
 use native.Mathlib.Decide.{decLt}
@@ -13,8 +13,8 @@ use Rattle.styles.specs.declared.Mark.{Mark}
 use Rattle.styles.specs.Order.{idOf}
 use Rattle.styles.specs.Marks.{Above, Sorted, member, only}
 use Rattle.styles.specs.Bits.{keepBit, pick}
-use Rattle.styles.proofs.OrderLaws.{less-flip, same-self}
-use Rattle.styles.proofs.PickLaws.{pick-cons, above-pick, not-member}
+use Rattle.styles.proofs.OrderLaws.{same-self}
+use Rattle.styles.proofs.PickLaws.{pick-cons, above-pick, not-member, only-skip}
 use Rattle.styles.proofs.UnionLaws.{pick-none}
 use Rattle.runs.specs.Runs.{Run, runs, total, setAt, Other, Canon, Spare}
 use Rattle.runs.proofs.Laws.{at-past, total-more, total-mono}
@@ -28,20 +28,13 @@ use Rattle.tank.proofs.Counted.{at-inside}
 use Rattle.lists.specs.Anchors.{lacking, marksBefore, marksBehind, anchorsOf, boundary, boundaries, lackingBits}
 
 -- ---- the marks that another set lacks, by bits
-lacking-skip : (m : Mark) (xs ys : List Mark) → Above (idOf m) xs → lacking xs (m ∷ ys) ≡ lacking xs ys
-unfolding only member Above
-lacking-skip m [] ys h = refl
-lacking-skip m (x ∷ xs) ys h =
-    rw (less-flip (idOf m) (idOf x) (h .0))
-    (ap (λ (l : List Mark). cond (not (member (idOf x) ys)) (x ∷ l) l) (lacking-skip m xs ys (h .1)))
-
 lacking-keep : (b c d : ℕ) (m : Mark) (xs ys : List Mark) → b < 2 → c < 2 → d ≡ b - min b c → Above (idOf m) xs → Above (idOf m) ys
     → keepBit d m (lacking xs ys) ≡ lacking (keepBit b m xs) (keepBit c m ys)
 unfolding only member
 lacking-keep zero zero d m xs ys p q e h k = let z : d ≡ 0 = omega arith in rw z
-lacking-keep zero (suc c) d m xs ys p q e h k = let z : d ≡ 0 = omega arith in rw z (sym (lacking-skip m xs ys h))
+lacking-keep zero (suc c) d m xs ys p q e h k = let z : d ≡ 0 = omega arith in rw z (sym (only-skip not m xs ys h))
 lacking-keep (suc b) zero d m xs ys p q e h k = let z : d ≡ 1 = omega arith in rw (z, not-member (idOf m) ys k)
-lacking-keep (suc b) (suc c) d m xs ys p q e h k = let z : d ≡ 0 = omega arith in rw (z, same-self (idOf m)) (sym (lacking-skip m xs ys h))
+lacking-keep (suc b) (suc c) d m xs ys p q e h k = let z : d ≡ 0 = omega arith in rw (z, same-self (idOf m)) (sym (only-skip not m xs ys h))
 
 pub lack-step : (s u : ℕ) → lackingBits s u ≡ lackingBits (s / 2) (u / 2) * 2 + (s % 2 - min (s % 2) (u % 2))
 lack-step s u = omega (arith, and-step s u, and-le-l (s / 2) (u / 2))

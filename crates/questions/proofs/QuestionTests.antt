@@ -9,7 +9,7 @@ use Rattle.styles.specs.declared.Mark.{Mark}
 use Rattle.styles.specs.declared.Value.{Value}
 use Rattle.styles.specs.declared.Value.the-variants.{Null, Flag, Decimal}
 use Rattle.styles.specs.Answers.{stylesOf, rankOf}
-use Rattle.styles.specs.Marks.{winner, hasKey, member, common, sameMarks, insertMark}
+use Rattle.styles.specs.Marks.{winner, hasKey, member, only, sameMarks, insertMark}
 use Rattle.styles.specs.Order.{numbers, stands}
 use Rattle.runs.specs.Positions.{anyAt, allAt}
 use Rattle.questions.specs.declared.Asked.the-variants as asked
@@ -105,7 +105,7 @@ rank-past = refl
 
 -- ---- what an insertion would get
 gets-common : stylesForInsert 2 v ≡ record { number = 0; styles = stylesOf (A ∷ []) }
-unfolding insertRefusal forInsert inherited common member stands numbers
+unfolding insertRefusal forInsert inherited only member stands numbers
 gets-common = refl
 
 -- at the length the empty set, past it 4
@@ -118,11 +118,11 @@ unfolding insertRefusal
 gets-refused = refl
 
 gets-rank : styleForInsert 2 0 v ≡ asked.Found A
-unfolding insertRefusal forInsert inherited common member stands numbers rankOf
+unfolding insertRefusal forInsert inherited only member stands numbers rankOf
 gets-rank = refl
 
 gets-past : styleForInsert 2 1 v ≡ asked.Nothing
-unfolding insertRefusal forInsert inherited common member stands numbers rankOf
+unfolding insertRefusal forInsert inherited only member stands numbers rankOf
 gets-past = refl
 
 -- ---- a key in a range

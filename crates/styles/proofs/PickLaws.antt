@@ -1,7 +1,7 @@
 -- What an edit of a bit set does to the marks that it picks.
 use Prim.Native.Nat.{ℕ, zero, suc, _+_, _*_, _/_, _%_, _<_, min}
 use mathlib.Core.Path.{_≡_, refl, sym, ap, _∙_}
-use mathlib.Core.Bool.{false, cond}
+use mathlib.Core.Bool.{Bool, false, cond}
 use mathlib.Core.List.{List, [], _∷_}
 use native.Mathlib.Omega.{arith}
 use native.Mathlib.Nat.{zero-min, min-zero, suc-min-suc}
@@ -11,7 +11,7 @@ use Rattle.styles.specs.declared.Identity.{Identity}
 use Rattle.styles.specs.declared.Mark.{Mark}
 use Rattle.styles.specs.declared.Stand.the-variants.{Before}
 use Rattle.styles.specs.Order.{stands, idOf}
-use Rattle.styles.specs.Marks.{Above, Sorted, member, insertMark, removeMark, common, insertAt}
+use Rattle.styles.specs.Marks.{Above, Sorted, member, insertMark, only, removeMark, common, insertAt}
 use Rattle.styles.specs.Bits.{keepBit, pick, openBit, withBit, withoutBit}
 use Rattle.styles.proofs.OrderLaws.{less-trans, less-flip, same-self}
 
@@ -91,17 +91,17 @@ pick-with (m ∷ ms) (suc i) d s h k =
 
 -- ---- a set with one mark less
 pub remove-above : (i : Identity) (ms : List Mark) → Above i ms → removeMark i ms ≡ ms
-unfolding removeMark Above
+unfolding only Above
 remove-above i [] h = refl
 remove-above i (m ∷ ms) h = rw (h .0) (ap (_∷_ m) (remove-above i ms (h .1)))
 
 remove-first : (b : ℕ) (m : Mark) (ms : List Mark) → Above (idOf m) ms → ms ≡ removeMark (idOf m) (keepBit b m ms)
-unfolding removeMark
+unfolding only
 remove-first zero m ms h = sym (remove-above (idOf m) ms h)
 remove-first (suc b) m ms h = rw (same-self (idOf m)) (sym (remove-above (idOf m) ms h))
 
 remove-keep : (b : ℕ) (i : Identity) (x : Mark) (xs : List Mark) → stands (idOf x) i ≡ Before → keepBit b x (removeMark i xs) ≡ removeMark i (keepBit b x xs)
-unfolding removeMark
+unfolding only
 remove-keep zero i x xs h = refl
 remove-keep (suc b) i x xs h = rw (less-flip (idOf x) i h)
 
@@ -122,22 +122,24 @@ unfolding member Above
 not-member i [] h = refl
 not-member i (m ∷ ms) h = rw (h .0) (not-member i ms (h .1))
 
-common-skip : (m : Mark) (xs ys : List Mark) → Above (idOf m) xs → common xs (m ∷ ys) ≡ common xs ys
-unfolding common member Above
-common-skip m [] ys h = refl
-common-skip m (x ∷ xs) ys h =
-    rw (less-flip (idOf m) (idOf x) (h .0)) (ap (λ (l : List Mark). cond (member (idOf x) ys) (x ∷ l) l) (common-skip m xs ys (h .1)))
+-- a mark that comes before all of the first set is none of theirs
+pub only-skip : (f : Bool → Bool) (m : Mark) (xs ys : List Mark) → Above (idOf m) xs
+    → only (λ x. f (member (idOf x) (m ∷ ys))) xs ≡ only (λ x. f (member (idOf x) ys)) xs
+unfolding only member Above
+only-skip f m [] ys h = refl
+only-skip f m (x ∷ xs) ys h =
+    rw (less-flip (idOf m) (idOf x) (h .0)) (ap (λ (l : List Mark). cond (f (member (idOf x) ys)) (x ∷ l) l) (only-skip f m xs ys (h .1)))
 
 common-keep : (b c : ℕ) (m : Mark) (xs ys : List Mark) → Above (idOf m) xs → Above (idOf m) ys
     → keepBit (min b c) m (common xs ys) ≡ common (keepBit b m xs) (keepBit c m ys)
-unfolding common member
+unfolding only member
 common-keep zero zero m xs ys h k = refl
-common-keep zero (suc c) m xs ys h k = rw (zero-min (suc c)) (sym (common-skip m xs ys h))
+common-keep zero (suc c) m xs ys h k = rw (zero-min (suc c)) (sym (only-skip (λ b. b) m xs ys h))
 common-keep (suc b) zero m xs ys h k = rw (min-zero (suc b), not-member (idOf m) ys k)
-common-keep (suc b) (suc c) m xs ys h k = rw (suc-min-suc b c, same-self (idOf m)) (ap (_∷_ m) (sym (common-skip m xs ys h)))
+common-keep (suc b) (suc c) m xs ys h k = rw (suc-min-suc b c, same-self (idOf m)) (ap (_∷_ m) (sym (only-skip (λ b. b) m xs ys h)))
 
 pub pick-both : (t : List Mark) (s u : ℕ) → Sorted t → pick t (bitAnd s u) ≡ common (pick t s) (pick t u)
-unfolding pick Sorted common
+unfolding pick Sorted only
 pick-both [] s u h = refl
 pick-both (m ∷ ms) s u h =
     ap (pick (m ∷ ms)) (and-step s u)

@@ -1,7 +1,7 @@
 -- The operations on sets are what their names say: they keep sets sorted, carry what they should, and the winner is the greatest.
 use Prim.Native.Nat.{ℕ, zero, suc, _<_}
 use mathlib.Core.Path.{_≡_, refl, sym, ap, _∙_}
-use mathlib.Core.Bool.{Bool, true, false, cond, false≢true, true≢false}
+use mathlib.Core.Bool.{Bool, true, false, cond, not, false≢true, true≢false}
 use mathlib.Core.List.{List, [], _∷_}
 use native.Mathlib.Omega.{arith}
 use lib.Dec.{eqb}
@@ -13,8 +13,8 @@ use Rattle.styles.specs.declared.Stand.{Stand}
 use Rattle.styles.specs.declared.Stand.the-variants.{Before, Same, After}
 use Rattle.styles.specs.declared.Winner.{Winner}
 use Rattle.styles.specs.declared.Winner.the-variants.{Nothing, Shows}
-use Rattle.styles.specs.Order.{stands, idOf, isBefore, less, sameId}
-use Rattle.styles.specs.Marks.{Above, Sorted, member, insertStep, insertMark, removeMark, common, later, better, winner}
+use Rattle.styles.specs.Order.{stands, idOf, isBefore, isSame, less, sameId}
+use Rattle.styles.specs.Marks.{Above, Sorted, member, insertStep, insertMark, only, removeMark, common, later, better, winner}
 use Rattle.styles.proofs.OrderLaws.{num-same, is-before-of, is-same-of, less-trans, less-flip, more-flip, same-eq, same-self}
 use Rattle.styles.proofs.PickLaws.{above-trans}
 use Rattle.styles.proofs.UnionLaws.{above-insert}
@@ -35,26 +35,6 @@ sorted-insert m (x ∷ xs) h =
     (λ e. above-insert (idOf x) m xs (more-flip (idOf m) (idOf x) e) (h .0))
     (sorted-insert m xs (h .1))
 
-above-less : (a : Bool) (i : Identity) (x : Mark) (xs : List Mark) → stands i (idOf x) ≡ Before → Above i xs → Above i (cond a xs (x ∷ xs))
-unfolding Above
-above-less true i x xs h k = k
-above-less false i x xs h k = (h, k)
-
-sorted-less : (a : Bool) (x : Mark) (xs : List Mark) → Above (idOf x) xs → Sorted xs → Sorted (cond a xs (x ∷ xs))
-unfolding Sorted
-sorted-less true x xs h k = k
-sorted-less false x xs h k = (h, k)
-
-above-remove : (j i : Identity) (l : List Mark) → Above j l → Above j (removeMark i l)
-unfolding Above removeMark
-above-remove j i [] h = tt
-above-remove j i (x ∷ xs) h = above-less (sameId i (idOf x)) j x (removeMark i xs) (h .0) (above-remove j i xs (h .1))
-
-pub sorted-remove : (i : Identity) (l : List Mark) → Sorted l → Sorted (removeMark i l)
-unfolding Sorted removeMark
-sorted-remove i [] h = tt
-sorted-remove i (x ∷ xs) h = sorted-less (sameId i (idOf x)) x (removeMark i xs) (above-remove (idOf x) i xs (h .0)) (sorted-remove i xs (h .1))
-
 above-more : (a : Bool) (i : Identity) (x : Mark) (xs : List Mark) → stands i (idOf x) ≡ Before → Above i xs → Above i (cond a (x ∷ xs) xs)
 unfolding Above
 above-more true i x xs h k = (h, k)
@@ -65,15 +45,15 @@ unfolding Sorted
 sorted-more true x xs h k = (h, k)
 sorted-more false x xs h k = k
 
-above-common : (j : Identity) (a b : List Mark) → Above j a → Above j (common a b)
-unfolding Above common
-above-common j [] b h = tt
-above-common j (x ∷ xs) b h = above-more (member (idOf x) b) j x (common xs b) (h .0) (above-common j xs b (h .1))
+above-only : (j : Identity) (f : Mark → Bool) (l : List Mark) → Above j l → Above j (only f l)
+unfolding Above only
+above-only j f [] h = tt
+above-only j f (x ∷ xs) h = above-more (f x) j x (only f xs) (h .0) (above-only j f xs (h .1))
 
-pub sorted-common : (a b : List Mark) → Sorted a → Sorted (common a b)
-unfolding Sorted common
-sorted-common [] b h = tt
-sorted-common (x ∷ xs) b h = sorted-more (member (idOf x) b) x (common xs b) (above-common (idOf x) xs b (h .0)) (sorted-common xs b (h .1))
+pub sorted-only : (f : Mark → Bool) (l : List Mark) → Sorted l → Sorted (only f l)
+unfolding Sorted only
+sorted-only f [] h = tt
+sorted-only f (x ∷ xs) h = sorted-more (f x) x (only f xs) (above-only (idOf x) f xs (h .0)) (sorted-only f xs (h .1))
 
 -- ---- what they carry
 swap : (a b c : Bool) → cond a true (cond b true c) ≡ cond b true (cond a true c)
@@ -101,43 +81,18 @@ unfolding member insertMark
 member-insert j m [] = refl
 member-insert j m (x ∷ xs) = carries-step (stands (idOf m) (idOf x)) j m x xs (insertMark m xs) refl (member-insert j m xs)
 
--- what is said of one of two identities that are the same is said of the other
-same-to : (i j k : Identity) → sameId i j ≡ true → sameId k i ≡ sameId k j
-same-to i j k e = ap (sameId k) (same-eq i j (is-same-of (stands i j) e))
-
-same-from : (i j k : Identity) → sameId i j ≡ true → sameId i k ≡ sameId j k
-same-from i j k e = ap (λ (x : Identity). sameId x k) (same-eq i j (is-same-of (stands i j) e))
-
-same-in : (i j : Identity) (l : List Mark) → sameId i j ≡ true → member i l ≡ member j l
-same-in i j l e = ap (λ (x : Identity). member x l) (same-eq i j (is-same-of (stands i j) e))
-
 none-either : (a : Bool) → false ≡ cond a false false
 none-either true = refl
 none-either false = refl
 
-less-step : (a : Bool) (i j : Identity) (x : Mark) (xs rest : List Mark) → sameId i (idOf x) ≡ a → member j rest ≡ cond (sameId j i) false (member j xs)
-    → member j (cond a rest (x ∷ rest)) ≡ cond (sameId j i) false (member j (x ∷ xs))
-unfolding member
-less-step true i j x xs rest e h = h ∙ gone (sameId j i) (sameId j (idOf x)) (member j xs) (same-to i (idOf x) j e)
-  where
-    gone : (a b c : Bool) → a ≡ b → cond a false c ≡ cond a false (cond b true c)
-    gone true b c p = refl
-    gone false true c p = absurd (false≢true p)
-    gone false false c p = refl
-less-step false i j x xs rest e h =
-    kept (sameId j i) (sameId j (idOf x)) (member j xs) (member j rest) (λ p q. true≢false (sym q ∙ same-from j i (idOf x) p ∙ e)) h
-  where
-    kept : (a b c r : Bool) → (a ≡ true → b ≡ true → ⊥) → r ≡ cond a false c → cond b true r ≡ cond a false (cond b true c)
-    kept true true c r f p = absurd (f refl refl)
-    kept true false c r f p = p
-    kept false true c r f p = refl
-    kept false false c r f p = p
+-- an identity passes a test where one that is the same does
+same-passes : (f : Identity → Bool) (i j : Identity) → sameId i j ≡ true → f i ≡ f j
+same-passes f i j e = ap f (same-eq i j (is-same-of (stands i j) e))
 
--- without an identity: all that it carried but that
-pub member-remove : (j i : Identity) (l : List Mark) → member j (removeMark i l) ≡ cond (sameId j i) false (member j l)
-unfolding member removeMark
-member-remove j i [] = none-either (sameId j i)
-member-remove j i (x ∷ xs) = less-step (sameId i (idOf x)) i j x xs (removeMark i xs) refl (member-remove j i xs)
+same-flip : (s : Stand) (i j : Identity) → stands i j ≡ s → isSame s ≡ sameId j i
+same-flip Before i j e = sym (ap isSame (less-flip i j e))
+same-flip Same i j e = sym (ap isSame (same-self j)) ∙ ap (sameId j) (sym (same-eq i j e))
+same-flip After i j e = sym (ap isSame (more-flip i j e))
 
 keep-both : (s p q r : Bool) → (s ≡ true → p ≡ true) → r ≡ cond p q false → cond s true r ≡ cond p (cond s true q) false
 keep-both true true q r f h = refl
@@ -149,17 +104,30 @@ drop-both true true q r f h = absurd (true≢false (f refl))
 drop-both true false q r f h = h
 drop-both false p q r f h = h
 
-both-step : (c : Bool) (j : Identity) (x : Mark) (xs rest b : List Mark) → member (idOf x) b ≡ c → member j rest ≡ cond (member j b) (member j xs) false
-    → member j (cond c (x ∷ rest) rest) ≡ cond (member j b) (member j (x ∷ xs)) false
+only-step : (c : Bool) (f : Identity → Bool) (j : Identity) (x : Mark) (xs rest : List Mark) → f (idOf x) ≡ c → member j rest ≡ cond (f j) (member j xs) false
+    → member j (cond c (x ∷ rest) rest) ≡ cond (f j) (member j (x ∷ xs)) false
 unfolding member
-both-step true j x xs rest b e h = keep-both (sameId j (idOf x)) (member j b) (member j xs) (member j rest) (λ p. same-in j (idOf x) b p ∙ e) h
-both-step false j x xs rest b e h = drop-both (sameId j (idOf x)) (member j b) (member j xs) (member j rest) (λ p. same-in j (idOf x) b p ∙ e) h
+only-step true f j x xs rest e h = keep-both (sameId j (idOf x)) (f j) (member j xs) (member j rest) (λ p. same-passes f j (idOf x) p ∙ e) h
+only-step false f j x xs rest e h = drop-both (sameId j (idOf x)) (f j) (member j xs) (member j rest) (λ p. same-passes f j (idOf x) p ∙ e) h
+
+-- those whose identity passes a test: what it carried and passes
+pub member-only : (f : Identity → Bool) (j : Identity) (l : List Mark) → member j (only (λ m. f (idOf m)) l) ≡ cond (f j) (member j l) false
+unfolding member only
+member-only f j [] = none-either (f j)
+member-only f j (x ∷ xs) = only-step (f (idOf x)) f j x xs (only (λ m. f (idOf m)) xs) refl (member-only f j xs)
+
+cond-not : {A : Type 0} (a : Bool) (x y : A) → cond (not a) x y ≡ cond a y x
+cond-not true x y = refl
+cond-not false x y = refl
+
+-- without an identity: all that it carried but that
+pub member-remove : (j i : Identity) (l : List Mark) → member j (removeMark i l) ≡ cond (sameId j i) false (member j l)
+member-remove j i l =
+    member-only (λ x. not (sameId i x)) j l ∙ cond-not (sameId i j) (member j l) false ∙ ap (λ (a : Bool). cond a false (member j l)) (same-flip (stands i j) i j refl)
 
 -- in common: what both carry
 pub member-common : (j : Identity) (a b : List Mark) → member j (common a b) ≡ cond (member j b) (member j a) false
-unfolding member common
-member-common j [] b = none-either (member j b)
-member-common j (x ∷ xs) b = both-step (member (idOf x) b) j x xs (common xs b) b refl (member-common j xs b)
+member-common j a b = member-only (λ i. member i b) j a
 
 -- ---- the winner
 -- for marks of one key, later is the order of identities

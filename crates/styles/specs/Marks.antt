@@ -1,7 +1,7 @@
 -- A set of marks is a list of them, sorted by identity: what it carries, what edits make of it, and the winner for a key.
 use Prim.Native.Nat.{ℕ, zero, suc}
 use mathlib.Core.Path.{_≡_}
-use mathlib.Core.Bool.{Bool, true, false, cond}
+use mathlib.Core.Bool.{Bool, true, false, cond, not}
 use mathlib.Core.List.{List, [], _∷_}
 use Rattle.styles.specs.declared.Identity.{Identity}
 use Rattle.styles.specs.declared.Mark.{Mark}
@@ -61,21 +61,18 @@ unfolding insertMark
 eitherOf [] ys = ys
 eitherOf (x ∷ xs) ys = insertMark x (eitherOf xs ys)
 
--- the set without an identity
-unfoldable pub removeMark : Identity → List Mark → List Mark
-removeMark i [] = []
-removeMark i (m ∷ ms) = cond (sameId i (idOf m)) (removeMark i ms) (m ∷ removeMark i ms)
-
--- the marks of the first whose identity the second carries too
-unfoldable pub common : List Mark → List Mark → List Mark
-unfolding member
-common [] ys = []
-common (m ∷ ms) ys = cond (member (idOf m) ys) (m ∷ common ms ys) (common ms ys)
-
 -- of a set, the marks for which a test holds
 unfoldable pub only : (Mark → Bool) → List Mark → List Mark
 only f [] = []
 only f (m ∷ ms) = cond (f m) (m ∷ only f ms) (only f ms)
+
+-- the set without an identity
+abbrev pub removeMark : Identity → List Mark → List Mark
+removeMark i ms = only (λ m. not (sameId i (idOf m))) ms
+
+-- the marks of the first whose identity the second carries too
+abbrev pub common : List Mark → List Mark → List Mark
+common xs ys = only (λ m. member (idOf m) ys) xs
 
 -- ---- Keys, and the winner for a key
 -- the mark has the key

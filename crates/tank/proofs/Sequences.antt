@@ -7,7 +7,7 @@ use native.Mathlib.Omega.{arith}
 use lib.Dec.{T, eqb}
 use borrow.Author.Tests.{ltb-false, eqb-true}
 use Rattle.styles.specs.declared.Identity.{Identity}
-use Rattle.styles.specs.Marks.{removeMark}
+use Rattle.styles.specs.Marks.{only}
 use Rattle.tank.specs.Rules.{View, within, freshLength, freshView, Edit, annotating, inserting, deleting, removing, afterAnnotate, afterInsert, afterDelete, afterRemove, stripped, after, empty, over, long, notNumber, clashes, full, refusal}
 use Rattle.tank.specs.Lengths.{gained, lost, annotates}
 use Rattle.tank.proofs.ViewLaws.{view-ext, cond-same}
@@ -93,7 +93,7 @@ length-law (c ∷ cs) v t =
 
 -- ---- a fresh tank: an accepted annotate touches it, and every other call leaves it as it is
 strip-fresh : (id : Identity) (a b : ℕ) → stripped id a b freshView ≡ freshView
-unfolding stripped freshView removeMark
+unfolding stripped freshView only
 strip-fresh id a b = view-ext _ _ refl refl (λ p. cond-same (within a b p))
 
 data OnFresh (c : OwnCall) : Type 0 where

@@ -10,7 +10,7 @@ use lib.ListN.{length}
 use Rattle.styles.specs.declared.Mark.{Mark}
 use Rattle.styles.specs.Marks.{Sorted}
 use Rattle.styles.proofs.WalkLaws.{sorted-pick}
-use Rattle.styles.proofs.SetLaws.{sorted-insert, sorted-remove, sorted-common}
+use Rattle.styles.proofs.SetLaws.{sorted-insert, sorted-only}
 use Rattle.tank.specs.declared.Tank.{Tank}
 use Rattle.tank.specs.Rules.{View, within, freshView, Edit, annotating, inserting, deleting, removing, afterAnnotate, inherited, afterInsert, forInsert, afterDelete, backFrom, stripped, afterRemove, after}
 use Rattle.tank.specs.State.{view, Laid, tableOf}
@@ -59,7 +59,7 @@ inherited-sorted : (pos : ℕ) (v : View) → InOrder v → Sorted (inherited po
 unfolding inherited
 inherited-sorted pos v h =
     either-sorted (eqb pos 0) [] _ none-sorted
-    (either-sorted (eqb pos (v .length)) [] _ none-sorted (sorted-common (v .at (pos - 1)) (v .at pos) (h (pos - 1))))
+    (either-sorted (eqb pos (v .length)) [] _ none-sorted (sorted-only _ (v .at (pos - 1)) (h (pos - 1))))
 
 -- the set for an insertion
 for-insert : (pos : ℕ) (v : View) → InOrder v → Sorted (forInsert pos v)
@@ -77,7 +77,7 @@ edit-sorted (inserting pos len) v h =
 edit-sorted (deleting a b) v h =
     either-order (v .touched) _ v (λ p. either-sorted (ltb p a) (v .at p) _ (h p) (h (p + (b - a)))) h
 edit-sorted (removing id last) v h =
-    λ p. either-sorted (within (backFrom id last v) (last + 1) p) _ (v .at p) (sorted-remove id (v .at p) (h p)) (h p)
+    λ p. either-sorted (within (backFrom id last v) (last + 1) p) _ (v .at p) (sorted-only _ (v .at p) (h p)) (h p)
 
 -- so do calls in a row, refused ones among them
 calls-sorted : (cs : List own.OwnCall) (v : View) → InOrder v → InOrder (own.afterCalls cs v)
