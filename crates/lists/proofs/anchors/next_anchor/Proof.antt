@@ -57,10 +57,10 @@ next-anchor-spec =
     (λ c κs. search needs)
     sub-anchor-of
     (λ c κs. end-bit (c .before))
-    (λ c κs. end-bit (c .before .before))
+    (λ c κs. search needs)
     returns
     (λ c κs. search needs)
     (λ c κs. start-bit c)
-    (λ c κs. start-bit (c .before))
+    (λ c κs. search needs)
     returns-2
     returns-3)

@@ -81,7 +81,7 @@ styles-of-spec =
     (λ c. omega (arith, low c))
     (λ c. omega arith)
     (λ c. omega arith)
-    (λ c κs. omega (arith, low (c .before)))
+    (λ c κs. search needs)
     (λ c. omega arith)
     (λ c. omega arith)
     loop-again
