@@ -1,12 +1,20 @@
 -- Each function of this crate has one answer: any two results that meet its statement are equal.
 -- Where the statement is an equation `r ≡ ..` that is `one-answer`; the functions that say it otherwise follow it.
 use Prim.Native.Nat.{ℕ, _+_, _^_, _≤_, _<_}
-use mathlib.Core.Path.{_≡_, sym, ap₂, _∙_}
+use mathlib.Core.Path.{_≡_, refl, sym, ap, ap₂, _∙_}
 use mathlib.Core.List.{List, _++_}
+use native.Mathlib.Omega.{arith}
+use native.Mathlib.Decide.{decLt}
 use native.Mathlib.Numerals.{add-one}
+use lib.Count.{ones}
 use lib.ListN.{take, drop, take-append-drop}
 use Rattle.styles.specs.declared.Mark.{Mark}
+use Rattle.styles.specs.declared.RankedBit.{RankedBit}
+use Rattle.styles.specs.declared.RankedBit.the-variants.{Past, At}
+use Rattle.styles.specs.Bits.{NthBit}
+use Rattle.styles.specs.Answers.{RankBit}
 use Rattle.styles.proofs.MaskLaws.{one-top}
+use Rattle.styles.proofs.RankLaws.{nth-held, one-place}
 
 pub one-answer : {A : Type 0} {r s x : A} → r ≡ x → s ≡ x → r ≡ s
 one-answer e f = e ∙ sym f
@@ -14,6 +22,21 @@ one-answer e f = e ∙ sym f
 -- `highest`
 pub one-highest : (set r s : ℕ) → (2 ^ r ≤ set) × (set < 2 ^ (r + 1)) → (2 ^ s ≤ set) × (set < 2 ^ (s + 1)) → r ≡ s
 one-highest set r s h k = one-top r s set (h .0) (rw (add-one r) at (h .1)) (k .0) (rw (add-one s) at (k .1))
+
+-- `nth_bit`
+pub one-nth-bit : (set j r s : ℕ) → NthBit set j r → NthBit set j s → r ≡ s
+one-nth-bit set j r s h k =
+    elim (decLt j (ones set)) [
+      | yes e ↦ one-place set j r s (h .found e) (k .found e)
+      | no e ↦ one-answer (h .past (omega arith)) (k .past (omega arith))
+    ]
+
+-- `ranked_bit`
+pub one-ranked-bit : (set j : ℕ) (r s : RankedBit) → RankBit set j r → RankBit set j s → r ≡ s
+one-ranked-bit set j Past Past h k = refl
+one-ranked-bit set j Past (At i) h k = absurd (omega (arith, nth-held set j i k))
+one-ranked-bit set j (At i) Past h k = absurd (omega (arith, nth-held set j i h))
+one-ranked-bit set j (At i) (At l) h k = ap At (one-place set j i l h k)
 
 -- `insert_mark`: a front and what is behind it
 pub one-insert : {r s front rest : List Mark} (n : ℕ) → take n r ≡ front → drop n r ≡ rest → take n s ≡ front → drop n s ≡ rest → r ≡ s

@@ -1,9 +1,7 @@
 -- What a caller is handed: a set with its count, a mark by its rank, and where an identity stands.
-use Prim.Native.Nat.{ℕ, zero, suc, _-_}
-use mathlib.Core.Bool.{cond}
+use Prim.Native.Nat.{ℕ, zero, suc, _-_, _≤_}
 use mathlib.Core.List.{List, [], _∷_, _++_}
 use lib.Count.{ones}
-use lib.Dec.{ltb}
 use lib.ListN.{length, replicate}
 use Rattle.styles.specs.declared.Identity.{Identity}
 use Rattle.styles.specs.declared.Mark.{Mark}
@@ -14,7 +12,7 @@ use Rattle.styles.specs.declared.RankedBit.{RankedBit}
 use Rattle.styles.specs.declared.RankedBit.the-variants.{Past, At}
 use Rattle.styles.specs.declared.Styles.{Styles}
 use Rattle.styles.specs.Marks.{member, placeOf, blank}
-use Rattle.styles.specs.Bits.{nthBit}
+use Rattle.styles.specs.Bits.{NthAt}
 
 -- a set: how many marks, and the marks in order, blank after the last
 abbrev pub stylesOf : List Mark → Styles
@@ -26,10 +24,10 @@ rankOf [] j = Nothing
 rankOf (m ∷ ms) zero = Found m
 rankOf (m ∷ ms) (suc j) = rankOf ms j
 
--- the place of the j-th set bit, counting from 0; past the last there is none
-unfoldable pub rankBit : ℕ → ℕ → RankedBit
-unfolding nthBit
-rankBit s j = cond (ltb j (ones s)) (At (nthBit j s)) Past
+-- the answer for a rank: the place of the j-th set bit, counting from 0, or that the set has no more than j bits
+abbrev pub RankBit : ℕ → ℕ → RankedBit → Type 0
+RankBit set j Past = ones set ≤ j
+RankBit set j (At i) = NthAt set j i
 
 -- where an identity stands in a sorted table, or would, and whether it is there
 abbrev pub placed : Identity → List Mark → Place
