@@ -18,7 +18,6 @@ pub record Renumbered (f : ℕ → ℕ) (n : ℕ) (before after : List ℕ) : Ty
   pub kept : length after ≡ length before
 
 -- what opening a bit in the first n sets asks: that no set has bit 63, which would be lost
-pub record CanOpen (sets : List ℕ) (n i : ℕ) : Type 0 where
+pub record CanOpen (sets : List ℕ) (n : ℕ) : Type 0 where
   pub count : n ≤ length sets
-  pub bit : i < 64
   pub small : (j : ℕ) → j < n → getD sets j 0 < 2 ^ 63

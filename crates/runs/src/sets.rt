@@ -24,7 +24,7 @@ pub fn union_of(sets: &[u64], n: usize) -> u64
 
 // Opens a bit at i in each of the first n sets: bits from i on move up by one, and bit i is clear.
 pub fn open_sets(sets: &mut [u64], n: usize, i: usize)
-    requires { ⌜ CanOpen (now sets) n i ⌝ }
+    requires { ⌜ CanOpen (now sets) n ⌝ }
     ensures { λ _. ⌜ Renumbered (openBit i) n (now (sets .entry)) (now (sets .exit)) ⌝ }
 {
     let mut k = 0;

@@ -44,7 +44,7 @@ module _ {t : Tank} (i : ℕ) (m : Mark) (h : CanAdmit t i m) where
       let a = h .place in
       omega (arith, place-le (idOf m) (tableOf t), table-length (h .laid))
 
-  pub can-open : CanOpen (t .sets) (t .runs) i
+  pub can-open : CanOpen (t .sets) (t .runs)
   can-open =
       let f = h .laid in
       let a = h .few in
@@ -52,7 +52,6 @@ module _ {t : Tank} (i : ℕ) (m : Mark) (h : CanAdmit t i m) where
       let c = f .sets-514 in
       record {
         count = omega arith;
-        bit = omega (arith, place-fits);
         small =
             λ j k.
             all-sets-at (λ s. s < 2 ^ 63) (t .lens) (t .sets) (t .runs)

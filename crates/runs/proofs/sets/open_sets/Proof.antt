@@ -1,8 +1,11 @@
 -- `sets::open_sets` meets its contract. The invariant: the first k sets are renumbered.
 use Prim.Native.Nat.{_-_, _≤_}
-use mathlib.Core.Path.{_≡_}
+use mathlib.Core.Path.{_≡_, _∙_}
 use native.Mathlib.Omega.{arith}
+use borrow.Author.Needs.{needs}
+use lib.ListN.{getD}
 use Rattle.styles.specs.Bits.{openBit}
+use Rattle.styles.proofs.BitLaws.{open-bit-fits}
 use Rattle.runs.specs.Gather.{Renumbered}
 use Rattle.runs.proofs.MapLaws.{renumber-none, renumber-more}
 use Rattle.runs.proofs.sets.open_sets.Statement.{statement}
@@ -20,17 +23,14 @@ abbrev μ-loop : tie.MeasureT-loop
 loop-holds : tie.Need-loop-holds Inv-loop μ-loop
 loop-holds c = (omega arith, renumber-none _ _)
 
-open-bit-requires : tie.Need-open-bit-requires Inv-loop μ-loop
-open-bit-requires c κs =
-    let l = c .before .before in
-    let s = l .before .before in
-    (s .pre .bit, omega (arith, s .pre .small (l .loop .k) (omega arith), l .loop .inv .1 .rest (l .loop .k) (omega arith)))
-
 loop-again : tie.Need-loop-again Inv-loop μ-loop
 loop-again c =
     let l = c .before .before .before in
     let s = l .before .before in
-    (omega arith, renumber-more _ (l .loop .k) _ (l .loop .inv .1) (omega arith) (c .open-bit .ensures))
+    let f = open-bit-fits (s .args .i) (getD (l .loop .sets) (l .loop .k) 0)
+    (omega (arith, s .pre .small (l .loop .k) (omega arith), l .loop .inv .1 .rest (l .loop .k) (omega arith)))
+    in
+    (omega arith, renumber-more _ (l .loop .k) _ (l .loop .inv .1) (omega arith) (c .open-bit .ensures ∙ f))
 
 returns : tie.Need-returns Inv-loop μ-loop
 returns c =
@@ -46,7 +46,7 @@ open-sets-spec =
     loop-holds
     (λ c. omega arith)
     (λ c. omega arith)
-    open-bit-requires
+    (λ c κs. search needs)
     (λ c. omega arith)
     (λ c. omega arith)
     (λ c. omega arith)

@@ -5,6 +5,8 @@ use borrow.Author.Needs.{needs}
 use borrow.Author.Tests.{not-true, not-false}
 use Rattle.styles.specs.declared.Place.{Place}
 use Rattle.styles.specs.Marks.{member, placeOf}
+use Rattle.styles.specs.Bits.{withBit}
+use Rattle.styles.proofs.BitLaws.{with-bit-fits}
 use Rattle.tank.specs.State.{tableOf}
 use Rattle.tank.proofs.RemoveLaws.{remove-4, remove-none, place-inside, can-scan, can-strip, still-touched, remove-done}
 use Rattle.tank.proofs.Tank.remove_style_scanning_backward.Statement.{statement}
@@ -28,14 +30,18 @@ returns-2 c =
     let s = e .before .before in
     remove-none (s .pre) (s .args .id) (s .args .last) (e .if1 .left) (sym (there-is p) ∙ not-true _ (c .if2 .taken))
 
-with-bit-requires : tie.Need-with-bit-requires
-with-bit-requires c κs =
-    let g = c .before .before in
-    let p = g .before .before in
-    let e = p .before .before in
-    let s = e .before .before in
-    let few = s .pre .formed .laid .few in
-    omega (arith, place-inside (s .pre) (s .args .id) (s .args .last) (e .if1 .left) _ (at-is p) (sym (there-is p) ∙ not-false _ (g .if2 .left)))
+-- the mark is one of 64, so its bit fits
+module _ (c : tie.After-with-bit) where
+  bit-is : c .with-bit .result ≡ withBit (c .before .before .before .before .before .placed .result .at) 0
+  bit-is =
+      let g = c .before .before .before in
+      let p = g .before .before in
+      let e = p .before .before in
+      let s = e .before .before in
+      let few = s .pre .formed .laid .few in
+      c .with-bit .ensures
+      ∙ with-bit-fits (p .placed .result .at) 0
+      (omega (arith, place-inside (s .pre) (s .args .id) (s .args .last) (e .if1 .left) _ (at-is p) (sym (there-is p) ∙ not-false _ (g .if2 .left)))) (omega arith)
 
 back-requires : tie.Need-back-requires
 back-requires c κs =
@@ -53,7 +59,7 @@ strip-requires c κs =
     let e = p .before .before in
     let s = e .before .before in
     can-strip (s .pre) (s .args .id) (s .args .last) (e .if1 .left) _ (at-is p) (sym (there-is p) ∙ not-false _ (g .if2 .left)) _
-    (rw (w .with-bit .ensures) at (c .back .ensures))
+    (rw (bit-is w) at (c .back .ensures))
 
 trim-requires : tie.Need-trim-requires
 trim-requires c κs =
@@ -65,7 +71,7 @@ trim-requires c κs =
     let s = e .before .before in (
       c .strip .ensures .0,
       still-touched (s .pre) (s .args .id) (s .args .last) (e .if1 .left) _ (at-is p) (sym (there-is p) ∙ not-false _ (g .if2 .left)) _
-          (rw (w .with-bit .ensures) at (b .back .ensures)) (c .strip .ensures),
+          (rw (bit-is w) at (b .back .ensures)) (c .strip .ensures),
     )
 
 returns-3 : tie.Need-returns-3
@@ -77,7 +83,7 @@ returns-3 c =
     let e = p .before .before in
     let s = e .before .before in
     remove-done (s .pre) (s .args .id) (s .args .last) (e .if1 .left) _ (at-is p) (sym (there-is p) ∙ not-false _ (g .if2 .left)) _
-    (rw (w .with-bit .ensures) at (b .back .ensures)) (c .before .strip .ensures) (c .trim .ensures)
+    (rw (bit-is w) at (b .back .ensures)) (c .before .strip .ensures) (c .trim .ensures)
 
 pub remove-style-scanning-backward-spec : {M : Type 1} → statement M
 remove-style-scanning-backward-spec =
@@ -87,7 +93,7 @@ remove-style-scanning-backward-spec =
     (λ c κs. search needs)
     (λ c. search needs)
     returns-2
-    with-bit-requires
+    (λ c κs. search needs)
     (λ c. search needs)
     (λ c. search needs)
     back-requires
