@@ -1,11 +1,10 @@
 -- Each function of this crate has one answer: any two results that meet its statement are equal.
 -- Where the statement is an equation `r ≡ ..` that is `one-answer`; the functions that say it otherwise follow it.
-use Prim.Native.Nat.{ℕ, _+_, _^_, _≤_, _<_}
+use Prim.Native.Nat.{ℕ, _^_, _<_}
 use mathlib.Core.Path.{_≡_, refl, sym, ap, ap₂, _∙_}
 use mathlib.Core.List.{List, _++_}
 use native.Mathlib.Omega.{arith}
 use native.Mathlib.Decide.{decLt}
-use native.Mathlib.Numerals.{add-one}
 use lib.Count.{ones}
 use lib.ListN.{take, drop, take-append-drop}
 use Rattle.styles.specs.declared.Mark.{Mark}
@@ -13,15 +12,11 @@ use Rattle.styles.specs.declared.RankedBit.{RankedBit}
 use Rattle.styles.specs.declared.RankedBit.the-variants.{Past, At}
 use Rattle.styles.specs.Bits.{NthBit}
 use Rattle.styles.specs.Answers.{RankBit}
-use Rattle.styles.proofs.MaskLaws.{one-top}
 use Rattle.styles.proofs.RankLaws.{nth-held, one-place}
 
 pub one-answer : {A : Type 0} {r s x : A} → r ≡ x → s ≡ x → r ≡ s
 one-answer e f = e ∙ sym f
 
--- `highest`
-pub one-highest : (set r s : ℕ) → (2 ^ r ≤ set) × (set < 2 ^ (r + 1)) → (2 ^ s ≤ set) × (set < 2 ^ (s + 1)) → r ≡ s
-one-highest set r s h k = one-top r s set (h .0) (rw (add-one r) at (h .1)) (k .0) (rw (add-one s) at (k .1))
 
 -- `nth_bit`
 pub one-nth-bit : (set j r s : ℕ) → NthBit set j r → NthBit set j s → r ≡ s
