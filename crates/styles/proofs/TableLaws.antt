@@ -1,20 +1,20 @@
 -- The sorted table: where an identity stands, and a mark put in at its place.
 use Prim.Native.Nat.{ℕ, zero, suc, _+_, _-_, _≤_, _<_}
-use mathlib.Core.Path.{_≡_, refl, sym, ap, _∙_, subst}
-use mathlib.Core.Bool.{true, false, cond, true≢false}
+use mathlib.Core.Path.{_≡_, refl, sym, ap, ap₂, _∙_, subst}
+use mathlib.Core.Bool.{true, false, cond, true≢false, and-false}
 use mathlib.Core.List.{List, [], _∷_, _++_}
 use native.Mathlib.Omega.{arith}
 use native.Mathlib.Numerals.{add-one}
-use lib.Dec.{ltb, leb·suc-suc}
-use borrow.Author.Tests.{lt-ltb, le-ltb}
-use lib.ListN.{length, take, drop, getD, set, drop-of-length-le, length-take}
-use lib.Seq.{drop-cons, drop-set-lt, drop-drop, set-split, getD-take}
+use lib.Dec.{ltb, leb, leb·suc-suc}
+use borrow.Author.Tests.{lt-ltb, le-ltb, le-leb, lt-leb}
+use lib.ListN.{length, take, drop, getD, set, take-append-drop, drop-of-length-le, length-take}
+use lib.Seq.{drop-cons, drop-set-lt, drop-drop, set-split, take-at, drop-at, getD-take}
 use Rattle.styles.specs.declared.Identity.{Identity}
 use Rattle.styles.specs.declared.Mark.{Mark}
 use Rattle.styles.specs.declared.Stand.{Stand}
 use Rattle.styles.specs.declared.Stand.the-variants.{Before, Same, After}
 use Rattle.styles.specs.Order.{stands, idOf, isBefore, less, sameId}
-use Rattle.styles.specs.Marks.{Above, Sorted, member, insertAt, removeAt, placeOf, blank}
+use Rattle.styles.specs.Marks.{Above, Sorted, member, insertAt, removeAt, placeOf, tableWith, tableWithout, blank}
 use Rattle.styles.proofs.OrderLaws.{less-flip, more-flip, same-eq, same-self}
 use Rattle.styles.proofs.PickLaws.{not-member, above-trans}
 
@@ -131,13 +131,46 @@ set-put (x ∷ xs) (suc n) m h = ap (_∷_ x) (set-put xs n m (omega arith))
 
 -- the end of the loop
 module _ (table t : List Mark) (n i : ℕ) (m carried : Mark) (low : i ≤ n) (room : n < length table) (room′ : n < length t) (same : insertAt n carried t ≡ insertAt i m table) where
-  pub put-front : take (n + 1) (set t n carried) ≡ insertAt i m (take n table)
+  put-front : take (n + 1) (set t n carried) ≡ insertAt i m (take n table)
   put-front = rw (add-one n) (set-put t n carried room′ ∙ ap (take (suc n)) same ∙ put-take table n i m low (omega arith))
 
-  pub put-rest : drop (n + 1) (set t n carried) ≡ drop (n + 1) table
+  put-rest : drop (n + 1) (set t n carried) ≡ drop (n + 1) table
   put-rest =
       let e : drop n t ≡ drop n table = sym (put-drop t n n carried (omega arith)) ∙ ap (drop (suc n)) same ∙ put-drop table n i m low in
       drop-set-lt (n + 1) t n carried (omega arith) ∙ sym (drop-drop 1 n t) ∙ ap (drop 1) e ∙ drop-drop 1 n table
+
+  pub put-all : set t n carried ≡ insertAt i m (take n table) ++ drop (n + 1) table
+  put-all = sym (take-append-drop (n + 1) (set t n carried)) ∙ ap₂ _++_ put-front put-rest
+
+-- the table with one mark more, by cases
+pub put-there : (n i : ℕ) (m : Mark) (t : List Mark) → i ≤ n → n < 64 → tableWith n i m t ≡ insertAt i m (take n t) ++ drop (n + 1) t
+unfolding tableWith
+put-there n i m t h l = rw (le-leb i n h, lt-ltb n 64 l)
+
+pub put-nowhere : (n i : ℕ) (m : Mark) (t : List Mark) → n < i → tableWith n i m t ≡ t
+unfolding tableWith
+put-nowhere n i m t h = rw (lt-leb i n h)
+
+pub put-full : (n i : ℕ) (m : Mark) (t : List Mark) → 64 ≤ n → tableWith n i m t ≡ t
+unfolding tableWith
+put-full n i m t h = rw (le-ltb n 64 h, and-false (leb i n))
+
+pub length-put : (i : ℕ) (m : Mark) (ms : List Mark) → i ≤ length ms → length (insertAt i m ms) ≡ suc (length ms)
+unfolding insertAt
+length-put zero m ms h = refl
+length-put (suc i) m [] h = absurd (omega arith)
+length-put (suc i) m (x ∷ xs) h = ap suc (length-put i m xs (omega arith))
+
+-- its first n + 1 places, and those behind
+module _ (n i : ℕ) (m : Mark) (t : List Mark) (low : i ≤ n) (room : n < 64) (long : n ≤ length t) where
+  put-length : length (insertAt i m (take n t)) ≡ n + 1
+  put-length = let e = length-take n t in omega (arith, length-put i m (take n t) (omega arith))
+
+  pub with-front : take (n + 1) (tableWith n i m t) ≡ insertAt i m (take n t)
+  with-front = ap (take (n + 1)) (put-there n i m t low room) ∙ take-at (insertAt i m (take n t)) (drop (n + 1) t) (n + 1) put-length
+
+  pub with-rest : drop (n + 1) (tableWith n i m t) ≡ drop (n + 1) t
+  with-rest = ap (drop (n + 1)) (put-there n i m t low room) ∙ drop-at (insertAt i m (take n t)) (drop (n + 1) t) (n + 1) put-length
 
 -- ---- a mark taken out
 -- a turn of the loop: the mark after place k moves down, and its own place is now the one to take out
@@ -186,3 +219,16 @@ module _ (table t : List Mark) (n i : ℕ) (low : i < n) (long : n ≤ length t)
       sym (rw e at (out-drop t (n - 1) (n - 1) (omega arith))) ∙ ap (drop (n - 1)) same ∙ (rw e at (out-drop table (n - 1) i (omega arith)))
       in
       (rw e at (set-split t (n - 1) blank (omega arith))) ∙ (rw (f, g))
+
+-- the table with one mark less, by cases
+pub out-there : (n i : ℕ) (t : List Mark) → i < n → n ≤ 64 → tableWithout n i t ≡ removeAt i (take n t) ++ blank ∷ drop n t
+unfolding tableWithout
+out-there n i t h l = rw (lt-ltb i n h, le-leb n 64 l)
+
+pub out-nowhere : (n i : ℕ) (t : List Mark) → n ≤ i → tableWithout n i t ≡ t
+unfolding tableWithout
+out-nowhere n i t h = rw (le-ltb i n h)
+
+pub out-large : (n i : ℕ) (t : List Mark) → 64 < n → tableWithout n i t ≡ t
+unfolding tableWithout
+out-large n i t h = rw (lt-leb n 64 h, and-false (ltb i n))

@@ -1,13 +1,10 @@
 -- Each function of this crate has one answer: any two results that meet its statement are equal.
 -- Where the statement is an equation `r ≡ ..` that is `one-answer`; the functions that say it otherwise follow it.
-use Prim.Native.Nat.{ℕ, _^_, _<_}
-use mathlib.Core.Path.{_≡_, refl, sym, ap, ap₂, _∙_}
-use mathlib.Core.List.{List, _++_}
+use Prim.Native.Nat.{ℕ}
+use mathlib.Core.Path.{_≡_, refl, sym, ap, _∙_}
 use native.Mathlib.Omega.{arith}
 use native.Mathlib.Decide.{decLt}
 use lib.Count.{ones}
-use lib.ListN.{take, drop, take-append-drop}
-use Rattle.styles.specs.declared.Mark.{Mark}
 use Rattle.styles.specs.declared.RankedBit.{RankedBit}
 use Rattle.styles.specs.declared.RankedBit.the-variants.{Past, At}
 use Rattle.styles.specs.Bits.{NthBit}
@@ -16,7 +13,6 @@ use Rattle.styles.proofs.RankLaws.{nth-held, one-place}
 
 pub one-answer : {A : Type 0} {r s x : A} → r ≡ x → s ≡ x → r ≡ s
 one-answer e f = e ∙ sym f
-
 
 -- `nth_bit`
 pub one-nth-bit : (set j r s : ℕ) → NthBit set j r → NthBit set j s → r ≡ s
@@ -32,8 +28,3 @@ one-ranked-bit set j Past Past h k = refl
 one-ranked-bit set j Past (At i) h k = absurd (omega (arith, nth-held set j i k))
 one-ranked-bit set j (At i) Past h k = absurd (omega (arith, nth-held set j i h))
 one-ranked-bit set j (At i) (At l) h k = ap At (one-place set j i l h k)
-
--- `insert_mark`: a front and what is behind it
-pub one-insert : {r s front rest : List Mark} (n : ℕ) → take n r ≡ front → drop n r ≡ rest → take n s ≡ front → drop n s ≡ rest → r ≡ s
-one-insert {r} {s} n e f g h =
-    sym (take-append-drop n r) ∙ ap₂ _++_ (one-answer e g) (one-answer f h) ∙ take-append-drop n s

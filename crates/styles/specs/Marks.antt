@@ -1,8 +1,8 @@
 -- A set of marks is a list of them, sorted by identity: what it carries, what edits make of it, and the winner for a key.
-use Prim.Native.Nat.{ℕ, zero, suc}
+use Prim.Native.Nat.{ℕ, zero, suc, _+_}
 use mathlib.Core.Path.{_≡_}
-use mathlib.Core.Bool.{Bool, true, false, cond, not}
-use mathlib.Core.List.{List, [], _∷_}
+use mathlib.Core.Bool.{Bool, true, false, cond, _&&_, not}
+use mathlib.Core.List.{List, [], _∷_, _++_}
 use Rattle.styles.specs.declared.Identity.{Identity}
 use Rattle.styles.specs.declared.Mark.{Mark}
 use Rattle.styles.specs.declared.Stand.{Stand}
@@ -11,7 +11,8 @@ use Rattle.styles.specs.declared.Value.{Value}
 use Rattle.styles.specs.declared.Value.the-variants.{Null}
 use Rattle.styles.specs.declared.Winner.{Winner}
 use Rattle.styles.specs.declared.Winner.the-variants.{Nothing, Shows}
-use lib.Dec.{eqb}
+use lib.Dec.{eqb, ltb, leb}
+use lib.ListN.{take, drop}
 use Rattle.styles.specs.Values.{sameValue, shown}
 use Rattle.styles.specs.Order.{stands, then, numbers, isBefore, idOf, less, sameId}
 
@@ -132,3 +133,14 @@ placeOf i (m ∷ ms) = cond (less (idOf m) i) (suc (placeOf i ms)) 0
 -- what stands in a place that no mark has
 abbrev pub blank : Mark
 blank = record { key = 0; flags = 0; lamport = 0; peer = 0; value = Null }
+
+-- ---- A table of 64 places, of which the first n are marks
+-- the table with one mark more, put in at place i; as it was where there is no such place, or no room
+unfoldable pub tableWith : ℕ → ℕ → Mark → List Mark → List Mark
+unfolding insertAt
+tableWith n i m table = cond (leb i n && ltb n 64) (insertAt i m (take n table) ++ drop (n + 1) table) table
+
+-- the table without the mark at place i, and the last of the n places blank; as it was where there is no such mark, or n is past 64
+unfoldable pub tableWithout : ℕ → ℕ → List Mark → List Mark
+unfolding removeAt
+tableWithout n i table = cond (ltb i n && leb n 64) (removeAt i (take n table) ++ blank ∷ drop n table) table

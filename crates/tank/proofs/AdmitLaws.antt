@@ -1,6 +1,6 @@
 -- A new mark in the table, and a bit opened for it in every set: the tank means what it meant.
 use Prim.Native.Nat.{ℕ, zero, suc, _+_, _-_, _≤_, _<_, _^_}
-use mathlib.Core.Path.{_≡_, refl, sym, ap, _∙_}
+use mathlib.Core.Path.{_≡_, sym, ap, _∙_}
 use mathlib.Core.Bool.{false}
 use mathlib.Core.List.{List, [], _∷_}
 use native.Mathlib.Omega.{arith}
@@ -11,10 +11,10 @@ use lib.Seq.{getD-drop}
 use Rattle.styles.specs.declared.Mark.{Mark}
 use Rattle.styles.specs.Order.{idOf}
 use Rattle.styles.specs.Values.{valueNan}
-use Rattle.styles.specs.Marks.{insertAt, blank}
+use Rattle.styles.specs.Marks.{insertAt, tableWith, blank}
 use Rattle.styles.specs.Bits.{pick, openBit}
 use Rattle.styles.proofs.PickLaws.{pick-open}
-use Rattle.styles.proofs.TableLaws.{place-le, sorted-put}
+use Rattle.styles.proofs.TableLaws.{place-le, sorted-put, length-put, with-front, with-rest}
 use Rattle.styles.proofs.UnionLaws.{open-within, open-none}
 use Rattle.runs.specs.Runs.{runs, total, setAt}
 use Rattle.runs.specs.Gather.{gather, Renumbered, CanOpen}
@@ -25,12 +25,6 @@ use Rattle.tank.specs.State.{runsOf, tableOf, view, Numbers}
 use Rattle.tank.specs.Steps.{Stepped, CanAdmit}
 use Rattle.tank.proofs.Unique.{table-length}
 use Rattle.tank.proofs.ViewLaws.{view-renumbered}
-
-pub length-put : (i : ℕ) (m : Mark) (ms : List Mark) → i ≤ length ms → length (insertAt i m ms) ≡ suc (length ms)
-unfolding insertAt
-length-put zero m ms h = refl
-length-put (suc i) m [] h = absurd (omega arith)
-length-put (suc i) m (x ∷ xs) h = ap suc (length-put i m xs (omega arith))
 
 numbers-put : (i : ℕ) (m : Mark) (ms : List Mark) → i ≤ length ms → valueNan (m .value) ≡ false → Numbers ms → Numbers (insertAt i m ms)
 unfolding insertAt Numbers
@@ -59,7 +53,16 @@ module _ {t : Tank} (i : ℕ) (m : Mark) (h : CanAdmit t i m) where
       }
 
   module _ (sets : List ℕ) (table : List Mark) (opened : Renumbered (openBit i) (t .runs) (t .sets) sets)
-      (front : take (t .marks + 1) table ≡ insertAt i m (tableOf t)) (rest : drop (t .marks + 1) table ≡ drop (t .marks + 1) (t .table)) where
+      (made : table ≡ tableWith (t .marks) i m (t .table)) where
+    long : t .marks ≤ length (t .table)
+    long = let a = h .few in let b = h .laid .table-64 in omega arith
+
+    front : take (t .marks + 1) table ≡ insertAt i m (tableOf t)
+    front = ap (take (t .marks + 1)) made ∙ with-front (t .marks) i m (t .table) place-fits (h .few) long
+
+    rest : drop (t .marks + 1) table ≡ drop (t .marks + 1) (t .table)
+    rest = ap (drop (t .marks + 1)) made ∙ with-rest (t .marks) i m (t .table) place-fits (h .few) long
+
     runs-are : runs (t .lens) sets (t .runs) ≡ mapRuns (openBit i) (runsOf t)
     runs-are = renumber-runs (t .lens) opened
 

@@ -16,6 +16,7 @@ use Rattle.styles.specs.Values.{valueNan}
 use Rattle.styles.specs.Marks.{member, placeOf, insertAt, blank}
 use Rattle.styles.specs.Bits.{openBit}
 use Rattle.styles.proofs.BitLaws.{with-is}
+use Rattle.styles.proofs.TableLaws.{length-put}
 use Rattle.styles.proofs.UnionLaws.{open-all}
 use Rattle.runs.specs.Gather.{gather}
 use Rattle.runs.proofs.Digits.{or-within}
@@ -24,7 +25,7 @@ use Rattle.tank.specs.declared.Room.the-variants.{Known, New, Clash, Ful
 use Rattle.tank.specs.Rules.{View, annotating, after, afterAnnotate, empty, over, long, notNumber, clash, clashes, full, carried, runsHeld}
 use Rattle.tank.specs.State.{runsOf, tableOf, view, Formed, Sound, Called}
 use Rattle.tank.specs.Steps.{Stepped, CanLay, CanAdmit, roomFor}
-use Rattle.tank.proofs.AdmitLaws.{length-put, place-fits}
+use Rattle.tank.proofs.AdmitLaws.{place-fits}
 use Rattle.tank.proofs.Calls.{number-3, number-4, number-6, number-7, number-8, number-0, refused, made}
 use Rattle.tank.proofs.RoomLaws.{room-known, room-new, room-clash, room-full, no-clash, known-is, place-in}
 use Rattle.tank.proofs.Shape.{no-path}
