@@ -7,6 +7,7 @@ use native.Mathlib.Decide.{ℕ-discrete, decLt}
 use native.Mathlib.Omega.{arith}
 use lib.ListN.{length, drop, take, getD, drop-of-length-le}
 use lib.Seq.{drop-cons, drop-nil, drop-drop}
+use Rattle.text.specs.Bytes.{holds}
 use Rattle.tanks.specs.declared.Tanks.{Tanks}
 use Rattle.tanks.specs.Pool.{meaning}
 use Rattle.script.specs.declared.Call.{Call}
@@ -15,7 +16,7 @@ use Rattle.script.specs.declared.Fed.{Fed}
 use Rattle.script.specs.declared.Reader.{Reader}
 use Rattle.script.specs.Lines.{State, lineFront, hasEnd, stateOf, turnedOf, eventOf, afterOf, bringsOf, readOf, grownOf, Feeds}
 use Rattle.script.specs.Reading.{lineOf}
-use Rattle.script.proofs.CutLaws.{front-newline, front-other, end-newline, end-other}
+use Rattle.text.proofs.Finding.{front-here, front-past, held-here, held-past}
 use Rattle.script.proofs.CutAnywhere.{after-part, after-cut, brings-cut, grown-append}
 use Rattle.script.proofs.Unique.{fed-call}
 use Rattle.answers.specs.Waiting.{Waiting, waiting, withAll, Adds}
@@ -79,21 +80,21 @@ module _ (x : Course) where
           ∙ ap (λ (t : List ℕ). lineOf (x .reader .call) t .call) (grown-append (x .reader) (c ∷ []) cs e)
 
 none-behind : (c : ℕ) → (c ≡ 10 → ⊥) → hasEnd (c ∷ []) ≡ false
-unfolding hasEnd
-none-behind c n = end-other c [] n
+unfolding holds
+none-behind c n = held-past 10 c [] n
 
 behind-other : (c : ℕ) (cs : List ℕ) → (c ≡ 10 → ⊥) → behindLine (c ∷ cs) ≡ behindLine cs
 behind-other c cs n =
     let e : length (c ∷ lineFront cs) + 1 ≡ suc (length (lineFront cs) + 1) = omega arith in
-    ap (λ (t : List ℕ). drop (length t + 1) (c ∷ cs)) (front-other c cs n) ∙ ap (λ (k : ℕ). drop k (c ∷ cs)) e
+    ap (λ (t : List ℕ). drop (length t + 1) (c ∷ cs)) (front-past 10 c cs n) ∙ ap (λ (k : ℕ). drop k (c ∷ cs)) e
 
 module _ (x : Course) (c : ℕ) (cs : List ℕ) (e : x .over ≡ false) where
   -- the line ends here
   ends : c ≡ 10 → afterBytes x (c ∷ cs) ≡ afterBytes (afterLine x (c ∷ cs)) (behindLine (c ∷ cs))
   unfolding afterBytes
   ends h =
-      ap (λ (y : Course). afterBytes y cs) (byte-taken x c e ∙ same-line x (c ∷ []) (c ∷ cs) (end-newline c [] h ∙ sym (end-newline c cs h)) (front-newline c [] h ∙ sym (front-newline c cs h)))
-      ∙ ap (λ (t : List ℕ). afterBytes (afterLine x (c ∷ cs)) (drop (length t + 1) (c ∷ cs))) (sym (front-newline c cs h))
+      ap (λ (y : Course). afterBytes y cs) (byte-taken x c e ∙ same-line x (c ∷ []) (c ∷ cs) (held-here 10 c [] h ∙ sym (held-here 10 c cs h)) (front-here 10 c [] h ∙ sym (front-here 10 c cs h)))
+      ∙ ap (λ (t : List ℕ). afterBytes (afterLine x (c ∷ cs)) (drop (length t + 1) (c ∷ cs))) (sym (front-here 10 c cs h))
 
   -- it goes on
   goes : (c ≡ 10 → ⊥) → afterBytes (part x c) cs ≡ afterBytes (afterLine (part x c) cs) (behindLine cs) → afterBytes x (c ∷ cs) ≡ afterBytes (afterLine x (c ∷ cs)) (behindLine (c ∷ cs))

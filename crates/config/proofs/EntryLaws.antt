@@ -6,6 +6,7 @@ use Prim.Native.Nat.{ℕ, _-_, _≤_}
 use native.Mathlib.Omega.{arith}
 use lib.ListN.{length, length-append, length-replicate, take-append-drop}
 use lib.Seq.{take-append-seam, drop-append-seam, length-take-le}
+use Rattle.text.specs.Bytes.{holds}
 use Rattle.config.specs.Names.{holdsColon, zeros}
 use Rattle.config.specs.Table.{Named}
 use Rattle.config.specs.Meaning.{blankEntry, entryOf, nameIn, namedOf, Tidy}
@@ -25,7 +26,7 @@ tidy-entry k s h c =
     }
 
 pub tidy-blank : Tidy blankEntry
-unfolding holdsColon
+unfolding holds
 tidy-blank = record { wide = refl; within = omega arith; rest = refl; plain = refl }
 
 -- a tidy entry is the entry of its name

@@ -5,7 +5,7 @@ use mathlib.Core.List.{List, [], _∷_, _++_}
 use mathlib.Core.Option.{none, some, orElse}
 use Prim.Native.Nat.{ℕ}
 use lib.ListN.{replicate}
-use Rattle.text.specs.Bytes.{bytes, startsOf, sameOf}
+use Rattle.text.specs.Bytes.{bytes, upTo, holds, startsOf, sameOf}
 use Rattle.richtext.specs.Flags.{flagOf}
 use Rattle.richtext.specs.declared.ExpandType.the-variants.{Before, After, Both, None}
 use Rattle.config.specs.Names.{holdsColon, cut}
@@ -22,20 +22,20 @@ xs n = replicate n 120
 
 -- the cut is at the first colon, and nothing may stand before it
 cut-two : cut (bytes "a:b:") ≡ bytes "a"
-unfolding cut
+unfolding upTo
 cut-two = refl
 
 cut-front : cut (bytes ":x") ≡ []
-unfolding cut
+unfolding upTo
 cut-front = refl
 
 -- comment:17 is looked up as comment, with the flag's type reversed to unmark
 flag-17 : flagSays comment17 builtIn ≡ record { refusal = 0; value = some (flagOf 128) }
-unfolding comment17 cut find startsOf sameOf orElse
+unfolding comment17 upTo find startsOf sameOf orElse
 flag-17 = refl
 
 unmark-17 : unmarkSays comment17 builtIn ≡ record { refusal = 0; value = some (flagOf 134) }
-unfolding comment17 cut find startsOf sameOf orElse
+unfolding comment17 upTo find startsOf sameOf orElse
 unmark-17 = refl
 
 -- get takes it whole: no entry and no default, or the default
@@ -61,16 +61,16 @@ boldAlone : Table
 boldAlone = record { entries = growing "bold" After ∷ []; default = none }
 
 replaced : withEntry (bytes "bold") (record { expand = Both }) boldAlone ≡ record { entries = growing "bold" Both ∷ []; default = none }
-unfolding boldAlone holdsColon known entered startsOf sameOf
+unfolding boldAlone holds known entered startsOf sameOf
 replaced = refl
 
 appended : withEntry (bytes "link") (record { expand = None }) boldAlone ≡ record { entries = growing "bold" After ∷ growing "link" None ∷ []; default = none }
-unfolding boldAlone holdsColon known entered startsOf sameOf
+unfolding boldAlone holds known entered startsOf sameOf
 appended = refl
 
 -- a name with a colon is refused
 colon : refuses comment17 builtIn ≡ true
-unfolding comment17 holdsColon known startsOf sameOf
+unfolding comment17 holds known startsOf sameOf
 colon = refl
 
 -- each of the built-in names stands once

@@ -98,20 +98,6 @@ fn padded(key: &[u8]) -> [u8; 32]
     name
 }
 
-// Where the first colon stands: at the length where there is none.
-fn first_colon(key: &[u8]) -> usize
-    ensures { λ r. ⌜ r ≡ length (cut (now (key .entry))) ⌝ }
-{
-    let mut i = 0;
-    while i < key.len() {
-        if key[i] == COLON {
-            return i;
-        }
-        i += 1;
-    }
-    i
-}
-
 impl Entry {
     // The entry of a name that is short enough.
     fn new(key: &[u8], style: StyleConfig) -> Entry
@@ -181,7 +167,7 @@ impl StyleConfigMap {
                 map: self,
             };
         }
-        if first_colon(key) < key.len() {
+        if text::find(key, 0, COLON) < key.len() {
             return Inserted {
                 refusal: REFUSED,
                 map: self,
@@ -286,7 +272,7 @@ impl StyleConfigMap {
         if MAX_NAME < key.len() {
             return Got::Refused;
         }
-        let end = first_colon(key);
+        let end = text::find(key, 0, COLON);
         match self.style_for(&key[..end]) {
             MaybeStyle::Style(style) => Got::Style(style),
             MaybeStyle::Nothing => Got::Nothing,

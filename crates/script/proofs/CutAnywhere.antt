@@ -10,13 +10,13 @@ use lib.Seq.{take-all, take-append-le, take-take}
 use Rattle.script.specs.declared.Event.{Event}
 use Rattle.script.specs.Reading.{lineOf}
 use Rattle.script.specs.Lines.{lineFront, hasEnd, State, grownOf, turnedOf, eventOf, afterOf, bringsOf}
-use Rattle.script.proofs.CutLaws.{front-other, front-none, end-newline, end-other}
+use Rattle.text.proofs.Finding.{front-past, front-none, held-here, held-past}
 
 no-end-cons : (c : ℕ) (cs : List ℕ) → hasEnd (c ∷ cs) ≡ false → (c ≡ 10 → ⊥) × (hasEnd cs ≡ false)
 no-end-cons c cs e =
     elim (ℕ-discrete c 10) [
-      | yes h ↦ let z : true ≡ false = sym (end-newline c cs h) ∙ e in absurd (apart z)
-      | no h ↦ (h, sym (end-other c cs h) ∙ e)
+      | yes h ↦ let z : true ≡ false = sym (held-here 10 c cs h) ∙ e in absurd (apart z)
+      | no h ↦ (h, sym (held-past 10 c cs h) ∙ e)
     ]
   where
     apart : true ≡ false → ⊥
@@ -24,16 +24,16 @@ no-end-cons c cs e =
 
 -- bytes with no newline among them
 pub front-all : (a : List ℕ) → hasEnd a ≡ false → lineFront a ≡ a
-front-all [] e = front-none
-front-all (c ∷ cs) e = let n = no-end-cons c cs e in front-other c cs (n .0) ∙ ap (λ (t : List ℕ). c ∷ t) (front-all cs (n .1))
+front-all [] e = front-none 10
+front-all (c ∷ cs) e = let n = no-end-cons c cs e in front-past 10 c cs (n .0) ∙ ap (λ (t : List ℕ). c ∷ t) (front-all cs (n .1))
 
 pub front-append : (a b : List ℕ) → hasEnd a ≡ false → lineFront (a ++ b) ≡ a ++ lineFront b
 front-append [] b e = refl
-front-append (c ∷ cs) b e = let n = no-end-cons c cs e in front-other c (cs ++ b) (n .0) ∙ ap (λ (t : List ℕ). c ∷ t) (front-append cs b (n .1))
+front-append (c ∷ cs) b e = let n = no-end-cons c cs e in front-past 10 c (cs ++ b) (n .0) ∙ ap (λ (t : List ℕ). c ∷ t) (front-append cs b (n .1))
 
 pub end-append : (a b : List ℕ) → hasEnd a ≡ false → hasEnd (a ++ b) ≡ hasEnd b
 end-append [] b e = refl
-end-append (c ∷ cs) b e = let n = no-end-cons c cs e in end-other c (cs ++ b) (n .0) ∙ end-append cs b (n .1)
+end-append (c ∷ cs) b e = let n = no-end-cons c cs e in held-past 10 c (cs ++ b) (n .0) ∙ end-append cs b (n .1)
 
 -- what is kept of a text, and more behind it
 pub take-kept : {A : Type 0} (n : ℕ) (x y : List A) → take n (take n x ++ y) ≡ take n (x ++ y)

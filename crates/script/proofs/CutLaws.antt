@@ -10,84 +10,12 @@ use lib.Dec.{ltb}
 use lib.ListN.{length, getD, take, drop, length-take, length-drop, length-append}
 use lib.Seq.{drop-cons, take-all, take-take, take-append-add, take-append-seam, length-take-le}
 use borrow.Author.Tests.{eq-eqb, ne-eqb, lt-ltb, le-ltb}
+use Rattle.text.specs.Bytes.{upTo, holds}
 use Rattle.text.specs.Number.{put}
+use Rattle.text.proofs.Finding.{front-take, front-inside, held-by-length}
 use Rattle.script.specs.declared.Cut.{Cut}
 use Rattle.script.specs.declared.Line.{Line}
 use Rattle.script.specs.Lines.{lineFront, hasEnd, heldOf, Keeps, grownLine, pastLine, cutOf}
-
--- ---- the bytes in front of a newline
-module _ (c : ℕ) (cs : List ℕ) where
-  pub front-newline : c ≡ 10 → lineFront (c ∷ cs) ≡ []
-  unfolding lineFront
-  front-newline e = rw (eq-eqb c 10 e)
-
-  pub front-other : (c ≡ 10 → ⊥) → lineFront (c ∷ cs) ≡ c ∷ lineFront cs
-  unfolding lineFront
-  front-other e = rw (ne-eqb c 10 e)
-
-  pub end-newline : c ≡ 10 → hasEnd (c ∷ cs) ≡ true
-  unfolding hasEnd
-  end-newline e = rw (eq-eqb c 10 e)
-
-  pub end-other : (c ≡ 10 → ⊥) → hasEnd (c ∷ cs) ≡ hasEnd cs
-  unfolding hasEnd
-  end-other e = rw (ne-eqb c 10 e)
-
-pub front-none : lineFront [] ≡ []
-unfolding lineFront
-front-none = refl
-
--- they are the front of the bytes
-pub front-take : (l : List ℕ) → take (length (lineFront l)) l ≡ lineFront l
-unfolding lineFront
-front-take [] = refl
-front-take (c ∷ cs) =
-    elim (ℕ-discrete c 10) [
-      | yes e ↦ rw (front-newline c cs e)
-      | no e ↦ rw (front-other c cs e) (ap (λ (t : List ℕ). c ∷ t) (front-take cs))
-    ]
-
-pub front-length : (l : List ℕ) → length (lineFront l) ≤ length l
-front-length l = omega (arith, ap length (front-take l), length-take (length (lineFront l)) l)
-
--- a part of the bytes that ends where they do
-module _ (l : List ℕ) (from to : ℕ) (e : to ≡ from + length (lineFront (drop from l))) where
-  pub front-part : take (to - from) (drop from l) ≡ lineFront (drop from l)
-  front-part = let d : to - from ≡ length (lineFront (drop from l)) = omega arith in ap (λ (k : ℕ). take k (drop from l)) d ∙ front-take (drop from l)
-
-  pub front-inside : from ≤ length l → to ≤ length l
-  front-inside h = omega (arith, front-length (drop from l), length-drop from l)
-
-by-one : (a b : ℕ) → ltb a b ≡ ltb (suc a) (suc b)
-by-one a b =
-    elim (decLt a b) [
-      | yes h ↦ lt-ltb a b h ∙ sym (lt-ltb (suc a) (suc b) (omega arith))
-      | no h ↦ le-ltb a b (omega arith) ∙ sym (le-ltb (suc a) (suc b) (omega arith))
-    ]
-
--- there is a newline where they are not all
-pub end-by-length : (l : List ℕ) → hasEnd l ≡ ltb (length (lineFront l)) (length l)
-unfolding hasEnd lineFront
-end-by-length [] = refl
-end-by-length (c ∷ cs) =
-    elim (ℕ-discrete c 10) [
-      | yes e ↦ end-newline c cs e ∙ sym (lt-ltb (length (lineFront (c ∷ cs))) (suc (length cs)) (omega (arith, ap length (front-newline c cs e))))
-      | no e ↦ end-other c cs e ∙ end-by-length cs ∙ by-one (length (lineFront cs)) (length cs) ∙ sym (ap (λ (t : List ℕ). ltb (length t) (suc (length cs))) (front-other c cs e))
-    ]
-
--- ---- the search
-module _ (l : List ℕ) (i : ℕ) (h : i < length l) where
-  pub search-stops : getD l i 0 ≡ 10 → length (lineFront (drop i l)) ≡ 0
-  search-stops e = ap (λ (t : List ℕ). length (lineFront t)) (drop-cons l i 0 h) ∙ ap length (front-newline (getD l i 0) (drop (suc i) l) e)
-
-  pub search-goes-on : (getD l i 0 ≡ 10 → ⊥) → length (lineFront (drop i l)) ≡ suc (length (lineFront (drop (i + 1) l)))
-  search-goes-on e =
-      ap (λ (t : List ℕ). length (lineFront t)) (drop-cons l i 0 h)
-      ∙ ap length (front-other (getD l i 0) (drop (suc i) l) e)
-      ∙ ap (λ (k : ℕ). suc (length (lineFront (drop k l)))) (sym (add-one i))
-
-pub search-ends : (l : List ℕ) (i : ℕ) → length l ≤ i → length (lineFront (drop i l)) ≡ 0
-search-ends l i h = ap (λ (t : List ℕ). length (lineFront t)) (lib.ListN.drop-of-length-le l h) ∙ ap length front-none
 
 -- ---- what is kept
 pub take-min : {A : Type 0} (n m : ℕ) (l : List A) → length l ≤ m → take (min n m) l ≡ take n l
@@ -113,7 +41,7 @@ module _ (text rest : List ℕ) (lc count more : ℕ) (sized : length text ≡ 6
   piece : take more rest ≡ take (65 - count) (lineFront rest)
   piece =
       sym (take-take more (length (lineFront rest)) rest (omega arith))
-      ∙ ap (take more) (front-take rest)
+      ∙ ap (take more) (front-take 10 rest)
       ∙ ap (λ (k : ℕ). take k (lineFront rest)) (is-more ∙ min-swap (length (lineFront rest)) (65 - count))
       ∙ take-min (65 - count) (length (lineFront rest)) (lineFront rest) (omega arith)
     where
@@ -142,7 +70,7 @@ module _ (bytes : List ℕ) (from : ℕ) (line : Line) (end count more n : ℕ) 
   module _ (inside : from ≤ length bytes) (keeps : Keeps line count) (is-end : end ≡ from + length (lineFront (drop from bytes))) (is-more : more ≡ min (end - from) (65 - count))
       (is-out : out ≡ put (line .text) count (take (from + more - from) (drop from bytes))) (is-n : n ≡ count + length (take (from + more - from) (drop from bytes))) where
     end-inside : end ≤ length bytes
-    end-inside = front-inside bytes from end is-end inside
+    end-inside = front-inside 10 bytes from end is-end inside
 
     line-cut : _≡_ {A = Line} (record { text = out; count = n }) (grownLine line (drop from bytes))
     unfolding grownLine
@@ -154,13 +82,13 @@ module _ (bytes : List ℕ) (from : ℕ) (line : Line) (end count more n : ℕ) 
 
     pub cut-whole : end < length bytes → _≡_ {A = Cut} (record { line = record { text = out; count = n }; at = end + 1; whole = true }) (cutOf bytes from line)
     cut-whole h =
-        let e = sym (end-by-length (drop from bytes) ∙ lt-ltb (length (lineFront (drop from bytes))) (length (drop from bytes)) (omega (arith, length-drop from bytes))) in
+        let e = sym (held-by-length 10 (drop from bytes) ∙ lt-ltb (length (lineFront (drop from bytes))) (length (drop from bytes)) (omega (arith, length-drop from bytes))) in
         let f : end + 1 ≡ pastLine bytes from = omega arith in
         λ i. record { line = line-cut i; at = f i; whole = e i }
 
     pub cut-open : length bytes ≤ end → _≡_ {A = Cut} (record { line = record { text = out; count = n }; at = end; whole = false }) (cutOf bytes from line)
     cut-open h =
-        let e = sym (end-by-length (drop from bytes) ∙ le-ltb (length (lineFront (drop from bytes))) (length (drop from bytes)) (omega (arith, length-drop from bytes))) in
+        let e = sym (held-by-length 10 (drop from bytes) ∙ le-ltb (length (lineFront (drop from bytes))) (length (drop from bytes)) (omega (arith, length-drop from bytes))) in
         let f : end ≡ pastLine bytes from = omega (arith, end-inside) in
         λ i. record { line = line-cut i; at = f i; whole = e i }
 

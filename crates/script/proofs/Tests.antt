@@ -5,7 +5,7 @@ use lib.ListN.{replicate}
 use Rattle.text.specs.declared.Parsed.{Parsed}
 use Rattle.text.specs.Number.{decimalOf, numberFrom}
 use Rattle.text.specs.Signed.{signedOf, minusOf}
-use Rattle.text.specs.Bytes.{bytes, startsOf, sameOf}
+use Rattle.text.specs.Bytes.{bytes, upTo, holds, startsOf, sameOf}
 use Rattle.styles.specs.declared.Value.{Value}
 use Rattle.script.specs.declared.Field.{Field}
 use Rattle.script.specs.declared.Kind.{Kind}
@@ -137,7 +137,7 @@ start = record { held = bytes "op=ru"; call = freshOf Op.Nothing; newlines = 4 }
 
 -- a line whose start came before
 second-half : afterOf start (bytes "ns\ntank=1") ≡ record { held = []; call = freshOf Op.Runs; newlines = 5 }
-unfolding start afterOf lineFront hasEnd lineOf heldLine opNamed sameOf startsOf
+unfolding start afterOf upTo holds lineOf heldLine opNamed sameOf startsOf
 second-half = refl
 
 -- the places behind a name are zeros
@@ -147,18 +147,18 @@ short-name = refl
 
 -- a line keeps what stands in front of a newline, and the next starts empty
 grown-line : grownLine emptyLine (bytes "tank=1\n") ≡ record { text = bytes "tank=1" ++ replicate 59 0; count = 6 }
-unfolding grownLine lineFront
+unfolding grownLine upTo
 grown-line = refl
 
 open-line : lineAfter emptyLine (bytes "tank=1") ≡ grownLine emptyLine (bytes "tank=1\n")
-unfolding lineAfter hasEnd grownLine lineFront
+unfolding lineAfter holds grownLine upTo
 open-line = refl
 
 next-line : lineAfter (grownLine emptyLine (bytes "tank=")) (bytes "1\n") ≡ emptyLine
-unfolding lineAfter hasEnd
+unfolding lineAfter holds
 next-line = refl
 
 -- the call that a line's end leaves
 named-call : callAfter start (bytes "ns\ntank=1") ≡ freshOf Op.Runs
-unfolding start callAfter lineFront hasEnd lineOf heldLine opNamed sameOf startsOf
+unfolding start callAfter upTo holds lineOf heldLine opNamed sameOf startsOf
 named-call = refl

@@ -5,6 +5,7 @@ use mathlib.Core.List.{List, [], _∷_, _++_}
 use Prim.Native.Nat.{ℕ, _+_, _-_, _^_, min}
 use lib.Dec.{eqb}
 use lib.ListN.{length, take, drop, replicate}
+use Rattle.text.specs.Bytes.{upTo, holds}
 use Rattle.script.specs.declared.Call.{Call}
 use Rattle.script.specs.declared.Cut.{Cut}
 use Rattle.script.specs.declared.Ending.{Ending}
@@ -20,14 +21,12 @@ use Rattle.script.specs.Grammar.{fieldAt, holdsOf}
 use Rattle.script.specs.Reading.{freshOf, lineOf}
 
 -- the bytes in front of the first newline
-unfoldable pub lineFront : List ℕ → List ℕ
-lineFront [] = []
-lineFront (c ∷ cs) = cond (eqb c 10) [] (c ∷ lineFront cs)
+abbrev pub lineFront : List ℕ → List ℕ
+lineFront = upTo 10
 
 -- there is a newline
-unfoldable pub hasEnd : List ℕ → Bool
-hasEnd [] = false
-hasEnd (c ∷ cs) = cond (eqb c 10) true (hasEnd cs)
+abbrev pub hasEnd : List ℕ → Bool
+hasEnd = holds 10
 
 -- what is kept of a line: all of it, or the first 65 bytes where it has more
 abbrev pub heldOf : Line → List ℕ
@@ -48,7 +47,7 @@ holding l t = record { text = t ++ drop (length t) (l .text); count = length t }
 
 -- a line with the bytes up to the newline, or all of them, behind what is kept of it
 unfoldable pub grownLine : Line → List ℕ → Line
-unfolding lineFront
+unfolding upTo
 grownLine l rest = holding l (take 65 (heldOf l ++ lineFront rest))
 
 -- the place behind the first newline from a place on, or the end of the bytes
@@ -99,7 +98,7 @@ readOf s rest = lineOf (s .call) (grownOf s rest)
 
 -- the state after the bytes up to the first newline, or all of them
 unfoldable pub afterOf : State → List ℕ → State
-unfolding lineFront hasEnd lineOf
+unfolding upTo holds lineOf
 afterOf s rest =
     cond (hasEnd rest)
     (turnedOf (s .newlines) (readOf s rest .progress) (readOf s rest .call))
@@ -107,17 +106,17 @@ afterOf s rest =
 
 -- what they bring: nothing before a newline, else what the line makes of the call
 unfoldable pub bringsOf : State → List ℕ → Event
-unfolding lineFront hasEnd lineOf
+unfolding upTo holds lineOf
 bringsOf s rest = cond (hasEnd rest) (eventOf (readOf s rest .progress)) Event.Nothing
 
 -- the line after them: an empty one behind a newline
 unfoldable pub lineAfter : Line → List ℕ → Line
-unfolding hasEnd grownLine
+unfolding holds grownLine
 lineAfter l rest = cond (hasEnd rest) emptyLine (grownLine l rest)
 
 -- the call as they leave it, in front of a newline as it was
 unfoldable pub callAfter : State → List ℕ → Call
-unfolding lineFront hasEnd lineOf
+unfolding upTo holds lineOf
 callAfter s rest = cond (hasEnd rest) (readOf s rest .call) (s .call)
 
 -- the bytes from a place on, fed to a reader

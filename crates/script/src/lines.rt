@@ -3,7 +3,7 @@ ghost use mathlib.Core.Path.{_≡_};
 ghost use Prim.Native.Nat.{_+_, _≤_, _<_, min};
 ghost use lib.ListN.{length, drop};
 ghost use Rattle.script.specs.Reading.{freshOf, lineOf};
-ghost use Rattle.script.specs.Lines.{lineFront, heldOf, Keeps, emptyLine, cutOf, readerAt, stateOf, countedOf, turnedOf, eventOf, Feeds, endingBy, endingOf};
+ghost use Rattle.script.specs.Lines.{heldOf, Keeps, emptyLine, cutOf, readerAt, stateOf, countedOf, turnedOf, eventOf, Feeds, endingBy, endingOf};
 use super::Call;
 use super::Cut;
 use super::Ending;
@@ -42,27 +42,12 @@ fn kept(line: Line) -> usize
     least(line.count, 65)
 }
 
-// The place of the first newline from a place on, or the end of the bytes.
-pub fn line_end(bytes: &[u8], from: usize) -> usize
-    requires { ⌜ from ≤ length (now bytes) ⌝ }
-    ensures { λ r. ⌜ r ≡ from + length (lineFront (drop from (now (bytes .entry)))) ⌝ }
-{
-    let mut i = from;
-    while i < bytes.len() {
-        if bytes[i] == b'\n' {
-            return i;
-        }
-        i += 1;
-    }
-    i
-}
-
 // The bytes of a line from a place on, up to its newline or to the end of the bytes.
 pub fn cut_line(bytes: &[u8], from: usize, line: Line) -> Cut
     requires { ⌜ from ≤ length (now bytes) ⌝ }
     ensures { λ r. ⌜ r ≡ cutOf (now (bytes .entry)) from line ⌝ }
 {
-    let end = line_end(bytes, from);
+    let end = text::find(bytes, from, b'\n');
     let count = kept(line);
     let more = least(end - from, 65 - count);
     let stop = from + more;

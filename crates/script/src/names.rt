@@ -13,7 +13,6 @@ use super::Field;
 use super::Kind;
 use super::Name;
 use super::Op;
-use super::lines::line_end;
 
 fn named(word: &[u8]) -> Name
     requires { ⌜ length (now word) ≤ 16 ⌝ }
@@ -29,7 +28,7 @@ fn name_at(all: &[u8], from: usize) -> Name
     requires { ⌜ (from ≤ length (now all)) × (length (lineFront (drop from (now all))) ≤ 16) ⌝ }
     ensures { λ r. ⌜ r ≡ spelling (lineFront (drop from (now (all .entry)))) ⌝ }
 {
-    let to = line_end(all, from);
+    let to = text::find(all, from, b'\n');
     named(&all[from..to])
 }
 

@@ -1,5 +1,6 @@
 pub mod Steps
 pub mod Laws
+pub mod Finding
 pub mod Prefix
 pub mod Negated
 pub mod Integers

@@ -1,4 +1,4 @@
--- Byte strings: those of a word, and comparing two.
+-- Byte strings: those of a word, what stands in front of a byte, and comparing two.
 use mathlib.Core.List.{List, [], _∷_}
 use mathlib.Core.Bool.{Bool, true, false, cond}
 use Prim.Native.Nat.{ℕ, zero, suc}
@@ -15,6 +15,16 @@ bytesFrom (suc k) i s = code (charAt s i) ∷ bytesFrom k (suc i) s
 -- all bytes of a word of the document
 abbrev pub bytes : String → List ℕ
 bytes s = bytesFrom (len s) 0 s
+
+-- the bytes in front of the first b: all of them where there is none
+unfoldable pub upTo : ℕ → List ℕ → List ℕ
+upTo b [] = []
+upTo b (x ∷ xs) = cond (eqb x b) [] (x ∷ upTo b xs)
+
+-- b stands among them
+unfoldable pub holds : ℕ → List ℕ → Bool
+holds b [] = false
+holds b (x ∷ xs) = cond (eqb x b) true (holds b xs)
 
 -- a text starts with another
 unfoldable pub startsOf : List ℕ → List ℕ → Bool

@@ -3,10 +3,10 @@ mod widths; // widths.rt: narrower numbers as 64 bits
 
 ghost use mathlib.Core.Path.{_≡_};
 ghost use Prim.Native.Nat.{_+_, _-_, _*_, _≤_, _<_};
-ghost use lib.ListN.{length};
+ghost use lib.ListN.{length, drop};
 ghost use Rattle.io.specs.Digits.{glyph as glyphOf};
 ghost use Rattle.text.specs.Signed.{plusOf, minusOf, signedOf, sizeOf, signedText};
-ghost use Rattle.text.specs.Bytes.{startsOf, sameOf};
+ghost use Rattle.text.specs.Bytes.{upTo, startsOf, sameOf};
 ghost use Rattle.text.specs.Number.{digitOf, stepOf, numberFrom, decimalOf, hexOf, decimalText, hexText, put as putOf};
 pub use widths::wide;
 pub use widths::wide8;
@@ -164,6 +164,20 @@ pub fn starts(s: &[u8], p: &[u8]) -> bool
         i += 1;
     }
     true
+}
+
+// Where a byte stands first, from a place on: behind the last byte where there is none.
+pub fn find(bytes: &[u8], from: usize, byte: u8) -> usize
+    ensures { λ r. ⌜ r ≡ from + length (upTo byte (drop from (now (bytes .entry)))) ⌝ }
+{
+    let mut i = from;
+    while i < bytes.len() {
+        if bytes[i] == byte {
+            return i;
+        }
+        i += 1;
+    }
+    i
 }
 
 // Whether two texts are the same.

@@ -4,7 +4,7 @@ use mathlib.Core.Option.{none}
 use Prim.Native.Nat.{ℕ}
 use lib.ListN.{take}
 use borrow.Author.Needs.{needs}
-use Rattle.text.specs.Bytes.{bytes, startsOf, sameOf}
+use Rattle.text.specs.Bytes.{bytes, holds, startsOf, sameOf}
 use Rattle.richtext.specs.declared.ExpandType.the-variants.{After, None}
 use Rattle.config.specs.Names.{holdsColon}
 use Rattle.config.specs.Table.{Table, known, entered, withEntry}
@@ -64,31 +64,31 @@ firstOf n = record { entries = take n builtIns; default = none }
 
 -- the names come one after the other
 after-1 : (c : tie.After-with) → configured (c .with .result) ≡ firstOf 1
-unfolding holdsColon known entered startsOf sameOf
+unfolding holds known entered startsOf sameOf
 after-1 c = c .with .ensures .means ∙ ap (withEntry (bytes "bold") (growing "bold" After .style)) (c .before .before .new .ensures .means)
 
 after-2 : (c : tie.After-with2) → configured (c .with2 .result) ≡ firstOf 2
-unfolding holdsColon known entered startsOf sameOf
+unfolding holds known entered startsOf sameOf
 after-2 c = c .with2 .ensures .means ∙ ap (withEntry (bytes "italic") (growing "italic" After .style)) (after-1 (c .before .before))
 
 after-3 : (c : tie.After-with3) → configured (c .with3 .result) ≡ firstOf 3
-unfolding holdsColon known entered startsOf sameOf
+unfolding holds known entered startsOf sameOf
 after-3 c = c .with3 .ensures .means ∙ ap (withEntry (bytes "underline") (growing "underline" After .style)) (after-2 (c .before .before))
 
 after-4 : (c : tie.After-with4) → configured (c .with4 .result) ≡ firstOf 4
-unfolding holdsColon known entered startsOf sameOf
+unfolding holds known entered startsOf sameOf
 after-4 c = c .with4 .ensures .means ∙ ap (withEntry (bytes "link") (growing "link" None .style)) (after-3 (c .before .before))
 
 after-5 : (c : tie.After-with5) → configured (c .with5 .result) ≡ firstOf 5
-unfolding holdsColon known entered startsOf sameOf
+unfolding holds known entered startsOf sameOf
 after-5 c = c .with5 .ensures .means ∙ ap (withEntry (bytes "highlight") (growing "highlight" None .style)) (after-4 (c .before .before))
 
 after-6 : (c : tie.After-with6) → configured (c .with6 .result) ≡ firstOf 6
-unfolding holdsColon known entered startsOf sameOf
+unfolding holds known entered startsOf sameOf
 after-6 c = c .with6 .ensures .means ∙ ap (withEntry (bytes "comment") (growing "comment" None .style)) (after-5 (c .before .before))
 
 after-7 : (c : tie.After-with7) → configured (c .with7 .result) ≡ firstOf 7
-unfolding holdsColon known entered startsOf sameOf
+unfolding holds known entered startsOf sameOf
 after-7 c = c .with7 .ensures .means ∙ ap (withEntry (bytes "code") (growing "code" None .style)) (after-6 (c .before .before))
 
 returns : tie.Need-returns

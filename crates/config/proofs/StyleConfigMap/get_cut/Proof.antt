@@ -3,13 +3,13 @@ use mathlib.Core.Path.{_≡_, sym, ap, _∙_}
 use mathlib.Core.List.{List}
 use Prim.Native.Nat.{ℕ}
 use native.Mathlib.Omega.{arith}
-use lib.ListN.{take}
+use lib.ListN.{length, take}
 use lib.Seq.{length-take-le}
 use borrow.Author.Needs.{needs}
 use Rattle.config.specs.Names.{cut}
 use Rattle.config.specs.Table.{styleFor}
 use Rattle.config.specs.Meaning.{styleIn, configured}
-use Rattle.config.proofs.NameLaws.{cut-le, take-cut}
+use Rattle.text.proofs.Finding.{front-take, front-length}
 use Rattle.config.proofs.AnswerLaws.{asked-long, asked-found}
 use Rattle.config.proofs.StyleConfigMap.get_cut.Statement.{statement}
 use Rattle.config.proofs.StyleConfigMap.get_cut.Tie as tie
@@ -20,13 +20,13 @@ returns c =
     let k = start .args .key .now in
     asked-long k (styleFor (cut k) (configured (start .args .self))) (c .if1 .taken)
 
-first-colon-requires : tie.Need-first-colon-requires
-first-colon-requires c κs = search needs
+find-requires : tie.Need-find-requires
+find-requires c κs = search needs
 
 slice-aggregate-style-for : tie.Need-slice-aggregate-style-for
 slice-aggregate-style-for c =
     let k = c .before .before .before .before .args .key .now in
-    sym (length-take-le (c .before .first-colon .result) k (omega (arith, c .before .first-colon .ensures, cut-le k)))
+    sym (length-take-le (c .before .find .result) k (omega (arith, c .before .find .ensures, front-length 58 k)))
 
 style-for-requires : tie.Need-style-for-requires
 style-for-requires c κs = search needs
@@ -43,7 +43,8 @@ found : (c : tie.After-style-for) → let start = c .before .before .before .bef
 found c =
     let start = c .before .before .before .before .before in
     let k = start .args .key .now in
-    let e : take (c .before .before .first-colon .result) k ≡ cut k = rw (c .before .before .first-colon .ensures) (take-cut k) in
+    let n : c .before .before .find .result ≡ length (cut k) = omega (arith, c .before .before .find .ensures) in
+    let e : take (c .before .before .find .result) k ≡ cut k = rw n (front-take 58 k) in
     c .style-for .ensures ∙ ap (λ (x : List ℕ). styleFor x (configured (start .args .self))) e
 
 returns-2 : tie.Need-returns-2
@@ -65,7 +66,7 @@ get-cut-spec =
     tie.close
     (tie.spec
     returns
-    first-colon-requires
+    find-requires
     slice-aggregate-style-for
     style-for-requires
     enum-known-style

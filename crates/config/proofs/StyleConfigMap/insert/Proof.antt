@@ -17,8 +17,8 @@ returns c =
     refused (start .args .self) (start .pre) (start .args .key .now) (start .args .value)
     (refuses-long (start .args .key .now) (configured (start .args .self)) (c .if1 .taken))
 
-first-colon-requires : tie.Need-first-colon-requires
-first-colon-requires c κs = search needs
+find-requires : tie.Need-find-requires
+find-requires c κs = search needs
 
 returns-2 : tie.Need-returns-2
 returns-2 c =
@@ -59,7 +59,7 @@ insert-spec =
     tie.close
     (tie.spec
     returns
-    first-colon-requires
+    find-requires
     returns-2
     place-requires
     returns-3

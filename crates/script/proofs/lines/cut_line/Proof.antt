@@ -2,7 +2,8 @@
 use native.Mathlib.Omega.{arith}
 use lib.ListN.{drop, length-drop}
 use borrow.Author.Needs.{needs}
-use Rattle.script.proofs.CutLaws.{front-length, cut-whole, cut-open}
+use Rattle.text.proofs.Finding.{front-length}
+use Rattle.script.proofs.CutLaws.{cut-whole, cut-open}
 use Rattle.script.proofs.lines.cut_line.Statement.{statement}
 use Rattle.script.proofs.lines.cut_line.Tie as tie
 
@@ -10,7 +11,7 @@ part-put-end : tie.Need-part-put-end
 part-put-end c =
     let e = c .before .before .before .before in
     let a = e .before .before .args in
-    omega (arith, e .line-end .ensures, c .before .before .least .ensures, front-length (drop (a .from) (a .bytes .now)), length-drop (a .from) (a .bytes .now))
+    omega (arith, e .find .ensures, c .before .before .least .ensures, front-length 10 (drop (a .from) (a .bytes .now)), length-drop (a .from) (a .bytes .now))
 
 returns : tie.Need-returns
 returns c =
@@ -18,7 +19,7 @@ returns c =
     let k = p .before .before .before .before .before in
     let e = k .before in
     let s = e .before .before in
-    cut-whole (s .args .bytes .now) (s .args .from) (s .args .line) _ _ _ _ _ (s .pre) (k .kept .ensures) (e .line-end .ensures) (p .before .before .before .before .least .ensures) (p .put .ensures .1) (p .put .ensures .0) (c .if1 .taken)
+    cut-whole (s .args .bytes .now) (s .args .from) (s .args .line) _ _ _ _ _ (s .pre) (k .kept .ensures) (e .find .ensures) (p .before .before .before .before .least .ensures) (p .put .ensures .1) (p .put .ensures .0) (c .if1 .taken)
 
 returns-2 : tie.Need-returns-2
 returns-2 c =
@@ -26,7 +27,7 @@ returns-2 c =
     let k = p .before .before .before .before .before in
     let e = k .before in
     let s = e .before .before in
-    cut-open (s .args .bytes .now) (s .args .from) (s .args .line) _ _ _ _ _ (s .pre) (k .kept .ensures) (e .line-end .ensures) (p .before .before .before .before .least .ensures) (p .put .ensures .1) (p .put .ensures .0) (c .if1 .left)
+    cut-open (s .args .bytes .now) (s .args .from) (s .args .line) _ _ _ _ _ (s .pre) (k .kept .ensures) (e .find .ensures) (p .before .before .before .before .least .ensures) (p .put .ensures .1) (p .put .ensures .0) (c .if1 .left)
 
 pub cut-line-spec : {M : Type 1} → statement M
 cut-line-spec = tie.close (tie.spec (λ c κs. search needs) (λ c κs. search needs) (λ c. search needs) (λ c. search needs) (λ c κs. search needs) (λ c. search needs) (λ c. search needs) (λ c. search needs) (λ c. search needs) part-put-end (λ c κs. search needs) (λ c. search needs) returns returns-2)

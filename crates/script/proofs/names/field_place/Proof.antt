@@ -1,6 +1,7 @@
 -- At each arm's place the field's name stands.
 use mathlib.Core.Path.{refl}
 use borrow.Author.Needs.{needs}
+use Rattle.text.specs.Bytes.{upTo}
 use Rattle.script.specs.Lines.{lineFront}
 use Rattle.script.specs.Names.{fieldNames}
 use Rattle.script.proofs.Tables.{field-place}
@@ -8,7 +9,7 @@ use Rattle.script.proofs.names.field_place.Statement.{statement}
 use Rattle.script.proofs.names.field_place.Tie as tie
 
 pub field-place-spec : {M : Type 1} → statement M
-unfolding lineFront fieldNames
+unfolding upTo fieldNames
 field-place-spec =
     tie.close
     (tie.spec

@@ -1,6 +1,7 @@
 -- At each arm's place the op's name stands.
 use mathlib.Core.Path.{refl}
 use borrow.Author.Needs.{needs}
+use Rattle.text.specs.Bytes.{upTo}
 use Rattle.script.specs.Lines.{lineFront}
 use Rattle.script.specs.Names.{opNames}
 use Rattle.script.proofs.Tables.{op-place}
@@ -8,7 +9,7 @@ use Rattle.script.proofs.names.op_place.Statement.{statement}
 use Rattle.script.proofs.names.op_place.Tie as tie
 
 pub op-place-spec : {M : Type 1} → statement M
-unfolding lineFront opNames
+unfolding upTo opNames
 op-place-spec =
     tie.close
     (tie.spec
