@@ -1,6 +1,6 @@
 -- A tank taken out answers for the tank that it is.
 use Prim.Native.Nat.{ℕ, _≤_, _<_}
-use mathlib.Core.Path.{_≡_, refl, sym, ap, subst, _∙_}
+use mathlib.Core.Path.{_≡_, sym, ap, subst, _∙_}
 use mathlib.Core.Bool.{Bool, true, false, cond}
 use mathlib.Core.List.{List, []}
 use native.Mathlib.Decide.{decLt}
@@ -23,14 +23,13 @@ use Rattle.lists.proofs.ListLaws.{handed-part, handed-count}
 use Rattle.ask.specs.Asks.{askAt, noList}
 
 module _ {R : Type 0} (s : Tanks) (t : ℕ) (refused : R) (asks : View → R) where
+  -- no such tank
   pub past : {r : R} → 8 ≤ t → r ≡ refused → r ≡ askAt (meaning s) t refused asks
   past h e = rw (le-leb 8 t h) e
 
-  -- the code's number of the tank is u
-  pub inside : {r : R} (u : ℕ) {x : Tank} → t < 8 → u ≡ t → Taken s u x → r ≡ asks (view x) → r ≡ askAt (meaning s) t refused asks
-  inside u {x} h e k a =
-      rw (lt-leb 8 t h)
-      (a ∙ ap asks (k .is ∙ ap (tankAt (meaning s)) e))
+  -- the tank, taken out
+  pub inside : {r : R} {x : Tank} → t < 8 → Taken s t x → r ≡ asks (view x) → r ≡ askAt (meaning s) t refused asks
+  inside {r} {x} h k a = rw (lt-leb 8 t h) (a ∙ ap asks (k .is))
 
 -- a count with its number
 pub listed : (r : Listed) (a b : ℕ) → r .number ≡ a → r .count ≡ b → r ≡ record { number = a; count = b }
@@ -55,17 +54,6 @@ module _ (h : House) (t : ℕ) (number : View → ℕ) (xs : View → List ℕ) 
   asked-count = count-by (number (tankAt h t)) (xs (tankAt h t)) out r last (noTank t) (said .0) (said .1)
 
 -- ---- a list that its callee refuses where there is no such tank
--- the tank whose list it would be
-abbrev pub tankOr0 : ℕ → ℕ
-tankOr0 t = cond (noTank t) 0 t
-
-module _ (s : Tanks) (t : ℕ) {x : Tank} where
-  pub first-taken : 8 ≤ t → Taken s 0 x → Taken s (tankOr0 t) x
-  first-taken h k = rw (le-leb 8 t h) k
-
-  pub own-taken : {u : ℕ} → t < 8 → u ≡ t → Taken s u x → Taken s (tankOr0 t) x
-  own-taken h e k = rw (lt-leb 8 t h) (subst (λ (i : ℕ). Taken s i x) e k)
-
 -- what the walk of `iter_anchors` hears of its callee, and what it says
 abbrev pub Said-listed : Tank → ℕ → List Anchor → Listed → List Anchor → Type 0
 Said-listed x n ys r zs =
@@ -76,7 +64,7 @@ Says-asked s t ys r zs =
     (r ≡ askAt (meaning s) t noList (λ v. filledBeside (anchorsNumber (length ys) v) (anchors v)))
     × (zs ≡ askAt (meaning s) t ys (λ v. inFront (unlessRefused (anchorsNumber (length ys) v) (anchors v)) ys))
 
-pub anchors-asked : (s : Tanks) (t n : ℕ) (x : Tank) (ys zs : List Anchor) (r : Listed) → Taken s (tankOr0 t) x → n ≡ askNumber t → Said-listed x n ys r zs → Says-asked s t ys r zs
+pub anchors-asked : (s : Tanks) (t n : ℕ) (x : Tank) (ys zs : List Anchor) (r : Listed) → Taken s t x → n ≡ askNumber t → Said-listed x n ys r zs → Says-asked s t ys r zs
 unfolding listRefusal
 anchors-asked s t n x ys zs r k e said =
     let number : View → ℕ = anchorsNumber (length ys) in
@@ -85,9 +73,8 @@ anchors-asked s t n x ys zs r k e said =
     elim (decLt t 8) [
       | yes h ↦
           let is : n ≡ 0 = e ∙ ap (λ (b : Bool). cond b 1 0) (lt-leb 8 t h) in
-          let own : Taken s t x = subst (λ (b : Bool). Taken s (cond b 0 t) x) (lt-leb 8 t h) k in
           let a : Said-listed x 0 ys r zs = subst (λ (m : ℕ). Said-listed x m ys r zs) is said in
-          (inside s t noList asks t h refl own (a .0), inside s t ys leaves t h refl own (a .1))
+          (inside s t noList asks h k (a .0), inside s t ys leaves h k (a .1))
       | no h ↦
           let l : 8 ≤ t = omega arith in
           let is : n ≡ 1 = e ∙ ap (λ (b : Bool). cond b 1 0) (le-leb 8 t l) in

@@ -1,14 +1,13 @@
 // The questions and lists of eight tanks, with the tank's number in front.
 ghost use mathlib.Core.Path.{_≡_};
-ghost use mathlib.Core.Bool.{cond, false};
+ghost use mathlib.Core.Bool.{false};
 ghost use mathlib.Core.List.{[]};
-ghost use Prim.Native.Nat.{_<_};
 ghost use lib.ListN.{length};
 ghost use Rattle.lists.specs.Lists.{rangeList, wholeList, rangeNeeded, wholeNeeded, rangeNumber, wholeNumber, unlessRefused, filledBeside};
 ghost use Rattle.runs.specs.Stretches.{inFront};
 ghost use Rattle.lists.specs.Anchors.{anchors, anchorsNeeded, anchorsNumber};
 ghost use Rattle.tanks.specs.Contracts.{Taken};
-ghost use Rattle.tanks.specs.House.{askNumber, noTank};
+ghost use Rattle.tanks.specs.House.{askNumber};
 ghost use Rattle.tanks.specs.Pool.{meaning, Sound};
 ghost use Rattle.questions.specs.Questions.{setOf, sharedOf, valueAt, stylesAt, styleAt, stylesForInsert, styleForInsert, rangeContainsKey, rangeHasKeyValue, stylesOfRange};
 ghost use Rattle.ask.specs.Asks.{askAt, noList};
@@ -22,14 +21,6 @@ use questions::Told;
 use styles::Value;
 use tank::Tank;
 use tanks::Tanks;
-
-// The number of a tank that there is.
-fn narrow(tank: u64) -> usize
-    requires { ⌜ tank < 8 ⌝ }
-    ensures { λ r. ⌜ r ≡ tank ⌝ }
-{
-    tank as usize
-}
 
 // No such tank: no set.
 fn no_set() -> SetAsked
@@ -59,7 +50,7 @@ pub fn value_at(s: Tanks, tank: u64, pos: u64, key: u16) -> Shown
     if 8 <= tank {
         return Shown::Refused(1);
     }
-    questions::value_at(s.take(narrow(tank)), pos, key)
+    questions::value_at(s.take(tank as usize), pos, key)
 }
 
 // The marks that a position carries.
@@ -70,7 +61,7 @@ pub fn styles_at(s: Tanks, tank: u64, pos: u64) -> SetAsked
     if 8 <= tank {
         return no_set();
     }
-    questions::styles_at(s.take(narrow(tank)), pos)
+    questions::styles_at(s.take(tank as usize), pos)
 }
 
 // The mark of a rank at a position.
@@ -81,7 +72,7 @@ pub fn style_at(s: Tanks, tank: u64, pos: u64, rank: u64) -> Asked
     if 8 <= tank {
         return Asked::Refused(1);
     }
-    questions::style_at(s.take(narrow(tank)), pos, rank)
+    questions::style_at(s.take(tank as usize), pos, rank)
 }
 
 // The marks that an insertion would get.
@@ -92,7 +83,7 @@ pub fn get_styles_for_insert(s: Tanks, tank: u64, pos: u64) -> SetAsked
     if 8 <= tank {
         return no_set();
     }
-    questions::get_styles_for_insert(s.take(narrow(tank)), pos)
+    questions::get_styles_for_insert(s.take(tank as usize), pos)
 }
 
 // The mark of a rank among those that an insertion would get.
@@ -103,7 +94,7 @@ pub fn style_for_insert(s: Tanks, tank: u64, pos: u64, rank: u64) -> Asked
     if 8 <= tank {
         return Asked::Refused(1);
     }
-    questions::style_for_insert(s.take(narrow(tank)), pos, rank)
+    questions::style_for_insert(s.take(tank as usize), pos, rank)
 }
 
 // Has any position of start .. end a mark with the key?
@@ -114,7 +105,7 @@ pub fn range_contains_key(s: Tanks, tank: u64, start: u64, end: u64, key: u16) -
     if 8 <= tank {
         return Told::Refused(1);
     }
-    questions::range_contains_key(s.take(narrow(tank)), start, end, key)
+    questions::range_contains_key(s.take(tank as usize), start, end, key)
 }
 
 // Does every position of start .. end show the value for the key?
@@ -132,7 +123,7 @@ pub fn range_has_key_value(
     if 8 <= tank {
         return Told::Refused(1);
     }
-    questions::range_has_key_value(s.take(narrow(tank)), start, end, key, value)
+    questions::range_has_key_value(s.take(tank as usize), start, end, key, value)
 }
 
 // The marks that all positions of start .. end share.
@@ -143,7 +134,7 @@ pub fn get_styles_of_range(s: Tanks, tank: u64, start: u64, end: u64) -> Shared
     if 8 <= tank {
         return not_shared();
     }
-    questions::get_styles_of_range(s.take(narrow(tank)), start, end)
+    questions::get_styles_of_range(s.take(tank as usize), start, end)
 }
 
 // No such tank: no list.
@@ -174,7 +165,7 @@ pub fn stretches_needed(s: Tanks, tank: u64, start: u64, end: u64) -> Listed
     if 8 <= tank {
         return no_list();
     }
-    lists::stretches_needed(s.take(narrow(tank)), start, end)
+    lists::stretches_needed(s.take(tank as usize), start, end)
 }
 
 // How many u64 the list of the whole tank takes.
@@ -185,7 +176,7 @@ pub fn whole_needed(s: Tanks, tank: u64) -> Listed
     if 8 <= tank {
         return no_list();
     }
-    counted(lists::whole_needed(s.take(narrow(tank))))
+    counted(lists::whole_needed(s.take(tank as usize)))
 }
 
 // How many anchors the tank has.
@@ -196,7 +187,7 @@ pub fn anchors_needed(s: Tanks, tank: u64) -> Listed
     if 8 <= tank {
         return no_list();
     }
-    counted(lists::anchors::anchors_needed(s.take(narrow(tank))))
+    counted(lists::anchors::anchors_needed(s.take(tank as usize)))
 }
 
 // The stretches over start .. end, at the front of a lent buffer.
@@ -208,7 +199,7 @@ pub fn list_range(s: Tanks, tank: u64, start: u64, end: u64, out: &mut [u64]) ->
     if 8 <= tank {
         return no_list();
     }
-    lists::list_range(s.take(narrow(tank)), start, end, out)
+    lists::list_range(s.take(tank as usize), start, end, out)
 }
 
 // The marked stretches of the whole tank, at the front of a lent buffer.
@@ -220,7 +211,7 @@ pub fn list_whole(s: Tanks, tank: u64, out: &mut [u64]) -> Listed
     if 8 <= tank {
         return no_list();
     }
-    lists::list_whole(s.take(narrow(tank)), out)
+    lists::list_whole(s.take(tank as usize), out)
 }
 
 // The stretches over start .. end: the front part of `out` that they fill, and the empty part where `list_range` refuses.
@@ -253,15 +244,12 @@ fn missing(tank: u64) -> u64
     0
 }
 
-// The tank, or tank 0 where there is no such tank, for a list that is then refused.
-fn tank_or_first(s: Tanks, tank: u64) -> Tank
+// The tank on its own; where there is no such tank, a fresh one, whose list is then refused.
+fn own(s: Tanks, tank: u64) -> Tank
     requires { ⌜ Sound s ⌝ }
-    ensures { λ r. ⌜ Taken s (cond (noTank tank) 0 tank) r ⌝ }
+    ensures { λ r. ⌜ Taken s tank r ⌝ }
 {
-    if 8 <= tank {
-        return s.take(0);
-    }
-    s.take(narrow(tank))
+    s.take(tank as usize)
 }
 
 // The tank's anchors, at the front of `out`. Records past the count stay; a refusal writes nothing.
@@ -269,7 +257,7 @@ pub fn iter_anchors(s: Tanks, tank: u64, out: &mut [Anchor]) -> Listed
     requires { ⌜ Sound s ⌝ }
     ensures { λ r. ⌜ (r ≡ askAt (meaning s) tank noList (λ v. filledBeside (anchorsNumber (length (now (out .entry))) v) (anchors v))) × (now (out .exit) ≡ askAt (meaning s) tank (now (out .entry)) (λ v. inFront (unlessRefused (anchorsNumber (length (now (out .entry))) v) (anchors v)) (now (out .entry)))) ⌝ }
 {
-    let t = tank_or_first(s, tank);
+    let t = own(s, tank);
     let number = missing(tank);
     lists::anchors::iter_anchors(t, number, out)
 }

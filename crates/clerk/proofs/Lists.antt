@@ -15,13 +15,10 @@ use Rattle.lists.specs.declared.anchors.Anchor.{Anchor}
 use Rattle.lists.specs.Lists.{rangeList, wholeList, rangeRefusal, listRefusal, rangeNumber, wholeNumber, unlessRefused, filledBeside}
 use Rattle.lists.specs.Anchors.{anchors, anchorsNeeded, anchorsNumber}
 use Rattle.lists.proofs.ListLaws.{empty-list}
-use Rattle.tank.specs.declared.Tank.{Tank}
 use Rattle.tank.specs.Rules.{View}
-use Rattle.tank.specs.State.{view}
 use Rattle.tanks.specs.declared.Tanks.{Tanks}
 use Rattle.tanks.specs.House.{House, noTank, tankAt}
 use Rattle.tanks.specs.Pool.{meaning, Sound}
-use Rattle.tanks.specs.Contracts.{Taken}
 use Rattle.ask.specs.Asks.{askAt, noList}
 use Rattle.ask.proofs.AskLaws.{asked-part, asked-count}
 use Rattle.ask.proofs.Most.{most-range, most-whole}
@@ -112,10 +109,6 @@ take-none (suc i) l e = ap (take (suc i)) e
 -- as many as there are
 pub take-whole : (n : ℕ) (xs ys : List Anchor) → xs ≡ ys → n ≡ length ys → take n xs ≡ ys
 take-whole n xs ys e k = ap (take n) e ∙ ap (λ (m : ℕ). take m ys) k ∙ take-length ys
-
--- a tank taken out has the anchors of the tank that it is
-pub taken-anchors : (s : Tanks) (t u : ℕ) (x : Tank) → u ≡ t → Taken s u x → anchors (view x) ≡ anchors (tankAt (meaning s) t)
-taken-anchors s t u x e k = ap anchors (k .is ∙ ap (tankAt (meaning s)) e)
 
 -- no such tank
 pub anchors-1 : (h : House) (t room : ℕ) → 8 ≤ t → refusedSays 1 ≡ askAt h t (refusedSays 1) (λ v. orRefused (anchorsNumber room v) (allAnchorsSay v))

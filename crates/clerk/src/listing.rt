@@ -1,6 +1,6 @@
 // Calls that ask for a list: stretches, the whole tank, anchors, and what they take.
 ghost use mathlib.Core.Path.{_≡_};
-ghost use Prim.Native.Nat.{_≤_, _<_, min};
+ghost use Prim.Native.Nat.{_≤_, min};
 ghost use lib.ListN.{length, take};
 ghost use Rattle.script.specs.declared.Op as ops;
 ghost use Rattle.script.specs.Args.{numberAt};
@@ -129,20 +129,13 @@ fn put_anchors(out: &mut [u8], at: usize, t: Tank, from: AnchorCursor, left: usi
     k
 }
 
-fn narrow(tank: u64) -> usize
-    requires { ⌜ tank < 8 ⌝ }
-    ensures { λ r. ⌜ r ≡ tank ⌝ }
-{
-    tank as usize
-}
-
-// The anchors of a tank that there is, of which the count is known.
+// The anchors of a tank, of which the count is known.
 fn all_anchors(s: Tanks, tank: u64, count: usize, out: &mut [u8], at: usize) -> usize
-    requires { ⌜ (Sound s) × (tank < 8) × (count ≡ length (anchors (tankAt (meaning s) tank))) ⌝ }
+    requires { ⌜ (Sound s) × (count ≡ length (anchors (tankAt (meaning s) tank))) ⌝ }
     requires { ⌜ 512 ≤ length (now out) ⌝ }
     ensures { λ r. ⌜ Adds (now (out .entry)) at (allAnchorsSay (tankAt (meaning s) tank)) r (now (out .exit)) ⌝ }
 {
-    let t = s.take(narrow(tank));
+    let t = s.take(tank as usize);
     let c = lists::anchors::first_anchor(t);
     let k = say(out, at, b"anchors=", text::wide(count));
     put_anchors(out, k, t, c, count)

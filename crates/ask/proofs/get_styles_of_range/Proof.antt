@@ -15,11 +15,10 @@ returns c =
 returns-2 : tie.Need-returns-2
 returns-2 c =
     let k = c .before in
-    let n = k .before in
-    let e = n .before in
+    let e = k .before in
     let s = e .before in
-    inside (s .args .s) (s .args .tank) (sharedOf 1 false []) (stylesOfRange (s .args .start) (s .args .end)) (n .narrow .result) (e .if1 .left) (n .narrow .ensures) (k .take .ensures)
+    inside (s .args .s) (s .args .tank) (sharedOf 1 false []) (stylesOfRange (s .args .start) (s .args .end)) (e .if1 .left) (k .take .ensures)
     (c .get-styles-of-range .ensures)
 
 pub get-styles-of-range-spec : {M : Type 1} → statement M
-get-styles-of-range-spec = tie.close (tie.spec (λ c κs. search needs) returns (λ c κs. search needs) (λ c κs. search needs) (λ c κs. search needs) returns-2)
+get-styles-of-range-spec = tie.close (tie.spec (λ c κs. search needs) returns (λ c κs. search needs) (λ c κs. search needs) returns-2)

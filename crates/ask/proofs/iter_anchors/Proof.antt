@@ -45,7 +45,7 @@ use Rattle.tank.specs.State as state
 use Rattle.tanks.specs.Contracts.{Taken}
 use Rattle.tanks.specs.House.{askNumber}
 use Rattle.tanks.specs.Pool.{Sound}
-use Rattle.ask.proofs.AskLaws.{tankOr0, Said-listed, Says-asked, anchors-asked}
+use Rattle.ask.proofs.AskLaws.{Said-listed, Says-asked, anchors-asked}
 use Rattle.tanks.proofs.Tanks as S
 use Rattle.tanks.proofs.Tanks.Laws as S′
 use Rattle.tank.proofs.Tank as X
@@ -53,10 +53,10 @@ use Rattle.tank.proofs.Tank.Laws as X′
 use Rattle.lists.proofs.Listed as R
 use Rattle.lists.proofs.Listed.Laws as R′
 use Rattle.lists.proofs.anchors.Anchor as T
-use Rattle.ask.proofs.tank_or_first as found
-use Rattle.ask.proofs.tank_or_first.Symbol as found-def
-use Rattle.ask.proofs.tank_or_first.Symbol.{name as #found}
-use Rattle.ask.proofs.tank_or_first.Met as found-thm
+use Rattle.ask.proofs.own as found
+use Rattle.ask.proofs.own.Symbol as found-def
+use Rattle.ask.proofs.own.Symbol.{name as #found}
+use Rattle.ask.proofs.own.Met as found-thm
 use Rattle.ask.proofs.missing as missing
 use Rattle.ask.proofs.missing.Symbol as missing-def
 use Rattle.ask.proofs.missing.Symbol.{name as #missing}
@@ -85,8 +85,8 @@ module _ {M : Type 1} (𝓤 : URA M) (H : Heap 𝓤) (A : Atoms 𝓤) (mem : Mem
   List-of = tripleOf 𝓤 H A list.signature (list.spec 𝓤 H A mem run)
 
   -- of the covered callees' `ensured`, the clause alone
-  found-of : (h : Tanks) (k : ℕ) (r : Tank) → ent 𝓤 (ensured 𝓤 H A found.ended (found.clauses 𝓤 H A mem run) tt (h, (k, tt)) tt r) (fact 𝓤 (Taken h (tankOr0 k) r))
-  found-of h k r = exE 𝓤 _ (λ ws. snd∗ 𝓤 (sem 𝓤 H A (lasts found.ended tt (h, (k, tt)) ws)) (fact 𝓤 (Taken h (tankOr0 k) r)))
+  found-of : (h : Tanks) (k : ℕ) (r : Tank) → ent 𝓤 (ensured 𝓤 H A found.ended (found.clauses 𝓤 H A mem run) tt (h, (k, tt)) tt r) (fact 𝓤 (Taken h k r))
+  found-of h k r = exE 𝓤 _ (λ ws. snd∗ 𝓤 (sem 𝓤 H A (lasts found.ended tt (h, (k, tt)) ws)) (fact 𝓤 (Taken h k r)))
 
   missing-of : (k r : ℕ) → ent 𝓤 (ensured 𝓤 H A missing.ended (missing.clauses 𝓤 H A mem run) tt (k, tt) tt r) (fact 𝓤 (r ≡ askNumber k))
   missing-of k r = exE 𝓤 _ (λ ws. snd∗ 𝓤 (sem 𝓤 H A (lasts missing.ended tt (k, tt) ws)) (fact 𝓤 (r ≡ askNumber k)))
@@ -156,7 +156,7 @@ module _ {M : Type 1} (𝓤 : URA M) (H : Heap 𝓤) (A : Atoms 𝓤) (W : Given
         nothing ! $ use1 W (raw (Found 𝓤 H A mem run .pre to-found)) goes-found $
         calls-at ! fm (Found 𝓤 H A mem run) known-found to-found (and-then ! (load ! (from ! (stop !)) (look ! 13 refl)) (and-then ! (load ! (from ! (stop !)) (look ! 11 refl)) (no-more !))) (λ dv.
         use1 W (later (some (λ (d : Tank). (‵ ftrue ⊛ ‵ (X.the-row .own d (dv ∷ []))) ⊛ raw (ensured 𝓤 H A found.ended (found.clauses 𝓤 H A mem run) tt (h, (k, tt)) tt d)))) (id⊢ 𝓤 _) $ await ! tt $ pick ! (λ d.
-        split ! $ move ! (1 ∷ []) $ use1 W (raw (fact 𝓤 (Taken h (tankOr0 k) d))) (found-of 𝓤 H A mem run h k d) $ heard ! (Taken h (tankOr0 k) d) (λ e.
+        split ! $ move ! (1 ∷ []) $ use1 W (raw (fact 𝓤 (Taken h k d))) (found-of 𝓤 H A mem run h k d) $ heard ! (Taken h k d) (λ e.
         split ! $ drop ! $ peeks ! X.the-row (Is X.the-row) (shows 𝓤 H A X.the-row) d (dv ∷ []) (λ is-d. drop ! $
         land ! (from ! (stop !)) (init ! 6 refl (LL.lawful X.the-type X′.the-laws 𝓤 H A W .typed d _ is-d .0)) $
         -- the number
@@ -205,6 +205,6 @@ iter-anchors-spec 𝓤 H 𝓜 𝓖 𝓡 =
     entered 𝓤 H (tripleOf 𝓤 H (𝓖 .A) iter-anchors.signature (iter-anchors.spec 𝓤 H (𝓖 .A) (𝓜 .mem) (𝓡 .run)))
     (tables 𝓤 H 𝓜 𝓡 code.env .C) (tables 𝓤 H 𝓜 𝓡 code.env .Λ) #iter-anchors code.function (code.unfolded 𝓤 H 𝓜 𝓡)
     (iter-anchors-meets 𝓤 H (𝓖 .A) (givenOf 𝓤 H 𝓜 𝓖) (𝓜 .mem) (𝓡 .run) (tablesOf 𝓤 H 𝓜 (tables 𝓤 H 𝓜 𝓡 code.env))
-    (cited 𝓤 H (Found 𝓤 H (𝓖 .A) (𝓜 .mem) (𝓡 .run)) 𝓜 𝓡 code.env #found found-def.routine code.calls-ask·tank-or-first (found-thm.met 𝓤 H 𝓜 𝓖 𝓡))
+    (cited 𝓤 H (Found 𝓤 H (𝓖 .A) (𝓜 .mem) (𝓡 .run)) 𝓜 𝓡 code.env #found found-def.routine code.calls-ask·own (found-thm.met 𝓤 H 𝓜 𝓖 𝓡))
     (cited 𝓤 H (Missing 𝓤 H (𝓖 .A) (𝓜 .mem) (𝓡 .run)) 𝓜 𝓡 code.env #missing missing-def.routine code.calls-ask·missing (missing-thm.met 𝓤 H 𝓜 𝓖 𝓡))
     (cited 𝓤 H (List-of 𝓤 H (𝓖 .A) (𝓜 .mem) (𝓡 .run)) 𝓜 𝓡 code.env #list list-def.routine code.calls-lists·anchors·iter-anchors (list-thm.met 𝓤 H 𝓜 𝓖 𝓡)))

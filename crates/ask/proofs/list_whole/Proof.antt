@@ -22,15 +22,14 @@ returns-2 : tie.Need-returns-2
 returns-2 c =
     let w = c .before .before in
     let k = w .before .before in
-    let n = k .before in
-    let e = n .before in
+    let e = k .before in
     let s = e .before .before in (
-      inside (s .args .s) (s .args .tank) noList (λ v. filledBeside (wholeNumber (length (s .args .out .now)) v) (wholeList v)) (n .narrow .result) (e .if1 .left) (n .narrow .ensures) (k .take .ensures)
+      inside (s .args .s) (s .args .tank) noList (λ v. filledBeside (wholeNumber (length (s .args .out .now)) v) (wholeList v)) (e .if1 .left) (k .take .ensures)
           (w .list-whole .ensures .0),
-      inside (s .args .s) (s .args .tank) (s .args .out .now) (λ v. inFront (unlessRefused (wholeNumber (length (s .args .out .now)) v) (wholeList v)) (s .args .out .now)) (n .narrow .result) (e .if1 .left) (n .narrow .ensures) (k .take .ensures)
+      inside (s .args .s) (s .args .tank) (s .args .out .now) (λ v. inFront (unlessRefused (wholeNumber (length (s .args .out .now)) v) (wholeList v)) (s .args .out .now)) (e .if1 .left) (k .take .ensures)
           (w .list-whole .ensures .1),
     )
 
 pub list-whole-spec : {M : Type 1} → statement M
 list-whole-spec =
-    tie.close (tie.spec (λ c κs. search needs) returns (λ c κs. search needs) (λ c κs. search needs) (λ c κs. search needs) (λ c. search needs) returns-2)
+    tie.close (tie.spec (λ c κs. search needs) returns (λ c κs. search needs) (λ c κs. search needs) (λ c. search needs) returns-2)

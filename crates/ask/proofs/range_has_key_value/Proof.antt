@@ -15,11 +15,10 @@ returns c =
 returns-2 : tie.Need-returns-2
 returns-2 c =
     let k = c .before in
-    let n = k .before in
-    let e = n .before in
+    let e = k .before in
     let s = e .before in
-    inside (s .args .s) (s .args .tank) (Told.Refused 1) (rangeHasKeyValue (s .args .start) (s .args .end) (s .args .key) (s .args .value)) (n .narrow .result) (e .if1 .left) (n .narrow .ensures) (k .take .ensures)
+    inside (s .args .s) (s .args .tank) (Told.Refused 1) (rangeHasKeyValue (s .args .start) (s .args .end) (s .args .key) (s .args .value)) (e .if1 .left) (k .take .ensures)
     (c .range-has-key-value .ensures)
 
 pub range-has-key-value-spec : {M : Type 1} → statement M
-range-has-key-value-spec = tie.close (tie.spec returns (λ c κs. search needs) (λ c κs. search needs) (λ c κs. search needs) returns-2)
+range-has-key-value-spec = tie.close (tie.spec returns (λ c κs. search needs) (λ c κs. search needs) returns-2)

@@ -16,12 +16,11 @@ returns c =
 returns-2 : tie.Need-returns-2
 returns-2 c =
     let k = c .before in
-    let n = k .before in
-    let e = n .before in
+    let e = k .before in
     let s = e .before in
-    inside (s .args .s) (s .args .tank) noList (rangeNeeded (s .args .start) (s .args .end)) (n .narrow .result) (e .if1 .left) (n .narrow .ensures)
+    inside (s .args .s) (s .args .tank) noList (rangeNeeded (s .args .start) (s .args .end)) (e .if1 .left)
     (k .take .ensures) (c .stretches-needed .ensures)
 
 pub stretches-needed-spec : {M : Type 1} → statement M
 stretches-needed-spec =
-    tie.close (tie.spec (λ c κs. search needs) returns (λ c κs. search needs) (λ c κs. search needs) (λ c κs. search needs) returns-2)
+    tie.close (tie.spec (λ c κs. search needs) returns (λ c κs. search needs) (λ c κs. search needs) returns-2)

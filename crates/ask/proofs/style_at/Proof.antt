@@ -15,11 +15,10 @@ returns c =
 returns-2 : tie.Need-returns-2
 returns-2 c =
     let k = c .before in
-    let n = k .before in
-    let e = n .before in
+    let e = k .before in
     let s = e .before in
-    inside (s .args .s) (s .args .tank) (Asked.Refused 1) (styleAt (s .args .pos) (s .args .rank)) (n .narrow .result) (e .if1 .left) (n .narrow .ensures) (k .take .ensures)
+    inside (s .args .s) (s .args .tank) (Asked.Refused 1) (styleAt (s .args .pos) (s .args .rank)) (e .if1 .left) (k .take .ensures)
     (c .style-at .ensures)
 
 pub style-at-spec : {M : Type 1} → statement M
-style-at-spec = tie.close (tie.spec returns (λ c κs. search needs) (λ c κs. search needs) (λ c κs. search needs) returns-2)
+style-at-spec = tie.close (tie.spec returns (λ c κs. search needs) (λ c κs. search needs) returns-2)

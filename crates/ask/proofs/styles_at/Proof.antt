@@ -14,11 +14,10 @@ returns c =
 returns-2 : tie.Need-returns-2
 returns-2 c =
     let k = c .before in
-    let n = k .before in
-    let e = n .before in
+    let e = k .before in
     let s = e .before in
-    inside (s .args .s) (s .args .tank) (setOf 1 []) (stylesAt (s .args .pos)) (n .narrow .result) (e .if1 .left) (n .narrow .ensures) (k .take .ensures)
+    inside (s .args .s) (s .args .tank) (setOf 1 []) (stylesAt (s .args .pos)) (e .if1 .left) (k .take .ensures)
     (c .styles-at .ensures)
 
 pub styles-at-spec : {M : Type 1} → statement M
-styles-at-spec = tie.close (tie.spec (λ c κs. search needs) returns (λ c κs. search needs) (λ c κs. search needs) (λ c κs. search needs) returns-2)
+styles-at-spec = tie.close (tie.spec (λ c κs. search needs) returns (λ c κs. search needs) (λ c κs. search needs) returns-2)

@@ -18,10 +18,9 @@ returns-2 : tie.Need-returns-2
 returns-2 c =
     let w = c .before in
     let k = w .before in
-    let n = k .before in
-    let e = n .before in
+    let e = k .before in
     let s = e .before in
-    inside (s .args .s) (s .args .tank) noList wholeNeeded (n .narrow .result) (e .if1 .left) (n .narrow .ensures) (k .take .ensures)
+    inside (s .args .s) (s .args .tank) noList wholeNeeded (e .if1 .left) (k .take .ensures)
     (listed _ _ _ (c .counted .ensures .0) (c .counted .ensures .1 ∙ w .whole-needed .ensures))
 
 pub whole-needed-spec : {M : Type 1} → statement M
@@ -30,7 +29,6 @@ whole-needed-spec =
     (tie.spec
     (λ c κs. search needs)
     returns
-    (λ c κs. search needs)
     (λ c κs. search needs)
     (λ c κs. search needs)
     (λ c κs. search needs)

@@ -3,21 +3,22 @@ use borrow.Author.Needs.{needs}
 use mathlib.Core.Path.{ap, _∙_}
 use Rattle.answers.proofs.Laws.{and-then, adds-as}
 use Rattle.answers.specs.Replies.{lineSays, anchorsSay}
-use Rattle.clerk.proofs.Lists.{taken-anchors, take-whole}
+use Rattle.lists.specs.Anchors.{anchors}
+use Rattle.clerk.proofs.Lists.{take-whole}
 use Rattle.text.specs.Bytes.{bytes}
 use Rattle.clerk.proofs.listing.all_anchors.Statement.{statement}
 use Rattle.clerk.proofs.listing.all_anchors.Tie as tie
 
 returns : tie.Need-returns
 returns c =
-    let s = c .before .before .before .before .before .before .before .before .before .before .before .before .before .before in
+    let s = c .before .before .before .before .before .before .before .before .before .before .before .before .before in
     let a = s .args in
     let t = c .before .before .before .before .before .before .before .before .before .before .before in
     let known = s .pre .0 in
-    let same = c .before .before .before .before .before .before .before .before .before .before .first-anchor .ensures .1 ∙ taken-anchors (a .s) (a .tank) _ _ (t .before .narrow .ensures) (t .take .ensures) in
+    let same = c .before .before .before .before .before .before .before .before .before .before .first-anchor .ensures .1 ∙ ap anchors (t .take .ensures .is) in
     and-then
-    (adds-as (ap (lineSays (bytes "anchors=")) (c .before .before .before .before .before .before .before .wide .ensures ∙ known .2)) (c .before .before .before .before .before .before .say .ensures))
-    (adds-as (ap anchorsSay (take-whole (a .count) _ _ same (known .2))) (c .before .before .put-anchors .ensures))
+    (adds-as (ap (lineSays (bytes "anchors=")) (c .before .before .before .before .before .before .before .wide .ensures ∙ known .1)) (c .before .before .before .before .before .before .say .ensures))
+    (adds-as (ap anchorsSay (take-whole (a .count) _ _ same (known .1))) (c .before .before .put-anchors .ensures))
 
 pub all-anchors-spec : {M : Type 1} → statement M
-all-anchors-spec = tie.close (tie.spec (λ c κs. search needs) (λ c κs. search needs) (λ c κs. search needs) (λ c. search needs) (λ c κs. search needs) (λ c κs. search needs) (λ c κs. search needs) (λ c. search needs) returns)
+all-anchors-spec = tie.close (tie.spec (λ c κs. search needs) (λ c κs. search needs) (λ c. search needs) (λ c κs. search needs) (λ c κs. search needs) (λ c κs. search needs) (λ c. search needs) returns)

@@ -25,7 +25,7 @@ returns-3 c = let a = c .before .before .before .before .before .before .before 
 all-anchors-requires : tie.Need-all-anchors-requires
 all-anchors-requires c κs =
     let a = c .before .before .before .before .before .before .before .args in
-    ((search needs, search needs, counted (meaning (a .s)) (tankFor (a .call)) _ (c .before .before .before .before .if1 .left) (c .before .before .before .anchors-needed .ensures)), search needs)
+    ((search needs, counted (meaning (a .s)) (tankFor (a .call)) _ (c .before .before .before .before .if1 .left) (c .before .before .before .anchors-needed .ensures)), search needs)
 
 pub anchors-spec : {M : Type 1} → statement M
 anchors-spec = tie.close (tie.spec (λ c. search needs) (λ c. search needs) (λ c κs. search needs) (λ c. search needs) returns (λ c κs. search needs) (λ c κs. search needs) (λ c κs. search needs) (λ c. search needs) returns-2 all-anchors-requires (λ c. search needs) returns-3)
