@@ -13,7 +13,7 @@ use Rattle.tanks.specs.declared.Done.{Done}
 use Rattle.tanks.specs.declared.Performed.{Performed}
 use Rattle.tanks.specs.declared.Tanks.{Tanks}
 use Rattle.tanks.specs.House.{tankAt, refusalAt, insertedSetAt, removedFirstAt}
-use Rattle.tanks.specs.Pool.{tankOf, meaning}
+use Rattle.tanks.specs.Pool.{meaning}
 use Rattle.tanks.specs.Contracts.{CalledAt, Taken, setBeside, firstBeside, PerformedAs, DoneAt}
 use Rattle.tanks.proofs.SettingLaws.{first-zero, TakenOut}
 use Rattle.tanks.proofs.MeaningLaws.{tank-at, tank-past}
@@ -24,46 +24,46 @@ module _ (s : Tanks) (t : ℕ) where
   own-zero e h z = first-zero (refusal e (tankAt (meaning s) t)) _ (sym (refusal-in (meaning s) t e h) ∙ z)
 
   -- what a tank taken out means
-  pub own-view : (x : Tank) (u : ℕ) → t < 8 → u ≡ t → TakenOut s u x → view x ≡ tankAt (meaning s) t
-  own-view x u h same taken = ap view (taken .is ∙ ap (tankOf s) same) ∙ sym (tank-at s t freshView h)
+  own-view : (x : Tank) → t < 8 → TakenOut s t x → view x ≡ tankAt (meaning s) t
+  own-view x h taken = ap view (taken .is) ∙ sym (tank-at s t freshView h)
 
   pub taken-in : {x : Tank} → t < 8 → TakenOut s t x → Taken s t x
-  taken-in {x} h out = record { is = own-view x t h refl out; sound = out .sound }
+  taken-in {x} h out = record { is = own-view x h out; sound = out .sound }
 
   -- a fresh tank where there is none
   pub taken-past : {x : Tank} → 8 ≤ t → (Sound x) × (view x ≡ freshView) → Taken s t x
   taken-past h new = record { is = new .1 ∙ sym (tank-past s t freshView h); sound = new .0 }
 
-  set-done : (pos len : ℕ) (x : Tank) (u : ℕ) → t < 8 → u ≡ t → TakenOut s u x → refusalAt (meaning s) t (inserting pos len) ≡ 0
+  set-done : (pos len : ℕ) (x : Tank) → t < 8 → TakenOut s t x → refusalAt (meaning s) t (inserting pos len) ≡ 0
       → insertedSet pos len (view x) ≡ insertedSetAt (meaning s) t pos len
   unfolding insertedSetAt
-  set-done pos len x u h same taken z = rw (own-view x u h same taken, z, own-zero (inserting pos len) h z)
+  set-done pos len x h taken z = rw (own-view x h taken, z, own-zero (inserting pos len) h z)
 
   set-refused : (pos len : ℕ) → 0 < refusalAt (meaning s) t (inserting pos len) → [] ≡ insertedSetAt (meaning s) t pos len
   unfolding insertedSetAt
   set-refused pos len h = rw (ne-eqb (refusalAt (meaning s) t (inserting pos len)) 0 (λ z. omega arith))
 
-  first-done : (id : Identity) (last : ℕ) (x : Tank) (u : ℕ) → t < 8 → u ≡ t → TakenOut s u x → refusalAt (meaning s) t (removing id last) ≡ 0
+  first-done : (id : Identity) (last : ℕ) (x : Tank) → t < 8 → TakenOut s t x → refusalAt (meaning s) t (removing id last) ≡ 0
       → removedFirst id last (view x) ≡ removedFirstAt (meaning s) t id last
   unfolding removedFirstAt
-  first-done id last x u h same taken z = rw (own-view x u h same taken, z, own-zero (removing id last) h z)
+  first-done id last x h taken z = rw (own-view x h taken, z, own-zero (removing id last) h z)
 
   first-refused : (id : Identity) (last : ℕ) → 0 < refusalAt (meaning s) t (removing id last) → 0 ≡ removedFirstAt (meaning s) t id last
   unfolding removedFirstAt
   first-refused id last h = rw (ne-eqb (refusalAt (meaning s) t (removing id last)) 0 (λ z. omega arith))
 
   -- the same for every edit
-  set-beside : (e : Edit) (x : Tank) (u : ℕ) → t < 8 → u ≡ t → TakenOut s u x → refusalAt (meaning s) t e ≡ 0 → setBeside (λ pos len. insertedSet pos len (view x)) e ≡ setBeside (insertedSetAt (meaning s) t) e
-  set-beside (annotating a b m) x u h same taken z = refl
-  set-beside (inserting pos len) x u h same taken z = set-done pos len x u h same taken z
-  set-beside (deleting a b) x u h same taken z = refl
-  set-beside (removing id last) x u h same taken z = refl
+  set-beside : (e : Edit) (x : Tank) → t < 8 → TakenOut s t x → refusalAt (meaning s) t e ≡ 0 → setBeside (λ pos len. insertedSet pos len (view x)) e ≡ setBeside (insertedSetAt (meaning s) t) e
+  set-beside (annotating a b m) x h taken z = refl
+  set-beside (inserting pos len) x h taken z = set-done pos len x h taken z
+  set-beside (deleting a b) x h taken z = refl
+  set-beside (removing id last) x h taken z = refl
 
-  first-beside : (e : Edit) (x : Tank) (u : ℕ) → t < 8 → u ≡ t → TakenOut s u x → refusalAt (meaning s) t e ≡ 0 → firstBeside (λ id last. removedFirst id last (view x)) e ≡ firstBeside (removedFirstAt (meaning s) t) e
-  first-beside (annotating a b m) x u h same taken z = refl
-  first-beside (inserting pos len) x u h same taken z = refl
-  first-beside (deleting a b) x u h same taken z = refl
-  first-beside (removing id last) x u h same taken z = first-done id last x u h same taken z
+  first-beside : (e : Edit) (x : Tank) → t < 8 → TakenOut s t x → refusalAt (meaning s) t e ≡ 0 → firstBeside (λ id last. removedFirst id last (view x)) e ≡ firstBeside (removedFirstAt (meaning s) t) e
+  first-beside (annotating a b m) x h taken z = refl
+  first-beside (inserting pos len) x h taken z = refl
+  first-beside (deleting a b) x h taken z = refl
+  first-beside (removing id last) x h taken z = first-done id last x h taken z
 
   no-set : (e : Edit) → 0 < refusalAt (meaning s) t e → [] ≡ setBeside (insertedSetAt (meaning s) t) e
   no-set (annotating a b m) h = refl
@@ -88,12 +88,12 @@ module _ (s : Tanks) (t : ℕ) where
       }
 
   -- an edit that is done: the answer is the tank's own
-  pub done-by : (e : Edit) (x : Tank) (u : ℕ) (p : Performed) (next : Tanks) → t < 8 → u ≡ t → TakenOut s u x → PerformedAs e x p → CalledAt s t e 0 next
+  pub done-by : (e : Edit) (x : Tank) (p : Performed) (next : Tanks) → t < 8 → TakenOut s t x → PerformedAs e x p → CalledAt s t e 0 next
       → DoneAt s t e (record { number = 0; styles = p .styles; first = p .first; tanks = next })
-  done-by e x u p next h same taken performed called =
+  done-by e x p next h taken performed called =
       let z = sym (called .number-is) in
       record {
         called = called;
-        styles-are = performed .styles-are ∙ ap stylesOf (set-beside e x u h same taken z);
-        first-is = performed .first-is ∙ first-beside e x u h same taken z;
+        styles-are = performed .styles-are ∙ ap stylesOf (set-beside e x h taken z);
+        first-is = performed .first-is ∙ first-beside e x h taken z;
       }

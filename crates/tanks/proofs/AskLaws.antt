@@ -18,15 +18,15 @@ module _ {A R : Type 0} (refused : ℕ → R) (given : A → R) (t : ℕ) where
   pub asked-in : (a b : A) → t < 8 → a ≡ b → given a ≡ refusedOrGiven refused given (askNumber t) b
   asked-in a b h e = rw (lt-leb 8 t h) (ap given e)
 
--- ---- the head says what the tank means; the code's number of the tank is u
-module _ (s : Tanks) (u t : ℕ) (same : u ≡ t) (h : t < 8) where
-  pub length-said : getD (s .heads) u noHead .length ≡ tankAt (meaning s) t .length
+-- ---- the head says what the tank means
+module _ (s : Tanks) (t : ℕ) (h : t < 8) where
+  pub length-said : getD (s .heads) t noHead .length ≡ tankAt (meaning s) t .length
   unfolding tankOf tankIn view
-  length-said = rw same (sym (ap (λ (v : View). v .length) (tank-at s t freshView h)))
+  length-said = sym (ap (λ (v : View). v .length) (tank-at s t freshView h))
 
-  pub touched-said : getD (s .heads) u noHead .touched ≡ tankAt (meaning s) t .touched
+  pub touched-said : getD (s .heads) t noHead .touched ≡ tankAt (meaning s) t .touched
   unfolding tankOf tankIn view
-  touched-said = rw same (sym (ap (λ (v : View). v .touched) (tank-at s t freshView h)))
+  touched-said = sym (ap (λ (v : View). v .touched) (tank-at s t freshView h))
 
-  pub runs-said : Sound s → getD (s .heads) u noHead .runs ≡ held (meaning s) t
-  runs-said ok = rw same (sym (held-is s ok t h))
+  pub runs-said : Sound s → getD (s .heads) t noHead .runs ≡ held (meaning s) t
+  runs-said ok = sym (held-is s ok t h)

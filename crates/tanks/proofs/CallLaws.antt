@@ -84,12 +84,10 @@ module _ (s : Tanks) (t : ℕ) (e : Edit) (number : ℕ) (x : Tank) (v : ℕ) (n
   called-at = record { number-is = is-number; is = is-state; sound = tail .sound }
 
 -- the tank taken out, its own call, the tail
-pub called-by : (s : Tanks) (tank t : ℕ) (e : Edit) (x : Tank) (number : ℕ) (y : Tank) (v : ℕ) (next : Tanks) → Sound s → tank < 8 → t ≡ tank
-    → TakenOut s t x → Called e x number y → Tail s t number y v next → CalledAt s tank e v next
-called-by s tank t e x number y v next ok h same taken called tail =
-    called-at s tank e number y v next ok h
-    (subst (λ z. Called e z number y) (taken .is ∙ ap (tankOf s) same) called)
-    (subst (λ u. Tail s u number y v next) same tail)
+pub called-by : (s : Tanks) (t : ℕ) (e : Edit) (x : Tank) (number : ℕ) (y : Tank) (v : ℕ) (next : Tanks) → Sound s → t < 8
+    → TakenOut s t x → Called e x number y → Tail s t number y v next → CalledAt s t e v next
+called-by s t e x number y v next ok h taken called tail =
+    called-at s t e number y v next ok h (subst (λ z. Called e z number y) (taken .is) called) tail
 
 -- 1: the very same state
 pub called-past : (s : Tanks) (t : ℕ) (e : Edit) → Sound s → 8 ≤ t → CalledAt s t e 1 s

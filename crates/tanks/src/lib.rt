@@ -16,9 +16,7 @@ use pool::table_in;
 use pool::taken;
 use pool::turn;
 use settings::accepts;
-use settings::narrow;
 use settings::verdict;
-use settings::wide;
 use styles::Identity;
 use styles::Mark;
 use styles::Styles;
@@ -252,12 +250,12 @@ impl Tanks {
         if 8 <= tank {
             return refused(1, self);
         }
-        let t = narrow(tank);
+        let t = tank as usize;
         let heads = self.heads;
         let done = perform(taken(heads, self.pool, self.tables[t], t), call);
         let x = done.tank;
         let m = x.runs;
-        let number = verdict(self.settings, heads, t, done.number, wide(m));
+        let number = verdict(self.settings, heads, t, done.number, m as u64);
         if 0 < number {
             return refused(number, self);
         }
@@ -355,7 +353,7 @@ impl Tanks {
         if 8 <= tank {
             return Count::Refused(1);
         }
-        let t = narrow(tank);
+        let t = tank as usize;
         let h = self.heads[t];
         Count::Counts(h.length)
     }
@@ -368,7 +366,7 @@ impl Tanks {
         if 8 <= tank {
             return YesNo::Refused(1);
         }
-        let t = narrow(tank);
+        let t = tank as usize;
         let h = self.heads[t];
         YesNo::Says(h.touched)
     }
@@ -381,8 +379,8 @@ impl Tanks {
         if 8 <= tank {
             return Count::Refused(1);
         }
-        let t = narrow(tank);
+        let t = tank as usize;
         let h = self.heads[t];
-        Count::Counts(wide(h.runs))
+        Count::Counts(h.runs as u64)
     }
 }

@@ -10,18 +10,6 @@ ghost use Rattle.tanks.specs.Contracts.{Judged, Small};
 use super::Head;
 use super::Setting;
 
-pub fn wide(x: usize) -> u64
-    ensures { λ r. ⌜ r ≡ x ⌝ }
-{
-    x as u64
-}
-
-pub fn narrow(x: u64) -> usize
-    ensures { λ r. ⌜ r ≡ x ⌝ }
-{
-    x as usize
-}
-
 fn larger(a: u64, b: u64) -> u64
     ensures { λ r. ⌜ r ≡ max a b ⌝ }
 {
@@ -73,7 +61,7 @@ fn claimed(settings: [Setting; 8], heads: [Head; 8], t: usize, n: u64) -> u64
     let mut sum = 0;
     let mut u = 0;
     while u < 8 {
-        let runs = held_after(u, t, n, wide(heads[u].runs));
+        let runs = held_after(u, t, n, heads[u].runs as u64);
         sum += larger(runs, settings[u].share);
         u += 1;
     }

@@ -1,7 +1,7 @@
 -- The tank is put back run by run; what the loop has written so far is a part of the pool that `puts` says.
 use borrow.Author.Needs.{needs}
 use native.Mathlib.Omega.{arith}
-use Prim.Native.Nat.{ℕ, _-_, _≤_, _<_}
+use Prim.Native.Nat.{_-_, _≤_}
 use mathlib.Core.Path.{_≡_, refl, sym, ap, _∙_}
 use Rattle.tanks.specs.Settings.{judgement}
 use Rattle.tanks.specs.House.{first}
@@ -25,9 +25,7 @@ use Rattle.tanks.proofs.pool.table_in.Reads as table-in-reads
 use Rattle.tanks.proofs.pool.taken.Reads as taken-reads
 use Rattle.tanks.proofs.pool.turn.Reads as turn-reads
 use Rattle.tanks.proofs.refused.Reads as refused-reads
-use Rattle.tanks.proofs.settings.narrow.Reads as narrow-reads
 use Rattle.tanks.proofs.settings.verdict.Reads as verdict-reads
-use Rattle.tanks.proofs.settings.wide.Reads as wide-reads
 
 abbrev Inv-loop : tie.InvT-loop
 Inv-loop tank self₀ t done x m number s k₀ self k =
@@ -39,36 +37,24 @@ abbrev μ-loop : tie.MeasureT-loop
 μ-loop tank self₀ t done x m number s k₀ self k = s .count - k
 
 -- ---- what is known on the way
--- there is such a tank
-tank-8 : (c : tie.After-narrow Inv-loop μ-loop) → c .narrow .result < 8
-tank-8 c = omega (arith, c .narrow .ensures, c .before .if1 .left)
-
--- it is taken out
-own : (c : tie.After-taken Inv-loop μ-loop) → TakenOut (c .before .before .before .before .before .before .args .t1) (c .before .before .before .before .narrow .result) (c .taken .result)
+-- the tank is taken out
+own : (c : tie.After-taken Inv-loop μ-loop) → let a = c .before .before .before .before .before in TakenOut (a .args .t1) (a .args .tank) (c .taken .result)
 unfolding tankOf
-own c = taken (c .before .before .before .before .before .before .args .t1) (c .before .before .before .before .before .before .pre) (c .before .before .before .before .narrow .result) _ (tank-8 (c .before .before .before .before)) (c .taken .ensures)
-
--- the verdict, by the runs that it would hold
-judged : (c : tie.After-verdict Inv-loop μ-loop)
-    → let s = c .before .before .before .before .before .before .before .before .before .before .before .args .t1 in let p = c .before .before .before .before .perform .result in
-    c .verdict .result ≡ first (p .number) (judgement (s .settings) (runsIn (s .heads)) (c .before .before .before .before .before .before .before .before .before .narrow .result) (p .tank .runs))
-judged c =
-    let s = c .before .before .before .before .before .before .before .before .before .before .before .args .t1 in
-    let p = c .before .before .before .before .perform .result in
-    c .verdict .ensures ∙ ap (λ (n : ℕ). first (p .number) (judgement (s .settings) (runsIn (s .heads)) (c .before .before .before .before .before .before .before .before .before .narrow .result) n)) (c .before .wide .ensures)
+own c = let e = c .before .before .before .before in let a = e .before in taken (a .args .t1) (a .pre) (a .args .tank) _ (e .if1 .left) (c .taken .ensures)
 
 -- no refusal: the places of the loop are inside the arrays
 accepted : (c : tie.Else2 Inv-loop μ-loop)
-    → let s = c .before .before .before .before .before .before .before .before .before .before .before .before .args .t1 in let p = c .before .before .before .before .before .perform .result in
-    first (p .number) (judgement (s .settings) (runsIn (s .heads)) (c .before .before .before .before .before .before .before .before .before .before .narrow .result) (p .tank .runs)) ≡ 0
-accepted c = let z : c .before .verdict .result ≡ 0 = omega (arith, c .if2 .left) in sym (judged (c .before)) ∙ z
+    → let a = c .before .before .before .before .before .before .before .before .before .before .args in let s = a .t1 in let p = c .before .before .before .before .perform .result in
+    first (p .number) (judgement (s .settings) (runsIn (s .heads)) (a .tank) (p .tank .runs)) ≡ 0
+accepted c = let z : c .before .verdict .result ≡ 0 = omega (arith, c .if2 .left) in sym (c .before .verdict .ensures) ∙ z
 
 places : (c : tie.After-spots Inv-loop μ-loop)
-    → let x = c .before .before .before .before .before .before .perform .result .tank in let r = c .spots .result in Inside x (x .runs) (r .at) (r .from) (r .full) (r .count) (r .grows)
+    → let x = c .before .before .before .before .before .perform .result .tank in let r = c .spots .result in Inside x (x .runs) (r .at) (r .from) (r .full) (r .count) (r .grows)
 places c =
-    let a = c .before .before .before .before .before .before .before .before .before .before .before .before .before in
-    let p = c .before .before .before .before .before .before .perform in
-    inside (a .args .t1) (c .before .before .before .before .before .before .before .before .before .before .before .narrow .result) (p .result .number) (p .result .tank) (a .pre) (tank-8 (c .before .before .before .before .before .before .before .before .before .before .before)) (p .ensures .called .formed) (accepted (c .before)) _ (c .spots .ensures)
+    let e = c .before .before .before .before .before .before .before .before .before .before in
+    let a = e .before in
+    let p = c .before .before .before .before .before .perform in
+    inside (a .args .t1) (a .args .tank) (p .result .number) (p .result .tank) (a .pre) (e .if1 .left) (p .ensures .called .formed) (accepted (c .before)) _ (c .spots .ensures)
 
 -- ---- what is asked for
 refused-requires : tie.Need-refused-requires Inv-loop μ-loop
@@ -79,9 +65,6 @@ returns c =
     let a = c .before .before in
     done-refused (a .args .t1) (a .args .tank) (editOf (a .args .call)) 1 _ (called-past (a .args .t1) (a .args .tank) (editOf (a .args .call)) (a .pre) (c .before .if1 .taken)) (omega arith) (c .refused .ensures)
 
-narrow-requires : tie.Need-narrow-requires Inv-loop μ-loop
-narrow-requires c κs = search needs
-
 mul-taken : tie.Need-mul-taken Inv-loop μ-loop
 mul-taken c = search needs
 
@@ -89,16 +72,13 @@ element-copy-out-taken : tie.Need-element-copy-out-taken Inv-loop μ-loop
 element-copy-out-taken c = search needs
 
 taken-requires : tie.Need-taken-requires Inv-loop μ-loop
-taken-requires c κs = let a = c .before .before .before .before .before in (tank-8 (c .before .before .before), sound-held (a .args .t1) (a .pre))
+taken-requires c κs = let e = c .before .before .before in let a = e .before in (e .if1 .left, sound-held (a .args .t1) (a .pre))
 
 perform-requires : tie.Need-perform-requires Inv-loop μ-loop
 perform-requires c κs = own c .sound
 
-wide-requires : tie.Need-wide-requires Inv-loop μ-loop
-wide-requires c κs = search needs
-
 verdict-requires : tie.Need-verdict-requires Inv-loop μ-loop
-verdict-requires c κs = let a = c .before .before .before .before .before .before .before .before .before .before in (tank-8 (c .before .before .before .before .before .before .before .before), sound-judged (a .args .t1) (a .pre))
+verdict-requires c κs = let e = c .before .before .before .before .before .before .before in let a = e .before in (e .if1 .left, sound-judged (a .args .t1) (a .pre))
 
 refused-requires-2 : tie.Need-refused-requires-2 Inv-loop μ-loop
 refused-requires-2 c κs = search needs
@@ -106,15 +86,16 @@ refused-requires-2 c κs = search needs
 returns-2 : tie.Need-returns-2 Inv-loop μ-loop
 returns-2 c =
     let v = c .before .before in
-    let a = v .before .before .before .before .before .before .before .before .before .before .before in
-    let p = v .before .before .before .before in
+    let e = v .before .before .before .before .before .before .before .before in
+    let a = e .before in
+    let p = v .before .before .before in
     let k =
-    called-by (a .args .t1) (a .args .tank) _ (editOf (a .args .call)) _ _ _ _ _ (a .pre) (v .before .before .before .before .before .before .before .before .before .before .if1 .left) (v .before .before .before .before .before .before .before .before .before .narrow .ensures)
-    (own (p .before)) (p .perform .ensures .called) (tail-refused (a .args .t1) _ _ _ _ (a .pre) (judged v) (c .before .if2 .taken)) in
+    called-by (a .args .t1) (a .args .tank) (editOf (a .args .call)) _ _ _ _ _ (a .pre) (e .if1 .left)
+    (own (p .before)) (p .perform .ensures .called) (tail-refused (a .args .t1) _ _ _ _ (a .pre) (v .verdict .ensures) (c .before .if2 .taken)) in
     done-refused (a .args .t1) (a .args .tank) (editOf (a .args .call)) _ _ k (c .before .if2 .taken) (c .refused2 .ensures)
 
 spots-requires : tie.Need-spots-requires Inv-loop μ-loop
-spots-requires c κs = let a = c .before .before .before .before .before .before .before .before .before .before .before .before in (tank-8 (c .before .before .before .before .before .before .before .before .before .before), c .before .before .before .before .before .perform .ensures .called .formed .laid .most, sound-held (a .args .t1) (a .pre))
+spots-requires c κs = let e = c .before .before .before .before .before .before .before .before .before in let a = e .before in (e .if1 .left, c .before .before .before .before .perform .ensures .called .formed .laid .most, sound-held (a .args .t1) (a .pre))
 
 loop-holds : tie.Need-loop-holds Inv-loop μ-loop
 unfolding laid
@@ -152,10 +133,10 @@ loop-less c = search needs
 
 loop-again : tie.Need-loop-again Inv-loop μ-loop
 loop-again c =
-    let s = c .before .before .before .before .before .before .before .before .before .before .before .before .before .before .before .before .before .before .before .before .before .args .t1 in
+    let s = c .before .before .before .before .before .before .before .before .before .before .before .before .before .before .before .before .before .before .before .args .t1 in
     let q = c .before .before .before .before .before .before .before .before .spots .result in
     let l = c .before .before .before .before .before .before .before .loop in
-    let x = c .before .before .before .before .before .before .before .before .before .before .before .before .before .before .perform .result .tank in
+    let x = c .before .before .before .before .before .before .before .before .before .before .before .before .before .perform .result .tank in
     let j = c .before .before .before .before .turn in (
       omega arith,
       l .inv .1,
@@ -187,10 +168,10 @@ loop-less-2 c = search needs
 
 loop-again-2 : tie.Need-loop-again-2 Inv-loop μ-loop
 loop-again-2 c =
-    let s = c .before .before .before .before .before .before .before .before .before .before .before .before .before .before .before .before .before .before .before .before .before .before .before .args .t1 in
+    let s = c .before .before .before .before .before .before .before .before .before .before .before .before .before .before .before .before .before .before .before .before .before .args .t1 in
     let q = c .before .before .before .before .before .before .before .before .before .before .spots .result in
     let l = c .before .before .before .before .before .before .before .before .before .loop in
-    let x = c .before .before .before .before .before .before .before .before .before .before .before .before .before .before .before .before .perform .result .tank in
+    let x = c .before .before .before .before .before .before .before .before .before .before .before .before .before .before .before .perform .result .tank in
     let j = c .before .before .before .before .before .before .turn in (
       omega arith,
       l .inv .1,
@@ -214,10 +195,10 @@ loop-less-3 c = search needs
 
 loop-again-3 : tie.Need-loop-again-3 Inv-loop μ-loop
 loop-again-3 c =
-    let s = c .before .before .before .before .before .before .before .before .before .before .before .before .before .before .before .before .before .before .before .before .before .args .t1 in
+    let s = c .before .before .before .before .before .before .before .before .before .before .before .before .before .before .before .before .before .before .before .args .t1 in
     let q = c .before .before .before .before .before .before .before .before .spots .result in
     let l = c .before .before .before .before .before .before .before .loop in
-    let x = c .before .before .before .before .before .before .before .before .before .before .before .before .before .before .perform .result .tank in
+    let x = c .before .before .before .before .before .before .before .before .before .before .before .before .before .perform .result .tank in
     let j = c .before .before .before .before .turn in (
       omega arith,
       l .inv .1,
@@ -230,38 +211,38 @@ head-of-requires : tie.Need-head-of-requires Inv-loop μ-loop
 head-of-requires c κs = search needs
 
 mul-t19 : tie.Need-mul-t19 Inv-loop μ-loop
-mul-t19 c = omega (arith, tank-8 (c .before .before .before .before .before .before .before .before .before .before .before .before .before .before .before))
+mul-t19 c = omega (arith, c .before .before .before .before .before .before .before .before .before .before .before .before .before .before .if1 .left)
 
 element-set-from-self-4 : tie.Need-element-set-from-self-4 Inv-loop μ-loop
-element-set-from-self-4 c = tank-8 (c .before .before .before .before .before .before .before .before .before .before .before .before .before .before .before)
+element-set-from-self-4 c = c .before .before .before .before .before .before .before .before .before .before .before .before .before .before .if1 .left
 
 table-in-requires : tie.Need-table-in-requires Inv-loop μ-loop
 table-in-requires c κs = search needs
 
 mul-t19-2 : tie.Need-mul-t19-2 Inv-loop μ-loop
-mul-t19-2 c = omega (arith, tank-8 (c .before .before .before .before .before .before .before .before .before .before .before .before .before .before .before .before))
+mul-t19-2 c = omega (arith, c .before .before .before .before .before .before .before .before .before .before .before .before .before .before .before .if1 .left)
 
 element-set-from-self-5 : tie.Need-element-set-from-self-5 Inv-loop μ-loop
-element-set-from-self-5 c = tank-8 (c .before .before .before .before .before .before .before .before .before .before .before .before .before .before .before .before)
+element-set-from-self-5 c = c .before .before .before .before .before .before .before .before .before .before .before .before .before .before .before .if1 .left
 
 returns-3 : tie.Need-returns-3 Inv-loop μ-loop
 returns-3 c =
-    let a = c .before .before .before .before .before .before .before .before .before .before .before .before .before .before .before .before .before .before .before in
+    let e = c .before .before .before .before .before .before .before .before .before .before .before .before .before .before .before .before in
+    let a = e .before in
     let r = c .before .before .before .before .before .before in
     let l = c .before .before .before .before .before .loop in
-    let p = c .before .before .before .before .before .before .before .before .before .before .before .before in
-    let n = c .before .before .before .before .before .before .before .before .before .before .before .before .before .before .before .before .before in
+    let p = c .before .before .before .before .before .before .before .before .before .before .before in
     let q = r .spots .result in
     let x = p .perform .result .tank in
-    let e : l .k ≡ q .count = omega arith in
+    let all : l .k ≡ q .count = omega arith in
     let g : l .self ≡ withPool (a .args .t1) (laid (a .args .t1 .pool) (q .at) (runFrom (a .args .t1 .pool) x (q .from) (q .full)) (q .count)) =
-    (rw e at (l .inv .2)) ∙ ap (withPool (a .args .t1)) (part-all (a .args .t1 .pool) (q .at) _ (q .grows) (q .count)) in
+    (rw all at (l .inv .2)) ∙ ap (withPool (a .args .t1)) (part-all (a .args .t1 .pool) (q .at) _ (q .grows) (q .count)) in
     let k =
-    called-by (a .args .t1) (a .args .tank) _ (editOf (a .args .call)) _ _ _ _ _ (a .pre) (n .before .if1 .left) (n .narrow .ensures)
+    called-by (a .args .t1) (a .args .tank) (editOf (a .args .call)) _ _ _ _ _ (a .pre) (e .if1 .left)
     (own (p .before)) (p .perform .ensures .called)
-    (tail-done (a .args .t1) _ _ _ (a .pre) (tank-8 n) (p .perform .ensures .called .formed) (accepted (r .before))) in
-    rw (put-at-last (a .args .t1) (l .self) (n .narrow .result) x q _ _ (r .spots .ensures) (c .before .before .head-of .ensures) (c .before .table-in .ensures) g)
-    (done-by (a .args .t1) (a .args .tank) (editOf (a .args .call)) _ _ (p .perform .result) _ (n .before .if1 .left) (n .narrow .ensures) (own (p .before)) (p .perform .ensures) k)
+    (tail-done (a .args .t1) _ _ _ (a .pre) (e .if1 .left) (p .perform .ensures .called .formed) (accepted (r .before))) in
+    rw (put-at-last (a .args .t1) (l .self) (a .args .tank) x q _ _ (r .spots .ensures) (c .before .before .head-of .ensures) (c .before .table-in .ensures) g)
+    (done-by (a .args .t1) (a .args .tank) (editOf (a .args .call)) _ (p .perform .result) _ (e .if1 .left) (own (p .before)) (p .perform .ensures) k)
 
 pub edit-spec : {M : Type 1} → statement M
 edit-spec =
@@ -271,12 +252,10 @@ edit-spec =
     μ-loop
     refused-requires
     returns
-    narrow-requires
     mul-taken
     element-copy-out-taken
     taken-requires
     perform-requires
-    wide-requires
     verdict-requires
     refused-requires-2
     returns-2

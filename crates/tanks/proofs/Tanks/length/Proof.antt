@@ -6,13 +6,9 @@ use Rattle.tanks.proofs.Tanks.length.Statement.{statement}
 use Rattle.tanks.proofs.Tanks.length.Tie as tie
 use Rattle.tanks.proofs.Tanks.length.Reads as reads
 use Rattle.tanks.proofs.Tanks.length.Lts as lts
-use Rattle.tanks.proofs.settings.narrow.Reads as narrow-reads
 
 returns : tie.Need-returns
 returns c = asked-past Count.Refused Count.Counts (c .before .args .tank) _ (c .if1 .taken)
-
-narrow-requires : tie.Need-narrow-requires
-narrow-requires c κs = search needs
 
 mul-h : tie.Need-mul-h
 mul-h c = search needs
@@ -22,8 +18,9 @@ element-copy-out-h c = search needs
 
 returns-2 : tie.Need-returns-2
 returns-2 c =
-    let a = c .before .before .before in
-    asked-in Count.Refused Count.Counts (a .args .tank) _ _ (c .before .before .if1 .left) (length-said (a .args .t1) _ (a .args .tank) (c .before .narrow .ensures) (c .before .before .if1 .left))
+    let h = c .before .if1 .left in
+    let a = c .before .before in
+    asked-in Count.Refused Count.Counts (a .args .tank) _ _ h (length-said (a .args .t1) (a .args .tank) h)
 
 pub length-spec : {M : Type 1} → statement M
-length-spec = tie.close (tie.spec returns narrow-requires mul-h element-copy-out-h returns-2)
+length-spec = tie.close (tie.spec returns mul-h element-copy-out-h returns-2)

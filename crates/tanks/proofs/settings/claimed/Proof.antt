@@ -3,12 +3,10 @@ use borrow.Author.Needs.{needs}
 use native.Mathlib.Omega.{arith}
 use Prim.Native.Nat.{ℕ, _-_, _≤_, max}
 use mathlib.Core.Path.{_≡_, refl, ap, _∙_}
-use mathlib.Core.Bool.{cond}
-use lib.Dec.{eqb}
 use Rattle.runs.specs.Positions.{sumBelow}
 use Rattle.runs.proofs.SumLaws.{sum-more}
 use Rattle.tanks.specs.Settings.{shareOf, claim, claims, heldAfter}
-use Rattle.tanks.specs.Pool.{runsIn, runsBelow}
+use Rattle.tanks.specs.Pool.{runsIn}
 use Rattle.tanks.proofs.SettingLaws.{small-more}
 use Rattle.tanks.proofs.settings.claimed.Statement.{statement}
 use Rattle.tanks.proofs.settings.claimed.Tie as tie
@@ -16,7 +14,6 @@ use Rattle.tanks.proofs.settings.claimed.Reads as reads
 use Rattle.tanks.proofs.settings.claimed.Lts as lts
 use Rattle.tanks.proofs.settings.held_after.Reads as held-after-reads
 use Rattle.tanks.proofs.settings.larger.Reads as larger-reads
-use Rattle.tanks.proofs.settings.wide.Reads as wide-reads
 
 abbrev Inv-loop : tie.InvT-loop
 Inv-loop t n settings heads sum₀ u₀ sum u = (u ≤ 8) × (sum ≡ claims settings (heldAfter (runsIn heads) t n) u)
@@ -24,28 +21,23 @@ Inv-loop t n settings heads sum₀ u₀ sum u = (u ≤ 8) × (sum ≡ claims set
 abbrev μ-loop : tie.MeasureT-loop
 μ-loop t n settings heads sum₀ u₀ sum u = 8 - u
 
--- what the three calls come to
+-- what the two calls come to
 counted : (c : tie.After-larger Inv-loop μ-loop)
-    → c .larger .result ≡ max (heldAfter (runsIn (c .before .before .before .before .before .args .t2)) (c .before .before .before .before .before .args .t) (c .before .before .before .before .before .args .n) (c .before .before .before .before .loop .u)) (shareOf (c .before .before .before .before .before .args .t1) (c .before .before .before .before .loop .u))
+    → c .larger .result ≡ max (heldAfter (runsIn (c .before .before .before .before .args .t2)) (c .before .before .before .before .args .t) (c .before .before .before .before .args .n) (c .before .before .before .loop .u)) (shareOf (c .before .before .before .before .args .t1) (c .before .before .before .loop .u))
 counted c =
-    let a = c .before .before .before .before .before .args in
-    let l = c .before .before .before .before .loop in
-    let w : c .before .held-after .result ≡ heldAfter (runsIn (a .t2)) (a .t) (a .n) (l .u) =
-    c .before .held-after .ensures ∙ ap (λ (y : ℕ). cond (eqb (l .u) (a .t)) (a .n) y) (c .before .before .wide .ensures) in
-    c .larger .ensures ∙ ap (λ (y : ℕ). max y (shareOf (a .t1) (l .u))) w
+    let a = c .before .before .before .before .args in
+    let l = c .before .before .before .loop in
+    c .larger .ensures ∙ ap (λ (y : ℕ). max y (shareOf (a .t1) (l .u))) (c .before .held-after .ensures)
 
 loop-holds : tie.Need-loop-holds Inv-loop μ-loop
 unfolding sumBelow
 loop-holds c = (omega arith, refl)
 
-mul-wide : tie.Need-mul-wide Inv-loop μ-loop
-mul-wide c = search needs
+mul-held-after : tie.Need-mul-held-after Inv-loop μ-loop
+mul-held-after c = search needs
 
-element-copy-out-wide : tie.Need-element-copy-out-wide Inv-loop μ-loop
-element-copy-out-wide c = search needs
-
-wide-requires : tie.Need-wide-requires Inv-loop μ-loop
-wide-requires c κs = search needs
+element-copy-out-held-after : tie.Need-element-copy-out-held-after Inv-loop μ-loop
+element-copy-out-held-after c = search needs
 
 held-after-requires : tie.Need-held-after-requires Inv-loop μ-loop
 held-after-requires c κs = search needs
@@ -60,7 +52,7 @@ larger-requires : tie.Need-larger-requires Inv-loop μ-loop
 larger-requires c κs = search needs
 
 add-sum : tie.Need-add-sum Inv-loop μ-loop
-add-sum c = let a = c .before .before .before .before .before .args in let l = c .before .before .before .before .loop in omega (arith, counted c, small-more (a .t1) (a .t2) (a .t) (a .n) (l .u) (c .before .before .before .before .before .pre) (omega arith))
+add-sum c = let a = c .before .before .before .before in let l = c .before .before .before .loop in omega (arith, counted c, small-more (a .args .t1) (a .args .t2) (a .args .t) (a .args .n) (l .u) (a .pre) (omega arith))
 
 add-u : tie.Need-add-u Inv-loop μ-loop
 add-u c = search needs
@@ -69,7 +61,7 @@ loop-less : tie.Need-loop-less Inv-loop μ-loop
 loop-less c = search needs
 
 loop-again : tie.Need-loop-again Inv-loop μ-loop
-loop-again c = let a = c .before .before .before .before .before .args in let l = c .before .before .before .before .loop in omega (arith, counted c, sum-more (claim (a .t1) (heldAfter (runsIn (a .t2)) (a .t) (a .n))) (l .u))
+loop-again c = let a = c .before .before .before .before .args in let l = c .before .before .before .loop in omega (arith, counted c, sum-more (claim (a .t1) (heldAfter (runsIn (a .t2)) (a .t) (a .n))) (l .u))
 
 returns : tie.Need-returns Inv-loop μ-loop
 returns c = let e : c .before .loop .u ≡ 8 = omega arith in rw (← e) (c .before .loop .inv .1)
@@ -81,9 +73,8 @@ claimed-spec =
     Inv-loop
     μ-loop
     loop-holds
-    mul-wide
-    element-copy-out-wide
-    wide-requires
+    mul-held-after
+    element-copy-out-held-after
     held-after-requires
     mul-larger
     element-copy-out-larger

@@ -2,7 +2,7 @@
 use borrow.Author.Needs.{needs}
 use native.Mathlib.Omega.{arith}
 use mathlib.Core.Path.{sym}
-use Rattle.tanks.specs.Pool.{runsIn, runsBelow}
+use Rattle.tanks.specs.Pool.{runsIn}
 use Rattle.tanks.proofs.SettingLaws.{judged-small, judge-9, judge-10, judge-0}
 use Rattle.tanks.proofs.settings.judge.Statement.{statement}
 use Rattle.tanks.proofs.settings.judge.Tie as tie

@@ -1,6 +1,5 @@
 -- `keeps_rule` meets its contract: its three tests are the rule's, in the rule's order.
 use borrow.Author.Tests.{le-leb, lt-leb}
-use Rattle.tanks.specs.Pool.{runsBelow}
 use Rattle.tanks.proofs.SettingLaws.{keeps-last}
 use Rattle.tanks.proofs.settings.keeps_rule.Statement.{statement}
 use Rattle.tanks.proofs.settings.keeps_rule.Tie as tie
