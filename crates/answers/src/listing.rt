@@ -1,5 +1,4 @@
 // Stretches and anchors.
-ghost use mathlib.Core.Path.{_≡_};
 ghost use Prim.Native.Nat.{_≤_};
 ghost use lib.ListN.{length, take};
 ghost use Rattle.answers.specs.Waiting.{Adds};

@@ -1,5 +1,4 @@
 // Sets of marks.
-ghost use mathlib.Core.Path.{_≡_};
 ghost use Prim.Native.Nat.{_≤_};
 ghost use lib.ListN.{length};
 ghost use Rattle.answers.specs.Waiting.{Adds};

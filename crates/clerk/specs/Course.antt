@@ -7,7 +7,7 @@ use lib.Dec.{eqb}
 use lib.ListN.{length, replicate}
 use Rattle.tanks.specs.declared.Setting.{Setting}
 use Rattle.tanks.specs.declared.Tanks.{Tanks}
-use Rattle.tanks.specs.House.{House, opening}
+use Rattle.tanks.specs.House.{House, smallest, opening}
 use Rattle.tanks.specs.Pool.{meaning, Sound}
 use Rattle.script.specs.declared.Call.{Call}
 use Rattle.script.specs.declared.Ending.{Ending}
@@ -174,7 +174,7 @@ Runs s first buffer r out = RunsFrom (going s first buffer) r out
 
 -- before the first `open` each tank has share 1 and limit 1
 abbrev pub firstSettings : List Setting
-firstSettings = replicate 8 (record { share = 1; limit = 1 })
+firstSettings = replicate 8 smallest
 
 -- where a whole run begins: fresh tanks, at the start of a script, with nothing waiting
 abbrev pub beginning : List ℕ → Course

@@ -1,12 +1,11 @@
 -- Laws of names: where the first colon stands, and the bytes of a name with zeros after them. Assumes nothing.
 use mathlib.Core.Path.{_≡_, sym, _∙_}
 use mathlib.Core.Bool.{true, false}
-use mathlib.Core.List.{List, [], _∷_, _++_}
+use mathlib.Core.List.{List, _∷_, _++_}
 use Prim.Native.Nat.{ℕ, suc, _-_, _≤_, _<_}
 use native.Mathlib.Omega.{arith}
-use lib.Dec.{eqb}
-use lib.ListN.{length, getD, take, drop, set, drop-of-length-le}
-use lib.Seq.{drop-cons, set-at, take-suc, append-snoc, length-take-le}
+use lib.ListN.{length, getD, take, set}
+use lib.Seq.{set-at, take-suc, append-snoc, length-take-le}
 use borrow.Author.Tests.{lt-ltb, le-ltb}
 use Rattle.text.proofs.Finding.{held-by-length}
 use Rattle.config.specs.Names.{holdsColon, cut, zeros}

@@ -8,7 +8,7 @@ use lib.ListN.{replicate}
 use Rattle.text.specs.Bytes.{bytes, upTo, holds, startsOf, sameOf}
 use Rattle.richtext.specs.Flags.{flagOf}
 use Rattle.richtext.specs.declared.ExpandType.the-variants.{Before, After, Both, None}
-use Rattle.config.specs.Names.{holdsColon, cut}
+use Rattle.config.specs.Names.{cut}
 use Rattle.config.specs.Table.{Table, known, find, entered, once, refuses, withEntry, withDefault}
 use Rattle.config.specs.BuiltIn.{growing, builtIns, builtIn}
 use Rattle.config.specs.Answers.{getSays, flagSays, unmarkSays}

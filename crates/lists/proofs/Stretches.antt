@@ -1,7 +1,7 @@
 -- The stretches over a range are the maximal ones: they tile it, each has one set throughout and begins where the set changes, and no other list does so.
 use Prim.Native.Nat.{ℕ, zero, suc, _-_, _≤_, _<_}
 use mathlib.Core.Path.{_≡_, refl, sym, ap, _∙_}
-use mathlib.Core.Bool.{Bool, true, false, cond, false≢true}
+use mathlib.Core.Bool.{Bool, true, false, false≢true}
 use mathlib.Core.List.{List, [], _∷_}
 use native.Mathlib.Omega.{arith}
 use native.Mathlib.Decide.{decLt, decLe}
@@ -10,9 +10,13 @@ use lib.ListN.{length}
 use Rattle.styles.specs.declared.Mark.{Mark}
 use Rattle.styles.specs.Order.{idOf, sameId}
 use Rattle.styles.specs.Marks.{sameMarks}
+use Rattle.styles.proofs.ValueLaws.{both-hold}
 use Rattle.runs.specs.Positions.{Stretch, stretch, extended, stretchesAt}
 use Rattle.tank.specs.Rules.{View}
 use Rattle.lists.specs.Lists.{stretchesOver, Maximal, Tiles, TilesOver}
+
+pub not-lt : {p q : ℕ} → (p < q → ⊥) → q ≤ p
+not-lt k = omega arith
 
 module _ (alike : ℕ → Bool) (count : ℕ → ℕ) where
   module _ (same : (p : ℕ) → alike p ≡ true → count p ≡ count (suc p)) (a : ℕ) where
@@ -96,21 +100,14 @@ module _ (alike : ℕ → Bool) (count : ℕ → ℕ) where
       let e : x .end ≡ y .end = m .last ∙ sym (n .last) in
       let r = only-one a (x .start) xs ys (t .1) (rw s (u .1)) in
       λ i. stretch (s i) (e i) (c i) ∷ r i
-    where
-      not-lt : {p q : ℕ} → (p < q → ⊥) → q ≤ p
-      not-lt k = omega arith
 
 -- ---- of a tank
-rest-same : (a b : Bool) → cond a b false ≡ true → b ≡ true
-rest-same true b e = e
-rest-same false b e = absurd (false≢true e)
-
 same-length : (xs ys : List Mark) → sameMarks xs ys ≡ true → length xs ≡ length ys
 unfolding sameMarks
 same-length [] [] e = refl
 same-length [] (y ∷ ys) e = absurd (false≢true e)
 same-length (x ∷ xs) [] e = absurd (false≢true e)
-same-length (x ∷ xs) (y ∷ ys) e = omega (arith, same-length xs ys (rest-same (sameId (idOf x) (idOf y)) (sameMarks xs ys) e))
+same-length (x ∷ xs) (y ∷ ys) e = omega (arith, same-length xs ys (both-hold (sameId (idOf x) (idOf y)) (sameMarks xs ys) e .1))
 
 pub stretches-tile : (a b : ℕ) (v : View) → TilesOver a b v (stretchesOver a b v)
 stretches-tile a b v = tiles _ _ (λ p. same-length (v .at p) (v .at (suc p))) a b

@@ -1,6 +1,6 @@
 -- The four expand types: on which sides a style grows, the words that name them, and the type that takes a style away.
 use mathlib.Core.Bool.{Bool, true, false, cond}
-use mathlib.Core.List.{List, [], _∷_}
+use mathlib.Core.List.{List}
 use Prim.Native.Nat.{ℕ}
 use Rattle.text.specs.Bytes.{bytes, sameOf}
 use Rattle.richtext.specs.declared.ExpandType.{ExpandType}

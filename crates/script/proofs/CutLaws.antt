@@ -1,21 +1,18 @@
 -- Lines out of bytes: the newline is searched, and what stands in front of it is kept, up to 65 bytes.
-use mathlib.Core.Path.{_≡_, refl, sym, ap, ap₂, _∙_}
+use mathlib.Core.Path.{_≡_, sym, ap, ap₂, _∙_}
 use mathlib.Core.Bool.{true, false}
-use mathlib.Core.List.{List, [], _∷_, _++_}
-use Prim.Native.Nat.{ℕ, suc, _+_, _-_, _≤_, _<_, min}
-use native.Mathlib.Decide.{decLt, ℕ-discrete}
-use native.Mathlib.Numerals.{add-one}
+use mathlib.Core.List.{List, _++_}
+use Prim.Native.Nat.{ℕ, _+_, _-_, _≤_, _<_, min}
+use native.Mathlib.Decide.{decLt}
 use native.Mathlib.Omega.{arith}
-use lib.Dec.{ltb}
-use lib.ListN.{length, getD, take, drop, length-take, length-drop, length-append}
-use lib.Seq.{drop-cons, take-all, take-take, take-append-add, take-append-seam, length-take-le}
-use borrow.Author.Tests.{eq-eqb, ne-eqb, lt-ltb, le-ltb}
-use Rattle.text.specs.Bytes.{upTo, holds}
+use lib.ListN.{length, take, drop, length-drop, length-append}
+use lib.Seq.{take-all, take-take, take-append-add, take-append-seam, length-take-le}
+use borrow.Author.Tests.{lt-ltb, le-ltb}
 use Rattle.text.specs.Number.{put}
 use Rattle.text.proofs.Finding.{front-take, front-inside, held-by-length}
 use Rattle.script.specs.declared.Cut.{Cut}
 use Rattle.script.specs.declared.Line.{Line}
-use Rattle.script.specs.Lines.{lineFront, hasEnd, heldOf, Keeps, grownLine, pastLine, cutOf}
+use Rattle.script.specs.Lines.{lineFront, heldOf, Keeps, grownLine, pastLine, cutOf}
 
 -- ---- what is kept
 pub take-min : {A : Type 0} (n m : ℕ) (l : List A) → length l ≤ m → take (min n m) l ≡ take n l

@@ -15,7 +15,7 @@ use Rattle.script.specs.declared.ReadOp.{ReadOp}
 use Rattle.script.specs.declared.ReadValue.{ReadValue}
 use Rattle.script.specs.Grammar.{opName, spelling}
 use Rattle.script.specs.Reading.{numberOf, opNamed, valueOf, freshOf, movedOf, heldLine, lineOf}
-use Rattle.script.specs.Lines.{lineFront, hasEnd, emptyLine, grownLine, State, afterOf, lineAfter, callAfter}
+use Rattle.script.specs.Lines.{emptyLine, grownLine, State, afterOf, lineAfter, callAfter}
 
 -- every op is known by its name
 op-open : opNamed (opName Op.Open) ≡ ReadOp.Op Op.Open

@@ -1,7 +1,6 @@
 -- One meaning, one tank: runs held and marks carried are the meaning's, and two tanks in form with one view are equal.
 use Prim.Native.Nat.{ℕ, _-_, _<_, _^_}
 use mathlib.Core.Path.{_≡_, sym, ap, _∙_}
-use mathlib.Core.List.{List}
 use native.Mathlib.Omega.{arith}
 use native.Mathlib.Decide.{decLt}
 use lib.ListN.{length, getD, length-take}

@@ -21,7 +21,7 @@ use Rattle.tanks.specs.declared.Run as pool
 use Rattle.tanks.specs.declared.Table.{Table}
 use Rattle.tanks.specs.Settings.{accepted, allKeepRule, shareOf, shares, claim, claims}
 use Rattle.tanks.specs.House.{smallest, openNumber, opening}
-use Rattle.tanks.specs.Pool.{noHead, noRun, noTable, runsIn, runsBelow, ownRuns, padded, tankIn, tankOf, headOf, tableIn, meaning, Sound, freshly}
+use Rattle.tanks.specs.Pool.{noHead, noRun, noTable, runsIn, runsBelow, ownRuns, zeroFilled, tankIn, tankOf, headOf, tableIn, meaning, Sound, freshly}
 use Rattle.tanks.specs.Contracts.{Opens}
 use Rattle.tanks.proofs.LaidLaws.{blank-at}
 use Rattle.tanks.proofs.PutLaws.{tank-eq}
@@ -71,8 +71,8 @@ module _ (st : List Setting) where
       (ap (λ (x : Head). x .length) e)
       (ap (λ (x : Head). x .runs) e)
       (ap (λ (x : Head). x .marks) e)
-      (ap (λ (rs : List pool.Run). padded (map (λ (r : pool.Run). r .len) rs)) (own-fresh u h))
-      (ap (λ (rs : List pool.Run). padded (map (λ (r : pool.Run). r .set) rs)) (own-fresh u h))
+      (ap (λ (rs : List pool.Run). zeroFilled (map (λ (r : pool.Run). r .len) rs)) (own-fresh u h))
+      (ap (λ (rs : List pool.Run). zeroFilled (map (λ (r : pool.Run). r .set) rs)) (own-fresh u h))
       (ap (λ (m : Table). m .marks) (getD-replicate 8 u (tableIn fresh) noTable h))
 
   pub means-fresh : meaning (freshly st) .tanks ≡ replicate 8 freshView

@@ -15,11 +15,11 @@ use Rattle.tanks.specs.declared.Table.{Table}
 use Rattle.tanks.specs.declared.Tanks.{Tanks}
 use Rattle.runs.specs.Runs.{Spare}
 use Rattle.tank.specs.State.{Formed}
-use Rattle.tanks.specs.Pool.{noRun, noHead, noTable, runsIn, runsBelow, ownRuns, padded, tankIn, tankOf, headOf, tableIn, Sound}
+use Rattle.tanks.specs.Pool.{noRun, noHead, noTable, runsIn, runsBelow, ownRuns, zeroFilled, tankIn, tankOf, headOf, tableIn, Sound}
 use Rattle.tanks.proofs.Put.{runOf, runFrom, puts}
 use Rattle.tanks.proofs.SettingLaws.{sound-held, sound-place}
 use Rattle.tanks.proofs.LaidLaws.{laid, length-laid, laid-out, laid-in, below-next, below-same, below-later}
-use Rattle.tanks.proofs.SliceLaws.{length-padded, padded-at, lens-at, sets-at, own-at, length-own, length-own-map}
+use Rattle.tanks.proofs.SliceLaws.{length-zero-filled, zero-filled-at, lens-at, sets-at, own-at, length-own, length-own-map}
 
 -- two tanks with equal fields are equal
 pub tank-eq : (x y : Tank) → x .touched ≡ y .touched → x .length ≡ y .length → x .runs ≡ y .runs → x .marks ≡ y .marks → x .lens ≡ y .lens → x .sets ≡ y .sets → x .table ≡ y .table → x ≡ y
@@ -133,13 +133,13 @@ module _ (s : Tanks) (t : ℕ) (x : Tank) (ok : Sound s) (t8 : t < 8) (formed : 
   put-inside u h = omega (arith, put-length, room, below-next (set (s .heads) t (headOf x)) u 8 h)
 
   -- an array of x is its part below the runs, and zeros
-  array : (ns xs : List ℕ) → length ns ≡ x .runs → length xs ≡ 514 → ((k : ℕ) → k < x .runs → getD (padded ns) k 0 ≡ getD xs k 0) → ((k : ℕ) → x .runs ≤ k → getD xs k 0 ≡ 0)
-      → padded ns ≡ xs
+  array : (ns xs : List ℕ) → length ns ≡ x .runs → length xs ≡ 514 → ((k : ℕ) → k < x .runs → getD (zeroFilled ns) k 0 ≡ getD xs k 0) → ((k : ℕ) → x .runs ≤ k → getD xs k 0 ≡ 0)
+      → zeroFilled ns ≡ xs
   array ns xs n l eq spare =
-      ext-getD 0 (padded ns) xs (length-padded ns (omega (arith, fits)) ∙ sym l)
+      ext-getD 0 (zeroFilled ns) xs (length-zero-filled ns (omega (arith, fits)) ∙ sym l)
       (λ k _. elim (decLt k (x .runs)) [
         | yes h ↦ eq k h
-        | no h ↦ padded-at ns k ∙ List·getD-eq-default ns 0 (omega arith) ∙ sym (spare k (omega arith))
+        | no h ↦ zero-filled-at ns k ∙ List·getD-eq-default ns 0 (omega arith) ∙ sym (spare k (omega arith))
       ])
 
   pub put-same : tankOf (puts s t x) t ≡ x
@@ -180,6 +180,6 @@ module _ (s : Tanks) (t : ℕ) (x : Tank) (ok : Sound s) (t8 : t < 8) (formed : 
       (ap (λ (h : Head). h .length) e)
       (ap (λ (h : Head). h .runs) e)
       (ap (λ (h : Head). h .marks) e)
-      (ap (λ (rs : List Run). padded (map (λ (r : Run). r .len) rs)) (own-other u ne u8))
-      (ap (λ (rs : List Run). padded (map (λ (r : Run). r .set) rs)) (own-other u ne u8))
+      (ap (λ (rs : List Run). zeroFilled (map (λ (r : Run). r .len) rs)) (own-other u ne u8))
+      (ap (λ (rs : List Run). zeroFilled (map (λ (r : Run). r .set) rs)) (own-other u ne u8))
       (ap (λ (m : Table). m .marks) (getD-set-other (s .tables) t u (tableIn x) noTable ne))

@@ -1,4 +1,4 @@
--- The laws of `ownRuns` and `padded`: a tank's runs and its arrays, place by place.
+-- The laws of `ownRuns` and `zeroFilled`: a tank's runs and its arrays, place by place.
 use Prim.Native.Nat.{ℕ, _+_, _-_, _≤_, _<_}
 use mathlib.Core.Path.{_≡_, sym, ap, _∙_}
 use mathlib.Core.List.{List, _++_, map}
@@ -8,15 +8,15 @@ use lib.ListN.{length, getD, drop, replicate, length-append, length-drop, length
 use lib.Seq.{length-take-le, getD-append-add, getD-take, getD-drop}
 use Rattle.tanks.specs.declared.Head.{Head}
 use Rattle.tanks.specs.declared.Run.{Run}
-use Rattle.tanks.specs.Pool.{noRun, runsIn, runsBelow, ownRuns, padded}
+use Rattle.tanks.specs.Pool.{noRun, runsIn, runsBelow, ownRuns, zeroFilled}
 use Rattle.tanks.proofs.LaidLaws.{laid, laid-blanks, blank-at}
 
-pub length-padded : (ns : List ℕ) → length ns ≤ 514 → length (padded ns) ≡ 514
-length-padded ns h = omega (arith, length-append ns (replicate (514 - length ns) 0), length-replicate {A = ℕ} (514 - length ns) 0)
+pub length-zero-filled : (ns : List ℕ) → length ns ≤ 514 → length (zeroFilled ns) ≡ 514
+length-zero-filled ns h = omega (arith, length-append ns (replicate (514 - length ns) 0), length-replicate {A = ℕ} (514 - length ns) 0)
 
 -- zeros stand behind a list either way
-pub padded-at : (ns : List ℕ) (k : ℕ) → getD (padded ns) k 0 ≡ getD ns k 0
-padded-at ns k =
+pub zero-filled-at : (ns : List ℕ) (k : ℕ) → getD (zeroFilled ns) k 0 ≡ getD ns k 0
+zero-filled-at ns k =
     elim (decLt k (length ns)) [
       | yes h ↦ List·getD-append ns (replicate (514 - length ns) 0) 0 k h
       | no h ↦
@@ -34,11 +34,11 @@ module _ (hs : List Head) (pool : List Run) (t : ℕ) where
   map-at f k h = List·getD-map f (ownRuns hs pool t) k noRun ∙ ap f (own-at k h)
 
   -- a tank's arrays
-  pub lens-at : (k : ℕ) → k < runsIn hs t → getD (padded (map (λ r. r .len) (ownRuns hs pool t))) k 0 ≡ getD pool (runsBelow hs t + k) noRun .len
-  lens-at k h = padded-at (map (λ r. r .len) (ownRuns hs pool t)) k ∙ map-at (λ r. r .len) k h
+  pub lens-at : (k : ℕ) → k < runsIn hs t → getD (zeroFilled (map (λ r. r .len) (ownRuns hs pool t))) k 0 ≡ getD pool (runsBelow hs t + k) noRun .len
+  lens-at k h = zero-filled-at (map (λ r. r .len) (ownRuns hs pool t)) k ∙ map-at (λ r. r .len) k h
 
-  pub sets-at : (k : ℕ) → k < runsIn hs t → getD (padded (map (λ r. r .set) (ownRuns hs pool t))) k 0 ≡ getD pool (runsBelow hs t + k) noRun .set
-  sets-at k h = padded-at (map (λ r. r .set) (ownRuns hs pool t)) k ∙ map-at (λ r. r .set) k h
+  pub sets-at : (k : ℕ) → k < runsIn hs t → getD (zeroFilled (map (λ r. r .set) (ownRuns hs pool t))) k 0 ≡ getD pool (runsBelow hs t + k) noRun .set
+  sets-at k h = zero-filled-at (map (λ r. r .set) (ownRuns hs pool t)) k ∙ map-at (λ r. r .set) k h
 
   -- of runs that all stand in the pool
   module _ (inside : runsBelow hs t + runsIn hs t ≤ length pool) where
@@ -49,7 +49,7 @@ module _ (hs : List Head) (pool : List Run) (t : ℕ) where
     length-own-map f = length-map (ownRuns hs pool t) f ∙ length-own
 
     -- the slices are what a loop lays run by run
-    pub own-laid : (f : Run → ℕ) → runsIn hs t ≤ 514 → laid (replicate 514 0) 0 (λ k. f (getD pool (runsBelow hs t + k) noRun)) (runsIn hs t) ≡ padded (map f (ownRuns hs pool t))
+    pub own-laid : (f : Run → ℕ) → runsIn hs t ≤ 514 → laid (replicate 514 0) 0 (λ k. f (getD pool (runsBelow hs t + k) noRun)) (runsIn hs t) ≡ zeroFilled (map f (ownRuns hs pool t))
     own-laid f h =
         laid-blanks 514 0 (map f (ownRuns hs pool t)) (λ k. f (getD pool (runsBelow hs t + k) noRun)) (runsIn hs t) (f noRun) (length-own-map f) h (λ k g. sym (map-at f k g))
         ∙ ap (λ (n : ℕ). map f (ownRuns hs pool t) ++ replicate (514 - n) 0) (sym (length-own-map f))

@@ -13,7 +13,7 @@ use Rattle.tanks.specs.declared.Count.{Count}
 use Rattle.tanks.specs.declared.YesNo.{YesNo}
 use Rattle.tanks.specs.Settings.{accepted, allKeepRule, claims, judgement}
 use Rattle.tanks.specs.House.{freshHouse, smallest, openNumber, opening, askNumber, refusalAt}
-use Rattle.tanks.specs.Pool.{noRun, noTable, runsBelow, ownRuns, tankIn}
+use Rattle.tanks.specs.Pool.{noRun, noTable, ownRuns, tankIn}
 use Rattle.tanks.specs.Contracts.{counts, says}
 
 abbrev pair : ℕ → ℕ → Setting

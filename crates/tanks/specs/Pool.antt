@@ -44,8 +44,8 @@ abbrev pub ownRuns : List Head → List Run → ℕ → List Run
 ownRuns hs pool t = take (runsIn hs t) (drop (runsBelow hs t) pool)
 
 -- numbers with zeros behind them, 514 in all
-abbrev pub padded : List ℕ → List ℕ
-padded ns = ns ++ replicate (514 - length ns) 0
+abbrev pub zeroFilled : List ℕ → List ℕ
+zeroFilled ns = ns ++ replicate (514 - length ns) 0
 
 -- tank t on its own: its head, its runs' lengths and sets with zeros behind them, and its marks
 unfoldable pub tankIn : List Head → List Run → Table → ℕ → Tank
@@ -54,8 +54,8 @@ tankIn hs pool table t = record {
   length = getD hs t noHead .length;
   runs = runsIn hs t;
   marks = getD hs t noHead .marks;
-  lens = padded (map (λ r. r .len) (ownRuns hs pool t));
-  sets = padded (map (λ r. r .set) (ownRuns hs pool t));
+  lens = zeroFilled (map (λ r. r .len) (ownRuns hs pool t));
+  sets = zeroFilled (map (λ r. r .set) (ownRuns hs pool t));
   table = table .marks;
 }
 

@@ -1,14 +1,14 @@
 -- A text that starts with another, or is another: the loop's steps, and what the answer says.
 use mathlib.Core.Path.{_≡_, refl, sym, ap, ap₂, _∙_}
-use mathlib.Core.Bool.{Bool, true, false, cond}
+use mathlib.Core.Bool.{Bool, true, false, false≢true}
 use mathlib.Core.List.{List, [], _∷_, _++_}
 use Prim.Native.Nat.{ℕ, _+_, _≤_, _<_}
 use native.Mathlib.Numerals.{add-one}
+use native.Mathlib.Decide.{ℕ-discrete}
 use native.Mathlib.Omega.{arith}
-use lib.Dec.{eqb}
 use lib.ListN.{length, take, drop, getD, length-take, take-append-drop}
 use lib.Seq.{drop-cons, drop-length, take-all, take-append-seam}
-use borrow.Author.Tests.{eq-eqb, ne-eqb, eqb-true}
+use borrow.Author.Tests.{eq-eqb, ne-eqb}
 use Rattle.text.specs.Bytes.{startsOf, sameOf}
 
 module _ (s p : List ℕ) (i : ℕ) (whole : Bool) (inv : startsOf (drop i s) (drop i p) ≡ whole) (h : i < length p) where
@@ -32,19 +32,16 @@ all-there s p i whole inv l k =
     let e : length p ≡ i = omega arith in
     ap (startsOf (drop i s)) (sym (drop-length p) ∙ ap (λ (j : ℕ). drop j p) e) ∙ inv
 
--- two tests, and both hold
-both : (a b : Bool) → cond a b false ≡ true → (a ≡ true) × (b ≡ true)
-both true b e = (refl, e)
-both false b e = (cc, cc)
-
 -- the answer is that the front of s is p
 pub starts-front : (s p : List ℕ) → startsOf s p ≡ true → take (length p) s ≡ p
 unfolding startsOf
 starts-front s [] e = refl
 starts-front [] (c ∷ p) e = let z : _≡_ {A = ℕ} 0 1 = cc in absurd (omega arith)
 starts-front (x ∷ s) (c ∷ p) e =
-    let o = both (eqb x c) (startsOf s p) e in
-    ap₂ (λ (a : ℕ) (l : List ℕ). a ∷ l) (eqb-true x c (o .0)) (starts-front s p (o .1))
+    elim (ℕ-discrete x c) [
+      | yes q ↦ ap₂ (λ (a : ℕ) (l : List ℕ). a ∷ l) q (starts-front s p (rw (eq-eqb x c q) at e))
+      | no q ↦ absurd (false≢true (rw (ne-eqb x c q) at e))
+    ]
 
 pub front-starts : (s p : List ℕ) → take (length p) s ≡ p → startsOf s p ≡ true
 unfolding startsOf
@@ -74,9 +71,10 @@ same-refl s = rw (eq-eqb (length s) (length s) refl) (front-starts s s (take-all
 pub same-true : (s t : List ℕ) → sameOf s t ≡ true → s ≡ t
 unfolding sameOf
 same-true s t e =
-    let o = both (eqb (length s) (length t)) (startsOf s t) e in
-    let l : length s ≡ length t = eqb-true _ _ (o .0) in
-    sym (take-all (length t) s (omega arith)) ∙ starts-front s t (o .1)
+    elim (ℕ-discrete (length s) (length t)) [
+      | yes l ↦ sym (take-all (length t) s (omega arith)) ∙ starts-front s t (rw (eq-eqb (length s) (length t) l) at e)
+      | no l ↦ absurd (false≢true (rw (ne-eqb (length s) (length t) l) at e))
+    ]
 
 pub same-false : (s t : List ℕ) → (s ≡ t → ⊥) → sameOf s t ≡ false
 same-false s t h = by (sameOf s t) (same-true s t) where

@@ -6,7 +6,7 @@ use mathlib.Core.Path.{_≡_}
 use Rattle.tanks.specs.Pool.{meaning, Sound}
 use Rattle.timing.specs.Contracts.{Sized}
 use Rattle.timing.specs.Work as rules
-use Rattle.timing.proofs.Laws.{Summed, summed-none, summed-next, summed-all, left-none, left-next}
+use Rattle.timing.proofs.Laws.{Summed, summed-none, summed-next, left-none, left-next}
 use Rattle.timing.proofs.edits.Statement.{statement}
 use Rattle.timing.proofs.edits.Tie as tie
 

@@ -1,5 +1,4 @@
 -- By the test.
-use borrow.Author.Needs.{needs}
 use borrow.Author.Tests.{eq-eqb, ne-eqb}
 use Rattle.timing.proofs.score.Statement.{statement}
 use Rattle.timing.proofs.score.Tie as tie

@@ -2,7 +2,7 @@
 use borrow.Author.Needs.{needs}
 use mathlib.Core.Path.{ap}
 use Rattle.answers.proofs.Laws.{and-then, adds-as}
-use Rattle.answers.specs.Replies.{lineSays, anchorSays}
+use Rattle.answers.specs.Replies.{lineSays}
 use Rattle.text.specs.Bytes.{bytes}
 use Rattle.answers.proofs.listing.put_anchor.Statement.{statement}
 use Rattle.answers.proofs.listing.put_anchor.Tie as tie

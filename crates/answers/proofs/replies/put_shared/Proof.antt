@@ -1,7 +1,6 @@
 -- The set, none, or a refusal.
 use borrow.Author.Needs.{needs}
-use mathlib.Core.Path.{sym}
-use Rattle.answers.proofs.Laws.{given, refused, adds-as}
+use Rattle.answers.proofs.Laws.{given, refused}
 use Rattle.answers.proofs.replies.put_shared.Statement.{statement}
 use Rattle.answers.proofs.replies.put_shared.Tie as tie
 

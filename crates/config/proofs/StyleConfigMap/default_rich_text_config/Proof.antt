@@ -6,7 +6,6 @@ use lib.ListN.{take}
 use borrow.Author.Needs.{needs}
 use Rattle.text.specs.Bytes.{bytes, holds, startsOf, sameOf}
 use Rattle.richtext.specs.declared.ExpandType.the-variants.{After, None}
-use Rattle.config.specs.Names.{holdsColon}
 use Rattle.config.specs.Table.{Table, known, entered, withEntry}
 use Rattle.config.specs.BuiltIn.{growing, builtIns}
 use Rattle.config.specs.Meaning.{configured}

@@ -58,6 +58,7 @@ use Rattle.lists.specs.declared.anchors.Anchor.{Anchor}
 use Rattle.lists.specs.declared.anchors.AnchorCursor.{AnchorCursor}
 use Rattle.tank.specs.State.{view, Sound}
 use Rattle.lists.specs.Anchors.{anchors, anchorsAfter, Stands}
+use Rattle.lists.proofs.Stretches.{not-lt}
 use Rattle.lists.proofs.Leaves.{leaves-to}
 use Rattle.lists.proofs.AnchorListLaws.{stored, length-stored, nth, stored-front, Said-turns, Said-first, Said-anchor, Said-advance, Said-judged, Standing, stand-first, stand-next, stand-anchor}
 use Rattle.tank.proofs.Tank as S
@@ -93,9 +94,6 @@ use Rattle.lists.proofs.anchors.iter_anchors as iter-anchors
 use Rattle.lists.proofs.anchors.iter_anchors.Statement as stated
 use Rattle.lists.proofs.anchors.iter_anchors.Code as code
 use Rattle.lists.proofs.anchors.iter_anchors.Code.Mir as mirs
-
-not-lt : {j n : ℕ} → (j < n → ⊥) → n ≤ j
-not-lt k = omega arith
 
 abbrev stayed : Stays (iter-anchors.ended .signature .params) (iter-anchors.ended .kept)
 stayed = (stay-none (λ _. S.the-row) is-kept, (stay-none (λ _. u64) is-kept, (stay-slice (0 ∷ []) tt (plain (λ _. T.the-row)), tt)))

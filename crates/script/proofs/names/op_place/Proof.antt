@@ -2,7 +2,6 @@
 use mathlib.Core.Path.{refl}
 use borrow.Author.Needs.{needs}
 use Rattle.text.specs.Bytes.{upTo}
-use Rattle.script.specs.Lines.{lineFront}
 use Rattle.script.specs.Names.{opNames}
 use Rattle.script.proofs.Tables.{op-place}
 use Rattle.script.proofs.names.op_place.Statement.{statement}
