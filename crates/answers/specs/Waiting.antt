@@ -17,6 +17,7 @@ pub record Waiting : Type 0 where
   pub buffer : List ℕ
   pub at : ℕ
 
+-- so much of a buffer
 abbrev pub waiting : List ℕ → ℕ → Waiting
 waiting buffer at = record { buffer = buffer; at = at }
 

@@ -15,14 +15,13 @@ use Rattle.lists.specs.declared.anchors.Anchor.{Anchor}
 use Rattle.richtext.specs.declared.AnchorType.the-variants.{Start, End}
 use Rattle.lists.specs.Anchors.{anchorOf, anchors}
 use Rattle.questions.specs.declared.Told.{Told}
-use Rattle.questions.specs.declared.Told.the-variants.{Yes, No, Refused}
-use Rattle.questions.specs.Questions.{rangeContainsKey}
+use Rattle.questions.specs.declared.Told.the-variants.{Yes, No}
 use Rattle.tank.specs.Rules.{View, within, freshLength, runsHeld, Edit, annotating, inserting, deleting, removing}
 use Rattle.tanks.specs.declared.Setting.{Setting}
 use Rattle.tanks.specs.Settings.{claims}
 use Rattle.tanks.specs.House.{House, tankAt, held, openNumber, opening, refusalAt, afterAt, insertedSetAt, removedFirstAt, Call, afterAll}
 use Rattle.tanks.specs.Pool.{tankNumbers}
-use Rattle.ask.specs.Asks.{askAt}
+use Rattle.ask.specs.Asks.{keyAsked}
 
 -- ---- What an example claims
 -- a call's answer: the refusal's number, or accepted, an insertion's set, a removal's first position
@@ -92,7 +91,7 @@ unfolding reply winners
 Says (given cs) h = Unit {0}
 Says (call t e says look) h = (answer h t e ≡ says) × Looks look (tankAt (afterAt h t e) t)
 Says (holds ns sum) h = (map (held h) tankNumbers ≡ ns) × (claims (h .settings) (held h) 8 ≡ sum)
-Says (containsKey t a b key says) h = askAt h t (Refused 1) (rangeContainsKey a b key) ≡ says
+Says (containsKey t a b key says) h = keyAsked h t a b key ≡ says
 Says (wins t key p ws) h = winners key p (length ws) (tankAt h t) ≡ ws
 Says (anchored t xs) h = anchors (tankAt h t) ≡ xs
 

@@ -3,14 +3,14 @@ ghost use mathlib.Core.Path.{_≡_};
 ghost use mathlib.Core.Bool.{false};
 ghost use mathlib.Core.List.{[]};
 ghost use lib.ListN.{length};
-ghost use Rattle.lists.specs.Lists.{rangeList, wholeList, rangeNeeded, wholeNeeded, rangeNumber, wholeNumber, unlessRefused, filledBeside};
+ghost use Rattle.lists.specs.Lists.{rangeList, wholeList, rangeNumber, wholeNumber, unlessRefused, filledBeside};
 ghost use Rattle.runs.specs.Stretches.{inFront};
-ghost use Rattle.lists.specs.Anchors.{anchors, anchorsNeeded, anchorsNumber};
+ghost use Rattle.lists.specs.Anchors.{anchors, anchorsNumber};
 ghost use Rattle.tanks.specs.Contracts.{Taken};
 ghost use Rattle.tanks.specs.House.{askNumber};
 ghost use Rattle.tanks.specs.Pool.{meaning, Sound};
-ghost use Rattle.questions.specs.Questions.{setOf, sharedOf, valueAt, stylesAt, styleAt, stylesForInsert, styleForInsert, rangeContainsKey, rangeHasKeyValue, stylesOfRange};
-ghost use Rattle.ask.specs.Asks.{askAt, noList};
+ghost use Rattle.questions.specs.Questions.{setOf, sharedOf};
+ghost use Rattle.ask.specs.Asks.{askAt, noList, valueAsked, marksAsked, markAsked, inheritAsked, inheritedAsked, keyAsked, allValueAsked, sameAsked, rangeNeededAsked, wholeNeededAsked, anchorsNeededAsked};
 use lists::Listed;
 use lists::anchors::Anchor;
 use questions::Asked;
@@ -45,7 +45,7 @@ fn not_shared() -> Shared
 // The value shown for a key at a position.
 pub fn value_at(s: Tanks, tank: u64, pos: u64, key: u16) -> Shown
     requires { ⌜ Sound s ⌝ }
-    ensures { λ r. ⌜ r ≡ askAt (meaning s) tank (Shown.Refused 1) (valueAt pos key) ⌝ }
+    ensures { λ r. ⌜ r ≡ valueAsked (meaning s) tank pos key ⌝ }
 {
     if 8 <= tank {
         return Shown::Refused(1);
@@ -56,7 +56,7 @@ pub fn value_at(s: Tanks, tank: u64, pos: u64, key: u16) -> Shown
 // The marks that a position carries.
 pub fn styles_at(s: Tanks, tank: u64, pos: u64) -> SetAsked
     requires { ⌜ Sound s ⌝ }
-    ensures { λ r. ⌜ r ≡ askAt (meaning s) tank (setOf 1 []) (stylesAt pos) ⌝ }
+    ensures { λ r. ⌜ r ≡ marksAsked (meaning s) tank pos ⌝ }
 {
     if 8 <= tank {
         return no_set();
@@ -67,7 +67,7 @@ pub fn styles_at(s: Tanks, tank: u64, pos: u64) -> SetAsked
 // The mark of a rank at a position.
 pub fn style_at(s: Tanks, tank: u64, pos: u64, rank: u64) -> Asked
     requires { ⌜ Sound s ⌝ }
-    ensures { λ r. ⌜ r ≡ askAt (meaning s) tank (Asked.Refused 1) (styleAt pos rank) ⌝ }
+    ensures { λ r. ⌜ r ≡ markAsked (meaning s) tank pos rank ⌝ }
 {
     if 8 <= tank {
         return Asked::Refused(1);
@@ -78,7 +78,7 @@ pub fn style_at(s: Tanks, tank: u64, pos: u64, rank: u64) -> Asked
 // The marks that an insertion would get.
 pub fn get_styles_for_insert(s: Tanks, tank: u64, pos: u64) -> SetAsked
     requires { ⌜ Sound s ⌝ }
-    ensures { λ r. ⌜ r ≡ askAt (meaning s) tank (setOf 1 []) (stylesForInsert pos) ⌝ }
+    ensures { λ r. ⌜ r ≡ inheritAsked (meaning s) tank pos ⌝ }
 {
     if 8 <= tank {
         return no_set();
@@ -89,7 +89,7 @@ pub fn get_styles_for_insert(s: Tanks, tank: u64, pos: u64) -> SetAsked
 // The mark of a rank among those that an insertion would get.
 pub fn style_for_insert(s: Tanks, tank: u64, pos: u64, rank: u64) -> Asked
     requires { ⌜ Sound s ⌝ }
-    ensures { λ r. ⌜ r ≡ askAt (meaning s) tank (Asked.Refused 1) (styleForInsert pos rank) ⌝ }
+    ensures { λ r. ⌜ r ≡ inheritedAsked (meaning s) tank pos rank ⌝ }
 {
     if 8 <= tank {
         return Asked::Refused(1);
@@ -100,7 +100,7 @@ pub fn style_for_insert(s: Tanks, tank: u64, pos: u64, rank: u64) -> Asked
 // Has any position of start .. end a mark with the key?
 pub fn range_contains_key(s: Tanks, tank: u64, start: u64, end: u64, key: u16) -> Told
     requires { ⌜ Sound s ⌝ }
-    ensures { λ r. ⌜ r ≡ askAt (meaning s) tank (Told.Refused 1) (rangeContainsKey start end key) ⌝ }
+    ensures { λ r. ⌜ r ≡ keyAsked (meaning s) tank start end key ⌝ }
 {
     if 8 <= tank {
         return Told::Refused(1);
@@ -118,7 +118,7 @@ pub fn range_has_key_value(
     value: Value,
 ) -> Told
     requires { ⌜ Sound s ⌝ }
-    ensures { λ r. ⌜ r ≡ askAt (meaning s) tank (Told.Refused 1) (rangeHasKeyValue start end key value) ⌝ }
+    ensures { λ r. ⌜ r ≡ allValueAsked (meaning s) tank start end key value ⌝ }
 {
     if 8 <= tank {
         return Told::Refused(1);
@@ -129,7 +129,7 @@ pub fn range_has_key_value(
 // The marks that all positions of start .. end share.
 pub fn get_styles_of_range(s: Tanks, tank: u64, start: u64, end: u64) -> Shared
     requires { ⌜ Sound s ⌝ }
-    ensures { λ r. ⌜ r ≡ askAt (meaning s) tank (sharedOf 1 false []) (stylesOfRange start end) ⌝ }
+    ensures { λ r. ⌜ r ≡ sameAsked (meaning s) tank start end ⌝ }
 {
     if 8 <= tank {
         return not_shared();
@@ -160,7 +160,7 @@ fn counted(count: usize) -> Listed
 // How many u64 the list of stretches over start .. end takes.
 pub fn stretches_needed(s: Tanks, tank: u64, start: u64, end: u64) -> Listed
     requires { ⌜ Sound s ⌝ }
-    ensures { λ r. ⌜ r ≡ askAt (meaning s) tank noList (rangeNeeded start end) ⌝ }
+    ensures { λ r. ⌜ r ≡ rangeNeededAsked (meaning s) tank start end ⌝ }
 {
     if 8 <= tank {
         return no_list();
@@ -171,7 +171,7 @@ pub fn stretches_needed(s: Tanks, tank: u64, start: u64, end: u64) -> Listed
 // How many u64 the list of the whole tank takes.
 pub fn whole_needed(s: Tanks, tank: u64) -> Listed
     requires { ⌜ Sound s ⌝ }
-    ensures { λ r. ⌜ r ≡ askAt (meaning s) tank noList wholeNeeded ⌝ }
+    ensures { λ r. ⌜ r ≡ wholeNeededAsked (meaning s) tank ⌝ }
 {
     if 8 <= tank {
         return no_list();
@@ -182,7 +182,7 @@ pub fn whole_needed(s: Tanks, tank: u64) -> Listed
 // How many anchors the tank has.
 pub fn anchors_needed(s: Tanks, tank: u64) -> Listed
     requires { ⌜ Sound s ⌝ }
-    ensures { λ r. ⌜ r ≡ askAt (meaning s) tank noList anchorsNeeded ⌝ }
+    ensures { λ r. ⌜ r ≡ anchorsNeededAsked (meaning s) tank ⌝ }
 {
     if 8 <= tank {
         return no_list();

@@ -1,15 +1,10 @@
 -- What a call that was read does to the eight tanks, and what it answers: a row for each op.
 use mathlib.Core.Path.{_≡_}
-use mathlib.Core.Bool.{false}
 use mathlib.Core.List.{List, [], _∷_, _++_}
-use Prim.Native.Nat.{ℕ, _+_, _%_, _^_}
+use Prim.Native.Nat.{ℕ, _+_}
 use lib.ListN.{length}
 use Rattle.styles.specs.Answers.{stylesOf}
-use Rattle.questions.specs.declared.Asked.{Asked}
-use Rattle.questions.specs.declared.Shown.{Shown}
-use Rattle.questions.specs.declared.Told.{Told}
-use Rattle.questions.specs.Questions.{setOf, sharedOf, valueAt, stylesAt, styleAt, stylesForInsert, styleForInsert, rangeContainsKey, rangeHasKeyValue, stylesOfRange}
-use Rattle.lists.specs.Lists.{rangeList, wholeList, rangeNeeded, wholeNeeded, rangeNumber, wholeNumber}
+use Rattle.lists.specs.Lists.{rangeList, wholeList, rangeNumber, wholeNumber}
 use Rattle.lists.specs.Anchors.{anchors, anchorsNumber}
 use Rattle.tank.specs.Rules.{View, Edit, annotating, inserting, deleting, removing}
 use Rattle.tanks.specs.declared.Setting.{Setting}
@@ -17,10 +12,10 @@ use Rattle.tanks.specs.declared.Tanks.{Tanks}
 use Rattle.tanks.specs.House.{House, tankAt, held, openNumber, opening, askNumber, refusalAt, afterAt, insertedSetAt, removedFirstAt}
 use Rattle.tanks.specs.Pool.{meaning, Sound}
 use Rattle.tanks.specs.Contracts.{counts, says}
-use Rattle.ask.specs.Asks.{askAt, noList}
+use Rattle.ask.specs.Asks.{askAt, valueAsked, marksAsked, markAsked, inheritAsked, inheritedAsked, keyAsked, allValueAsked, sameAsked, rangeNeededAsked, wholeNeededAsked}
 use Rattle.script.specs.declared.Call.{Call}
 use Rattle.script.specs.declared.Op.{Op}
-use Rattle.script.specs.Args.{numberAt, markOf, identityOf}
+use Rattle.script.specs.Args.{numberAt, keyAt, markOf, identityOf}
 use Rattle.text.specs.Bytes.{bytes}
 use Rattle.answers.specs.Waiting.{Pieces, Adds}
 use Rattle.answers.specs.Replies.{lineSays, refusedSays, orRefused, acceptedSays, stylesSay, firstSays, countSays, touchedSays, toldSays, shownSays, askedSays, setSays, sharedSays, neededSays, listSays, anchorsSay}
@@ -38,10 +33,6 @@ startIn c = numberAt c 1
 -- and where it ends
 abbrev pub endIn : Call → ℕ
 endIn c = numberAt c 2
-
--- a key at a place; what was read has no more than 16 bits (Grammar: holdsOf), so that the remainder is the number itself
-abbrev pub keyAt : Call → ℕ → ℕ
-keyAt c i = numberAt c i % 2 ^ 16
 
 -- a share, and the limit behind it
 abbrev pub settingAt : Call → ℕ → Setting
@@ -112,18 +103,18 @@ saysOf Op.Remove h c = firstSays (refusalAt h (tankFor c) (removal c)) (removedF
 saysOf Op.Length h c = countSays (bytes "length=") (counts (askNumber (tankFor c)) (tankAt h (tankFor c) .length))
 saysOf Op.Touched h c = touchedSays (says (askNumber (tankFor c)) (tankAt h (tankFor c) .touched))
 saysOf Op.Runs h c = countSays (bytes "runs=") (counts (askNumber (tankFor c)) (held h (tankFor c)))
-saysOf Op.Value h c = shownSays (askAt h (tankFor c) (Shown.Refused 1) (valueAt (numberAt c 1) (keyAt c 2)))
-saysOf Op.HasKey h c = toldSays (askAt h (tankFor c) (Told.Refused 1) (rangeContainsKey (startIn c) (endIn c) (keyAt c 3)))
-saysOf Op.AllValue h c = toldSays (askAt h (tankFor c) (Told.Refused 1) (rangeHasKeyValue (startIn c) (endIn c) (keyAt c 3) (c .value)))
-saysOf Op.Same h c = sharedSays (askAt h (tankFor c) (sharedOf 1 false []) (stylesOfRange (startIn c) (endIn c)))
-saysOf Op.Marks h c = setSays (askAt h (tankFor c) (setOf 1 []) (stylesAt (numberAt c 1)))
-saysOf Op.Inherit h c = setSays (askAt h (tankFor c) (setOf 1 []) (stylesForInsert (numberAt c 1)))
-saysOf Op.Mark h c = askedSays (askAt h (tankFor c) (Asked.Refused 1) (styleAt (numberAt c 1) (numberAt c 2)))
-saysOf Op.Inherited h c = askedSays (askAt h (tankFor c) (Asked.Refused 1) (styleForInsert (numberAt c 1) (numberAt c 2)))
+saysOf Op.Value h c = shownSays (valueAsked h (tankFor c) (numberAt c 1) (keyAt c 2))
+saysOf Op.HasKey h c = toldSays (keyAsked h (tankFor c) (startIn c) (endIn c) (keyAt c 3))
+saysOf Op.AllValue h c = toldSays (allValueAsked h (tankFor c) (startIn c) (endIn c) (keyAt c 3) (c .value))
+saysOf Op.Same h c = sharedSays (sameAsked h (tankFor c) (startIn c) (endIn c))
+saysOf Op.Marks h c = setSays (marksAsked h (tankFor c) (numberAt c 1))
+saysOf Op.Inherit h c = setSays (inheritAsked h (tankFor c) (numberAt c 1))
+saysOf Op.Mark h c = askedSays (markAsked h (tankFor c) (numberAt c 1) (numberAt c 2))
+saysOf Op.Inherited h c = askedSays (inheritedAsked h (tankFor c) (numberAt c 1) (numberAt c 2))
 saysOf Op.Stretches h c = askAt h (tankFor c) (refusedSays 1) (λ v. orRefused (rangeNumber (startIn c) (endIn c) (numberAt c 3) v) (listSays (tankFor c) (rangeList (startIn c) (endIn c) v)))
-saysOf Op.StretchesNeeded h c = neededSays (askAt h (tankFor c) noList (rangeNeeded (startIn c) (endIn c)))
+saysOf Op.StretchesNeeded h c = neededSays (rangeNeededAsked h (tankFor c) (startIn c) (endIn c))
 saysOf Op.Whole h c = wholeSays h (tankFor c) (numberAt c 1)
-saysOf Op.WholeNeeded h c = neededSays (askAt h (tankFor c) noList wholeNeeded)
+saysOf Op.WholeNeeded h c = neededSays (wholeNeededAsked h (tankFor c))
 saysOf Op.Anchors h c = askAt h (tankFor c) (refusedSays 1) (λ v. orRefused (anchorsNumber (numberAt c 1) v) (allAnchorsSay v))
 
 -- a call performed as one of an op: the next state, and its answer behind what waits

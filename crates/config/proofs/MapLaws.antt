@@ -154,7 +154,7 @@ module _ (m : StyleConfigMap) (s : Sound m) (k : List ℕ) (v : StyleConfig) (sh
       let r : refuses k (configured m) ≡ false = accepts-known k (configured m) short plain (known-place k es .0 (omega arith)) in
       record {
         refusal = rw r;
-        map =
+        table =
             rw (ne-eqb at (m .count) (λ e. omega arith))
             (placed at (m .count) (omega arith) (s .within) a (rest-known (m .entries) (m .count) at (entryOf k v) h (s .rest)) r);
       }
@@ -170,7 +170,7 @@ module _ (m : StyleConfigMap) (s : Sound m) (k : List ℕ) (v : StyleConfig) (sh
       let r : refuses k (configured m) ≡ false = accepts-new k (configured m) short plain (known-place k es .1 (omega arith)) (omega arith) in
       record {
         refusal = rw r;
-        map =
+        table =
             rw (eq-eqb (m .count) (m .count) refl)
             (placed (m .count) (m .count + 1) f (omega arith) a (rest-new (m .entries) (m .count) (entryOf k v) f (s .rest)) r);
       }
@@ -194,4 +194,4 @@ full m s k h =
 
 -- a refused insertion hands back the map as it was
 pub refused : (m : StyleConfigMap) → Sound m → (k : List ℕ) (v : StyleConfig) → refuses k (configured m) ≡ true → Inserts m k v (record { refusal = 19; map = m })
-refused m s k v r = record { refusal = rw r; map = record { sound = s; means = rw r } }
+refused m s k v r = record { refusal = rw r; table = record { sound = s; means = rw r } }

@@ -27,7 +27,7 @@ use Rattle.config.proofs.AnswerLaws.{one-said, one-flag}
 pub one-insert : (m : StyleConfigMap) (k : List ℕ) (s : StyleConfig) (a b : Inserted) → Inserts m k s a → Inserts m k s b → a ≡ b
 one-insert m k s a b p q =
     let n : a .refusal ≡ b .refusal = p .refusal ∙ sym (q .refusal) in
-    let e : a .map ≡ b .map = one-means _ (a .map) (b .map) (p .map) (q .map) in
+    let e : a .map ≡ b .map = one-means _ (a .map) (b .map) (p .table) (q .table) in
     λ i. record { refusal = n i; map = e i }
 
 pub one-get : (m : StyleConfigMap) (k : List ℕ) (a b : Got) → said a ≡ getSays k (configured m) → said b ≡ getSays k (configured m) → a ≡ b
@@ -42,7 +42,7 @@ one-unmark-flag m k a b p q = one-flag a b (p ∙ sym q)
 -- Beside a refusal stands the very table that was handed in
 
 pub refused-same : (m : StyleConfigMap) → Sound m → (k : List ℕ) (s : StyleConfig) (r : Inserted) → Inserts m k s r → refuses k (configured m) ≡ true → r .map ≡ m
-refused-same m t k s r i e = one-map (r .map) m (i .map .sound) t (rw e at (i .map .means))
+refused-same m t k s r i e = one-map (r .map) m (i .table .sound) t (rw e at (i .table .means))
 
 -- Names with a colon are never entries: `get` answers the default
 

@@ -82,4 +82,4 @@ pub record Means (t : Table) (m : StyleConfigMap) : Type 0 where
 -- what an insertion hands back: 19 or 0, and the table after it
 pub record Inserts (m : StyleConfigMap) (k : List ℕ) (s : StyleConfig) (r : Inserted) : Type 0 where
   pub refusal : r .refusal ≡ number (refuses k (configured m))
-  pub map : Means (withEntry k s (configured m)) (r .map)
+  pub table : Means (withEntry k s (configured m)) (r .map)

@@ -9,12 +9,7 @@ use Rattle.runs.specs.Positions.{Stretch, stretchesAt, asNumbers}
 use Rattle.lists.specs.declared.Listed.{Listed}
 use Rattle.tank.specs.Rules.{View, alike}
 
--- the maximal stretches of neighbouring positions of a .. b with equal sets, clipped to it, each with its count of marks: a position more
--- lengthens the last stretch where its marks are those of the position before it, and begins one otherwise. It is the one list that tiles
--- the range with maximal stretches: the laws `stretches-tile` and `stretches-only`
-abbrev pub stretchesOver : ℕ → ℕ → View → List Stretch
-stretchesOver a b v = stretchesAt (alike (v .at)) (λ p. length (v .at p)) a b
-
+-- ---- What maximal stretches are
 -- x is the last maximal stretch of a .. b, clipped to it: neighbouring positions with equal sets and as many marks each, which begin where
 -- the range does or where the set changes; `equal p` says that p and p + 1 have equal sets, `count p` how many marks p has
 pub record Maximal (equal : ℕ → Bool) (count : ℕ → ℕ) (a b : ℕ) (x : Stretch) : Type 0 where
@@ -33,6 +28,13 @@ Tiles equal count a b (x ∷ xs) = Maximal equal count a b x × Tiles equal coun
 -- the stretches tile a tank's positions a .. b, by the marks at each
 abbrev pub TilesOver : ℕ → ℕ → View → List Stretch → Type 0
 TilesOver a b v = Tiles (alike (v .at)) (λ p. length (v .at p)) a b
+
+-- ---- The list of them
+-- the maximal stretches of neighbouring positions of a .. b with equal sets, clipped to it, each with its count of marks: a position more
+-- lengthens the last stretch where its marks are those of the position before it, and begins one otherwise. It is the one list that tiles
+-- the range with maximal stretches: the laws `stretches-tile` and `stretches-only`
+abbrev pub stretchesOver : ℕ → ℕ → View → List Stretch
+stretchesOver a b v = stretchesAt (alike (v .at)) (λ p. length (v .at p)) a b
 
 -- the stretches over a .. b, unmarked ones included: start, end, count of marks of each in order
 unfoldable pub rangeList : ℕ → ℕ → View → List ℕ

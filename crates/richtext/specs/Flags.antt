@@ -15,11 +15,11 @@ bit weight byte = eqb (byte / weight % 2) 1
 
 -- bit 0x02: the style grows before
 abbrev pub expandsBefore : ℕ → Bool
-expandsBefore byte = bit 2 byte
+expandsBefore byte = bit 0x02 byte
 
 -- bit 0x04: the style grows after
 abbrev pub expandsAfter : ℕ → Bool
-expandsAfter byte = bit 4 byte
+expandsAfter byte = bit 0x04 byte
 
 -- the type is read from these two bits alone, so any byte has one
 abbrev pub typeOf : ℕ → ExpandType
@@ -27,10 +27,10 @@ typeOf byte = cond (expandsBefore byte) (cond (expandsAfter byte) Both Before) (
 
 -- a new style's byte is alive, 0x80, with the bits of its type
 abbrev pub newByte : ExpandType → ℕ
-newByte None = 128
-newByte Before = 130
-newByte After = 132
-newByte Both = 134
+newByte None = 0x80
+newByte Before = 0x82
+newByte After = 0x84
+newByte Both = 0x86
 
 -- text goes before a start anchor exactly when bit 0x02 is clear, before an end anchor exactly when 0x04 is set
 abbrev pub beforeAt : AnchorType → ℕ → Bool

@@ -1,4 +1,4 @@
--- What is said of positions alone, with nothing of runs: a test over a range, the longest stretch that passes one, and maximal stretches.
+-- A sum over the first n, and what is said of positions alone, with nothing of runs: a test over a range, the longest stretch that passes one, and maximal stretches.
 use Prim.Native.Nat.{ℕ, zero, suc, _+_, _-_}
 use mathlib.Core.Bool.{Bool, true, false, cond, _&&_, _||_}
 use mathlib.Core.List.{List, [], _∷_, _++_}

@@ -11,10 +11,14 @@ numberAt c i = getD (c .numbers) i 0
 
 -- A number that was read is within its field's width (Grammar: holdsOf), so that a remainder below is the number itself.
 
+-- the key at a place
+abbrev pub keyAt : Call → ℕ → ℕ
+keyAt c i = numberAt c i % 2 ^ 16
+
 -- the mark of an annotate: key, lamport, peer and flags are its fields 3 to 6
 abbrev pub markOf : Call → Mark
-markOf c = record { key = numberAt c 3 % 2 ^ 16; flags = numberAt c 6 % 2 ^ 8; lamport = numberAt c 4 % 2 ^ 32; peer = numberAt c 5; value = c .value }
+markOf c = record { key = keyAt c 3; flags = numberAt c 6 % 2 ^ 8; lamport = numberAt c 4 % 2 ^ 32; peer = numberAt c 5; value = c .value }
 
 -- the identity of a remove: key, lamport and peer are its fields 1 to 3
 abbrev pub identityOf : Call → Identity
-identityOf c = record { key = numberAt c 1 % 2 ^ 16; lamport = numberAt c 2 % 2 ^ 32; peer = numberAt c 3 }
+identityOf c = record { key = keyAt c 1; lamport = numberAt c 2 % 2 ^ 32; peer = numberAt c 3 }

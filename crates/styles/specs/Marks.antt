@@ -97,7 +97,7 @@ better m (Shows x) = cond (later m x) (Shows x) (Shows m)
 -- the mark that shows for a key: the greatest lamport, then the greatest peer
 unfoldable pub winner : ℕ → List Mark → Winner
 winner k [] = Nothing
-winner k (m ∷ ms) = cond (eqb (m .key) k) (better m (winner k ms)) (winner k ms)
+winner k (m ∷ ms) = cond (keyIs k m) (better m (winner k ms)) (winner k ms)
 
 -- the mark's value shows as w
 abbrev pub valueIs : Value → Mark → Bool

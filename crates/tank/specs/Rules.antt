@@ -1,4 +1,4 @@
--- Document 01, "What a tank means" and refusals 3 to 8: a tank by its positions, in the document's order.
+-- Document 01, "What a tank means" and refusals 3 to 8: a tank by its positions.
 -- A set of marks is a list of them, sorted by identity. Nothing here knows how a tank is stored.
 use Prim.Native.Nat.{ℕ, zero, suc, _+_, _-_}
 use mathlib.Core.Bool.{Bool, true, false, cond, _&&_, not}

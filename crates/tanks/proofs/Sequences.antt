@@ -12,17 +12,17 @@ use Rattle.tanks.specs.declared.Tanks.{Tanks}
 use Rattle.tanks.specs.Settings.{shareOf, limitOf, accepted}
 use Rattle.tanks.specs.House.{House, tankAt, held, refusalAt, Call, afterAll, reached}
 use Rattle.tanks.specs.Pool.{runsIn, meaning, Sound}
-use Rattle.tanks.specs.Contracts.{Opens, CalledAt, Calls, none, call}
+use Rattle.tanks.specs.Contracts.{Opens, CalledAt, Calls, noCall, call}
 use Rattle.tanks.proofs.MeaningLaws.{held-is}
 use Rattle.tanks.proofs.Theorems.{kept-sound, delete-free, within-limits, never-9-or-10}
 
 pub calls-mean : {s last : Tanks} {cs : List Call} → Calls s cs last → meaning last ≡ afterAll (meaning s) cs
 unfolding afterAll
-calls-mean none = refl
+calls-mean noCall = refl
 calls-mean (call {cs = cs} p c) = calls-mean c ∙ ap (λ (h : House). afterAll h cs) (p .is)
 
 pub calls-sound : {s last : Tanks} {cs : List Call} → Sound s → Calls s cs last → Sound last
-calls-sound ok none = ok
+calls-sound ok noCall = ok
 calls-sound ok (call p c) = calls-sound (p .sound) c
 
 -- a deletion on a sound state never answers 9 or 10

@@ -102,5 +102,5 @@ pub record PerformedAs (e : Edit) (x : Tank) (r : Performed) : Type 0 where
 -- ---- What the theorems speak of
 -- the code's own states, call after call: whatever the contracts allow from one state to the next, refused calls among them
 pub data Calls : Tanks → List Call → Tanks → Type 0 where
-  none : {s : Tanks} → Calls s [] s
+  noCall : {s : Tanks} → Calls s [] s
   call : {s next last : Tanks} {c : Call} {cs : List Call} {number : ℕ} → CalledAt s (c .tank) (c .edit) number next → Calls next cs last → Calls s (c ∷ cs) last

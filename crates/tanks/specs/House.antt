@@ -17,7 +17,7 @@ pub record House : Type 0 where
   pub settings : List Setting
   pub tanks : List View
 
--- what a tank means
+-- what tank t means; past the last a fresh one, so that any number has an answer (refusal 1 goes before it)
 abbrev pub tankAt : House → ℕ → View
 tankAt h t = getD (h .tanks) t freshView
 

@@ -19,8 +19,7 @@ use Rattle.questions.specs.declared.Told.{Told}
 use Rattle.questions.specs.declared.Told.the-variants as told
 use Rattle.questions.specs.declared.Shown.{Shown}
 use Rattle.questions.specs.declared.Shown.the-variants as shown
-use Rattle.questions.specs.Questions.{rangeContainsKey, valueAt}
-use Rattle.ask.specs.Asks.{askAt}
+use Rattle.ask.specs.Asks.{keyAsked, valueAsked}
 
 -- ---- Sizes
 -- so many runs that a marked one has a neighbour, and that there is room for two more
@@ -110,14 +109,6 @@ carrying work runs h =
     cond (eqb work 6) (annotated (middle runs) (middle runs + 10) extra h)
     (cond (eqb work 7) (annotated 0 (runs * 10 - 10) extra h) h)
 
--- has any position of a .. b the key?
-abbrev pub keyAsked : ℕ → ℕ → ℕ → House → Told
-keyAsked a b key h = askAt h 0 (told.Refused 1) (rangeContainsKey a b key)
-
--- the value shown for a key
-abbrev pub valueAsked : ℕ → ℕ → House → Shown
-valueAsked p key h = askAt h 0 (shown.Refused 1) (valueAt p key)
-
 -- where the range begins in which works 8 and 9 ask: three positions of a run, or the whole marked part
 abbrev pub keyFrom : ℕ → ℕ → ℕ → ℕ
 keyFrom work runs turn = cond (eqb work 8) (spot runs turn + 3) 0
@@ -149,11 +140,11 @@ ifShown n (shown.Shows v) = cond (sameValue v (Whole (pos n))) n 0
 
 -- turn k of works 8 and 9: a key that no mark has
 abbrev pub keyScore : ℕ → ℕ → House → ℕ → ℕ
-keyScore work runs h k = oneIfYes (keyAsked (keyFrom work runs k) (keyTo work runs k) 999 h)
+keyScore work runs h k = oneIfYes (keyAsked h 0 (keyFrom work runs k) (keyTo work runs k) 999)
 
 -- turn k of work 10: the value of the highest key at a position
 abbrev pub valueScore : ℕ → ℕ → House → ℕ → ℕ
-valueScore runs marks h k = ifShown marks (valueAsked (spot runs k + 5) marks h)
+valueScore runs marks h k = ifShown marks (valueAsked h 0 (spot runs k + 5) marks)
 
 -- ---- The sums, in 64 bits
 -- of turns 0 to n - 1
@@ -168,7 +159,7 @@ left edit (suc n) h = afterAt h 0 (edit n)
 -- edits: at the end the last house is asked for a key which no mark has, so that a compiler can't leave the edits undone
 abbrev pub editSum : ℕ → ℕ → ℕ → House → ℕ
 editSum work runs turns h =
-    (summed (editScore work runs h) turns + oneIfYes (keyAsked 0 5000 999 (left (editAt work runs) turns h))) % 2 ^ 64
+    (summed (editScore work runs h) turns + oneIfYes (keyAsked (left (editAt work runs) turns h) 0 0 5000 999)) % 2 ^ 64
 
 -- the sum of a work on a tank of so many runs and marks; there is no other work
 abbrev pub timed : ℕ → ℕ → ℕ → ℕ → ℕ

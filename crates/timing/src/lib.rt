@@ -8,6 +8,7 @@ ghost use Rattle.styles.specs.Order.{idOf};
 ghost use Rattle.tanks.specs.House.{tankAt};
 ghost use Rattle.tanks.specs.Pool.{meaning, Sound};
 ghost use Rattle.tanks.specs.Contracts.{editOf};
+ghost use Rattle.ask.specs.Asks.{keyAsked};
 ghost use Rattle.timing.specs.Work as rules;
 ghost use Rattle.timing.specs.Contracts.{MeansHouse, Sized};
 use questions::Shown;
@@ -271,7 +272,7 @@ fn if_shown(n: u64, s: Shown) -> u64
 // A key that no mark has, in a range: 1 for yes.
 fn has_key(s: Tanks, start: u64, end: u64) -> u64
     requires { ⌜ Sound s ⌝ }
-    ensures { λ r. ⌜ r ≡ rules.oneIfYes (rules.keyAsked start end 999 (meaning s)) ⌝ }
+    ensures { λ r. ⌜ r ≡ rules.oneIfYes (keyAsked (meaning s) 0 start end 999) ⌝ }
 {
     one_if_yes(ask::range_contains_key(s, 0, start, end, 999))
 }
