@@ -112,6 +112,10 @@ shownBy w (Shows m) = valueIs w m
 abbrev pub showsValue : ℕ → Value → List Mark → Bool
 showsValue k w l = shownBy w (winner k l)
 
+-- what stands in a place that no mark has
+abbrev pub blank : Mark
+blank = record { key = 0; flags = 0; lamport = 0; peer = 0; value = Null }
+
 -- ---- A table: marks at numbered places
 -- a mark put in at a place of a list
 unfoldable pub insertAt : ℕ → Mark → List Mark → List Mark
@@ -129,10 +133,6 @@ removeAt (suc i) (m ∷ ms) = m ∷ removeAt i ms
 unfoldable pub placeOf : Identity → List Mark → ℕ
 placeOf i [] = 0
 placeOf i (m ∷ ms) = cond (less (idOf m) i) (suc (placeOf i ms)) 0
-
--- what stands in a place that no mark has
-abbrev pub blank : Mark
-blank = record { key = 0; flags = 0; lamport = 0; peer = 0; value = Null }
 
 -- ---- A table of 64 places, of which the first n are marks
 -- the table with one mark more, put in at place i; as it was where there is no such place, or no room
