@@ -3,7 +3,7 @@ use mathlib.Core.Path.{_≡_, refl}
 use mathlib.Core.List.{[], _++_}
 use lib.ListN.{replicate}
 use Rattle.text.specs.declared.Parsed.{Parsed}
-use Rattle.text.specs.Number.{decimalOf, numberFrom}
+use Rattle.text.specs.Number.{allDigits, valueIn, numberIn, decimalOf}
 use Rattle.text.specs.Signed.{signedOf, minusOf}
 use Rattle.text.specs.Bytes.{bytes, upTo, holds, startsOf, sameOf}
 use Rattle.styles.specs.declared.Value.{Value}
@@ -104,32 +104,32 @@ op-anchors = refl
 
 -- a key has 16 bits, and another field's line is not taken for it
 most-key : numberOf Field.Key 65535 (bytes "key=65535") ≡ Parsed.Number 65535
-unfolding numberOf startsOf decimalOf numberFrom
+unfolding numberOf startsOf decimalOf numberIn allDigits valueIn
 most-key = refl
 
 wide-key : numberOf Field.Key 65535 (bytes "key=65536") ≡ Parsed.Bad
-unfolding numberOf startsOf decimalOf numberFrom
+unfolding numberOf startsOf decimalOf numberIn allDigits valueIn
 wide-key = refl
 
 leading-zero : numberOf Field.Key 65535 (bytes "key=07") ≡ Parsed.Bad
-unfolding numberOf startsOf decimalOf numberFrom
+unfolding numberOf startsOf decimalOf numberIn allDigits valueIn
 leading-zero = refl
 
 other-field : numberOf Field.Key 65535 (bytes "tank=7") ≡ Parsed.Bad
-unfolding numberOf startsOf decimalOf numberFrom
+unfolding numberOf startsOf decimalOf numberIn allDigits valueIn
 other-field = refl
 
 minus-zero : valueOf Kind.Whole (bytes "-0") ≡ ReadValue.Bad
-unfolding valueOf signedOf minusOf decimalOf numberFrom
+unfolding valueOf signedOf minusOf decimalOf numberIn allDigits valueIn
 minus-zero = refl
 
 -- the one field of `length` makes the call whole
 whole-call : lineOf (freshOf Op.Length) (bytes "tank=7") .progress ≡ Progress.Ready
-unfolding lineOf heldLine movedOf numberOf startsOf decimalOf numberFrom
+unfolding lineOf heldLine movedOf numberOf startsOf decimalOf numberIn allDigits valueIn
 whole-call = refl
 
 out-of-order : lineOf (freshOf Op.Insert) (bytes "at=7") .progress ≡ Progress.Bad
-unfolding lineOf heldLine movedOf numberOf startsOf decimalOf numberFrom
+unfolding lineOf heldLine movedOf numberOf startsOf decimalOf numberIn allDigits valueIn
 out-of-order = refl
 
 start : State

@@ -11,8 +11,8 @@ use lib.ListN.{length, getD, length-append}
 use borrow.Author.Tests.{lt-ltb, le-ltb, eq-eqb, ne-eqb, ltb-true, eqb-true, eqb-false}
 use Rattle.io.specs.Digits.{glyph, digits, Fewest}
 use Rattle.text.specs.declared.Parsed.{Parsed}
-use Rattle.text.specs.Number.{digitOf, stepOf, followedBy, numberFrom, decimalOf, hexOf, Text, placesFrom, decimalText, hexText}
-use Rattle.text.proofs.Steps.{digit-low, digit-high, glyph-low, glyph-high, good, push-number}
+use Rattle.text.specs.Number.{digitOf, numberIn, decimalOf, hexOf, Text, placesFrom, decimalText, hexText}
+use Rattle.text.proofs.Steps.{stepOf, followedBy, numberFrom, digit-low, digit-high, glyph-low, glyph-high, good, push-number, number-from}
 
 all-of : (b n : ℕ) → n / b ^ 0 ≡ n
 all-of b n = ap (λ (m : ℕ). n / m) (pow-zero b) ∙ div-one n
@@ -38,7 +38,7 @@ pub record Opened (b v c n : ℕ) (cs : List ℕ) : Type 0 where
   pub rest : numberFrom b (v * b + digitOf c) cs ≡ Parsed.Number n
 
 -- a step that is good passed its three tests
-stepped : (t u w : Bool) (n x : ℕ) → cond t (cond u (cond w (Parsed.Number n) Parsed.Bad) Parsed.Bad) Parsed.Bad ≡ Parsed.Number x → (t ≡ true) × (u ≡ true) × (w ≡ true) × (x ≡ n)
+stepped : (t u w : Bool) (n x : ℕ) → cond (cond t u false) (cond w (Parsed.Number n) Parsed.Bad) Parsed.Bad ≡ Parsed.Number x → (t ≡ true) × (u ≡ true) × (w ≡ true) × (x ≡ n)
 stepped true true true n x e = (refl, refl, refl, (cc))
 stepped true true false n x e = let z : _≡_ {A = ℕ} 0 1 = cc in absurd (omega arith)
 stepped true false w n x e = let z : _≡_ {A = ℕ} 0 1 = cc in absurd (omega arith)
@@ -50,7 +50,7 @@ followed Parsed.Bad more n e = let z : _≡_ {A = ℕ} 0 1 = cc in absurd (omega
 followed (Parsed.Number x) more n e = (x, refl, e)
 
 opens : (b v c n : ℕ) (cs : List ℕ) → numberFrom b v (c ∷ cs) ≡ Parsed.Number n → Opened b v c n cs
-unfolding numberFrom stepOf
+unfolding numberFrom
 opens b v c n cs e =
     let f = followed (stepOf b v c) (λ (w : ℕ). numberFrom b w cs) n e in
     let o = stepped (ltb (digitOf c) b) (eqb (glyph (digitOf c)) c) (ltb (v * b + digitOf c) (2 ^ 64)) (v * b + digitOf c) (f .0) (f .1) in
@@ -142,8 +142,8 @@ pub decimal-reads : (t : List ℕ) (n : ℕ) → decimalOf t ≡ Parsed.Number n
 unfolding decimalOf
 decimal-reads [] n e = let z : _≡_ {A = ℕ} 0 1 = cc in absurd (omega arith)
 decimal-reads (c ∷ cs) n e =
-    let o = no-lead (ltb (length (c ∷ cs)) 1) (ltb 1 (length (c ∷ cs))) (eqb c 48) n (numberFrom 10 0 (c ∷ cs)) e in
-    let r = reads 10 (omega arith) (omega arith) (c ∷ cs) 0 n (omega arith) (o .2) in
+    let o = no-lead (ltb (length (c ∷ cs)) 1) (ltb 1 (length (c ∷ cs))) (eqb c 48) n (numberIn 10 (c ∷ cs)) e in
+    let r = reads 10 (omega arith) (omega arith) (c ∷ cs) 0 n (omega arith) (number-from 10 (omega arith) (c ∷ cs) ∙ o .2) in
     let whole : c ∷ cs ≡ glyph (n / 10 ^ length cs % 10) ∷ digits 10 (length cs) n = r .back ∙ digits-front 10 (length cs) n in
     let head : c ≡ glyph (n / 10 ^ length cs % 10) = cc in (
       record {
@@ -169,7 +169,7 @@ pub decimal-accepts : (t : List ℕ) (n : ℕ) → Text 10 1 t n → n < 2 ^ 64 
 unfolding decimalOf
 decimal-accepts [] n x h = absurd (omega (arith, x .fewest .0))
 decimal-accepts (c ∷ cs) n x h =
-    let p : numberFrom 10 0 (c ∷ cs) ≡ Parsed.Number n = accepts 10 (omega arith) (omega arith) (c ∷ cs) 0 n (record { below = h; front = div-eq-of-lt (x .fewest .1); back = x .spelled }) in
+    let p : numberIn 10 (c ∷ cs) ≡ Parsed.Number n = sym (number-from 10 (omega arith) (c ∷ cs)) ∙ accepts 10 (omega arith) (omega arith) (c ∷ cs) 0 n (record { below = h; front = div-eq-of-lt (x .fewest .1); back = x .spelled }) in
     elim (decLt 1 (suc (length cs))) [
       | yes k ↦
           let q : ℕ = n / 10 ^ length cs in
@@ -190,15 +190,15 @@ is-sixteen false n p e = let z : _≡_ {A = ℕ} 0 1 = cc in absurd (omega arith
 pub hex-reads : (t : List ℕ) (n : ℕ) → hexOf t ≡ Parsed.Number n → Text 16 16 t n × (n < 2 ^ 64)
 unfolding hexOf
 hex-reads t n e =
-    let o = is-sixteen (eqb (length t) 16) n (numberFrom 16 0 t) e in
+    let o = is-sixteen (eqb (length t) 16) n (numberIn 16 t) e in
     let l : length t ≡ 16 = eqb-true _ _ (o .0) in
-    let r = reads 16 (omega arith) (omega arith) t 0 n (omega arith) (o .1) in
+    let r = reads 16 (omega arith) (omega arith) t 0 n (omega arith) (number-from 16 (omega arith) t ∙ o .1) in
     (record { fewest = (omega arith, none-front 16 n (length t) (omega arith) (r .front), λ h. absurd (omega arith)); spelled = r .back }, r .below)
 
 pub hex-accepts : (t : List ℕ) (n : ℕ) → Text 16 16 t n → n < 2 ^ 64 → hexOf t ≡ Parsed.Number n
 unfolding hexOf
 hex-accepts t n x h =
-    let p : numberFrom 16 0 t ≡ Parsed.Number n = accepts 16 (omega arith) (omega arith) t 0 n (record { below = h; front = div-eq-of-lt (x .fewest .1); back = x .spelled }) in
+    let p : numberIn 16 t ≡ Parsed.Number n = sym (number-from 16 (omega arith) t) ∙ accepts 16 (omega arith) (omega arith) t 0 n (record { below = h; front = div-eq-of-lt (x .fewest .1); back = x .spelled }) in
     elim (decLt 16 (length t)) [
       | yes k ↦
           let long : 16 ^ 16 ≤ 16 ^ (length t - 1) = pow-le-pow-right {n = 16} (omega arith) {i = 16} {j = length t - 1} (omega arith) in
@@ -320,6 +320,6 @@ pub first-glyph : (t : List ℕ) (n : ℕ) → decimalOf t ≡ Parsed.Number n �
 unfolding decimalOf
 first-glyph [] n e h = omega arith
 first-glyph (c ∷ cs) n e h =
-    let o = no-lead (ltb (length (c ∷ cs)) 1) (ltb 1 (length (c ∷ cs))) (eqb c 48) n (numberFrom 10 0 (c ∷ cs)) e in
-    let p = opens 10 0 c n cs (o .2) in
+    let o = no-lead (ltb (length (c ∷ cs)) 1) (ltb 1 (length (c ∷ cs))) (eqb c 48) n (numberIn 10 (c ∷ cs)) e in
+    let p = opens 10 0 c n cs (number-from 10 (omega arith) (c ∷ cs) ∙ o .2) in
     omega (arith, p .small, p .is-glyph, glyph-low (digitOf c) (p .small))

@@ -1,26 +1,45 @@
 -- Closed examples: what the definitions say of a few texts.
 use mathlib.Core.Path.{_≡_, refl}
+use mathlib.Core.Bool.{false}
 use mathlib.Core.List.{[], _∷_}
 use lib.IntN.{negsuc}
 use Rattle.text.specs.declared.Parsed.{Parsed}
 use Rattle.text.specs.declared.Signed.{Signed}
-use Rattle.text.specs.Number.{numberFrom, decimalOf, decimalText, placesFrom}
+use Rattle.text.specs.Number.{allDigits, valueIn, numberIn, decimalOf, decimalText, placesFrom}
 use Rattle.text.specs.Signed.{minusOf, signedOf}
 
 seven : decimalOf (55 ∷ []) ≡ Parsed.Number 7
-unfolding decimalOf numberFrom
+unfolding decimalOf numberIn allDigits valueIn
 seven = refl
 
 most : decimalOf (49 ∷ 56 ∷ 52 ∷ 52 ∷ 54 ∷ 55 ∷ 52 ∷ 52 ∷ 48 ∷ 55 ∷ 51 ∷ 55 ∷ 48 ∷ 57 ∷ 53 ∷ 53 ∷ 49 ∷ 54 ∷ 49 ∷ 53 ∷ []) ≡ Parsed.Number 18446744073709551615
-unfolding decimalOf numberFrom
+unfolding decimalOf numberIn allDigits valueIn
 most = refl
 
 too-wide : decimalOf (49 ∷ 56 ∷ 52 ∷ 52 ∷ 54 ∷ 55 ∷ 52 ∷ 52 ∷ 48 ∷ 55 ∷ 51 ∷ 55 ∷ 48 ∷ 57 ∷ 53 ∷ 53 ∷ 49 ∷ 54 ∷ 49 ∷ 54 ∷ []) ≡ Parsed.Bad
-unfolding decimalOf numberFrom
+unfolding decimalOf numberIn allDigits valueIn
 too-wide = refl
 
+-- 207, by its places
+places : valueIn 10 (50 ∷ 48 ∷ 55 ∷ []) ≡ 207
+unfolding valueIn
+places = refl
+
+-- a is a digit in base 16 and none in base 10; a capital A is none
+letter : numberIn 16 (49 ∷ 97 ∷ []) ≡ Parsed.Number 26
+unfolding numberIn allDigits valueIn
+letter = refl
+
+no-decimal : decimalOf (49 ∷ 97 ∷ []) ≡ Parsed.Bad
+unfolding decimalOf numberIn allDigits valueIn
+no-decimal = refl
+
+capital : allDigits 16 (65 ∷ []) ≡ false
+unfolding allDigits
+capital = refl
+
 leading : decimalOf (48 ∷ 55 ∷ []) ≡ Parsed.Bad
-unfolding decimalOf numberFrom
+unfolding decimalOf numberIn allDigits valueIn
 leading = refl
 
 ten : decimalText 10 ≡ 49 ∷ 48 ∷ []
@@ -28,9 +47,9 @@ unfolding decimalText placesFrom
 ten = refl
 
 minus-zero : signedOf (45 ∷ 48 ∷ []) ≡ Signed.Bad
-unfolding signedOf minusOf decimalOf numberFrom
+unfolding signedOf minusOf decimalOf numberIn allDigits valueIn
 minus-zero = refl
 
 minus-seven : signedOf (45 ∷ 55 ∷ []) ≡ Signed.Number (negsuc 6)
-unfolding signedOf minusOf decimalOf numberFrom
+unfolding signedOf minusOf decimalOf numberIn allDigits valueIn
 minus-seven = refl

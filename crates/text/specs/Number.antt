@@ -1,39 +1,46 @@
 -- Numbers as text, in base b, over io's `digits`, `glyph` and `Fewest`: what the parsers answer, and what it is to be the text of a number.
 use mathlib.Core.Path.{_≡_}
 use mathlib.Core.List.{List, [], _∷_, _++_}
-use mathlib.Core.Bool.{cond}
+use mathlib.Core.Bool.{Bool, true, false, cond}
 use Prim.Native.Nat.{ℕ, zero, suc, _+_, _-_, _*_, _/_, _^_}
 use lib.Dec.{ltb, eqb}
 use lib.ListN.{length, getD, take, drop}
 use Rattle.io.specs.Digits.{glyph, digits, Fewest}
 use Rattle.text.specs.declared.Parsed.{Parsed}
 
--- the digit that a glyph stands for: 0 to 9, a to f
+-- the digit that a glyph stands for: 0 to 9, a to f. For a byte that is no glyph the answer means nothing; `isDigit` leaves such bytes out
 abbrev pub digitOf : ℕ → ℕ
 digitOf c = cond (ltb c 58) (c - 48) (c - 87)
 
--- one digit more: refused where c is the glyph of no digit below b, and where the number leaves 64 bits
-unfoldable pub stepOf : ℕ → ℕ → ℕ → Parsed
-stepOf b v c = cond (ltb (digitOf c) b) (cond (eqb (glyph (digitOf c)) c) (cond (ltb (v * b + digitOf c) (2 ^ 64)) (Parsed.Number (v * b + digitOf c)) Parsed.Bad) Parsed.Bad) Parsed.Bad
+-- a byte is the glyph of a digit below b
+abbrev pub isDigit : ℕ → ℕ → Bool
+isDigit b c = cond (ltb (digitOf c) b) (eqb (glyph (digitOf c)) c) false
 
--- what comes behind a number; behind what is bad nothing does
-abbrev pub followedBy : Parsed → (ℕ → Parsed) → Parsed
-followedBy Parsed.Bad more = Parsed.Bad
-followedBy (Parsed.Number v) more = more v
+-- each byte of a text is such a glyph
+unfoldable pub allDigits : ℕ → List ℕ → Bool
+allDigits b [] = true
+allDigits b (c ∷ cs) = cond (isDigit b c) (allDigits b cs) false
 
--- the digits of a text after the number v, one after another
-unfoldable pub numberFrom : ℕ → ℕ → List ℕ → Parsed
-unfolding stepOf
-numberFrom b v [] = Parsed.Number v
-numberFrom b v (c ∷ cs) = followedBy (stepOf b v c) (λ w. numberFrom b w cs)
+-- the value of a text of digits: each digit times b to the power of how many stand behind it
+unfoldable pub valueIn : ℕ → List ℕ → ℕ
+valueIn b [] = 0
+valueIn b (c ∷ cs) = digitOf c * b ^ length cs + valueIn b cs
+
+-- a number, or bad where 64 bits do not hold it
+abbrev pub fitting : ℕ → Parsed
+fitting n = cond (ltb n (2 ^ 64)) (Parsed.Number n) Parsed.Bad
+
+-- the number that a text spells in base b: its value, where each byte is a digit and 64 bits hold it
+unfoldable pub numberIn : ℕ → List ℕ → Parsed
+numberIn b t = cond (allDigits b t) (fitting (valueIn b t)) Parsed.Bad
 
 -- a decimal: at least one digit, and no 0 in front of another
 unfoldable pub decimalOf : List ℕ → Parsed
-decimalOf t = cond (ltb (length t) 1) Parsed.Bad (cond (ltb 1 (length t)) (cond (eqb (getD t 0 0) 48) Parsed.Bad (numberFrom 10 0 t)) (numberFrom 10 0 t))
+decimalOf t = cond (ltb (length t) 1) Parsed.Bad (cond (ltb 1 (length t)) (cond (eqb (getD t 0 0) 48) Parsed.Bad (numberIn 10 t)) (numberIn 10 t))
 
 -- sixteen digits in base 16
 unfoldable pub hexOf : List ℕ → Parsed
-hexOf t = cond (eqb (length t) 16) (numberFrom 16 0 t) Parsed.Bad
+hexOf t = cond (eqb (length t) 16) (numberIn 16 t) Parsed.Bad
 
 -- t is the text of n in base b, in the fewest digits that are at least `least`
 pub record Text (b least : ℕ) (t : List ℕ) (n : ℕ) : Type 0 where

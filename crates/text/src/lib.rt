@@ -2,12 +2,13 @@
 mod widths; // widths.rt: narrower numbers as 64 bits
 
 ghost use mathlib.Core.Path.{_≡_};
+ghost use mathlib.Core.Bool.{cond};
 ghost use Prim.Native.Nat.{_+_, _-_, _*_, _≤_, _<_};
 ghost use lib.ListN.{length, drop};
 ghost use Rattle.io.specs.Digits.{glyph as glyphOf};
 ghost use Rattle.text.specs.Signed.{plusOf, minusOf, signedOf, sizeOf, signedText};
 ghost use Rattle.text.specs.Bytes.{upTo, startsOf, sameOf};
-ghost use Rattle.text.specs.Number.{digitOf, stepOf, numberFrom, decimalOf, hexOf, decimalText, hexText, put as putOf};
+ghost use Rattle.text.specs.Number.{digitOf, isDigit, fitting, numberIn, decimalOf, hexOf, decimalText, hexText, put as putOf};
 pub use widths::wide;
 pub use widths::wide8;
 pub use widths::wide16;
@@ -58,7 +59,7 @@ fn glyph(d: u64) -> u64
 // One digit more.
 fn step(base: u64, v: u64, c: u8) -> Parsed
     requires { ⌜ 1 ≤ base ⌝ }
-    ensures { λ r. ⌜ r ≡ stepOf base v c ⌝ }
+    ensures { λ r. ⌜ r ≡ cond (isDigit base c) (fitting (v * base + digitOf c)) Parsed.Bad ⌝ }
 {
     let d = digit(c);
     if d >= base {
@@ -76,7 +77,7 @@ fn step(base: u64, v: u64, c: u8) -> Parsed
 // The number that a text of digits spells.
 fn number(base: u64, s: &[u8]) -> Parsed
     requires { ⌜ 1 ≤ base ⌝ }
-    ensures { λ r. ⌜ r ≡ numberFrom base 0 (now (s .entry)) ⌝ }
+    ensures { λ r. ⌜ r ≡ numberIn base (now (s .entry)) ⌝ }
 {
     let mut v: u64 = 0;
     let mut i = 0;

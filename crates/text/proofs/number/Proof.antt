@@ -1,11 +1,10 @@
--- `number` meets its contract. The loop's invariant: the bytes from i on, read after the number so far, spell what the whole text does.
+-- `number` meets its contract. The loop's invariant: the bytes from i on, read after the number so far, give what the whole text does; that is the number by its value (`number-from`).
 use mathlib.Core.Path.{_≡_, sym, _∙_}
 use Prim.Native.Nat.{_-_, _≤_}
 use native.Mathlib.Omega.{arith}
 use lib.ListN.{length, drop}
 use borrow.Author.Needs.{needs}
-use Rattle.text.specs.Number.{numberFrom}
-use Rattle.text.proofs.Steps.{goes-on, stops, ends}
+use Rattle.text.proofs.Steps.{numberFrom, number-from, goes-on, stops, ends}
 use Rattle.text.proofs.number.Statement.{statement}
 use Rattle.text.proofs.number.Tie as tie
 use Rattle.text.proofs.number.Reads as reads
@@ -37,7 +36,7 @@ returns : tie.Need-returns Inv-loop μ-loop
 returns c =
     let s = c .before .before in
     let l = s .before .before in
-    stops _ _ _ _ _ (l .loop-test .taken) (l .before .loop .inv .1) (sym (s .step .ensures) ∙ c .enum-told .given .1)
+    stops _ _ _ _ _ (l .loop-test .taken) (l .before .loop .inv .1) (sym (s .step .ensures) ∙ c .enum-told .given .1) ∙ number-from _ (l .before .before .before .pre) _
 
 add-i : tie.Need-add-i Inv-loop μ-loop
 add-i c = search needs
@@ -52,7 +51,7 @@ loop-again c =
     (omega arith, goes-on _ _ _ _ _ (l .loop-test .taken) (l .before .loop .inv .1) _ (sym (s .step .ensures) ∙ c .before .w .given .1))
 
 returns-2 : tie.Need-returns-2 Inv-loop μ-loop
-returns-2 c = ends _ _ _ _ _ (c .loop-test .left) (c .before .loop .inv .0) (c .before .loop .inv .1)
+returns-2 c = ends _ _ _ _ _ (c .loop-test .left) (c .before .loop .inv .0) (c .before .loop .inv .1) ∙ number-from _ (c .before .before .before .pre) _
 
 pub number-spec : {M : Type 1} → statement M
 number-spec =

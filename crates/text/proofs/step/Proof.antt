@@ -1,4 +1,4 @@
--- `step` meets its contract: its three tests are the definition's, the last one asked by a quotient, so that the product and the sum fit.
+-- `step` meets its contract: its three tests are the contract's, the last one asked by a quotient, so that the product and the sum fit.
 use mathlib.Core.Path.{_≡_, sym, ap, _∙_}
 use Prim.Native.Nat.{ℕ}
 use native.Mathlib.Omega.{arith}
@@ -24,7 +24,7 @@ digit-requires : tie.Need-digit-requires
 digit-requires c κs = search needs
 
 returns : tie.Need-returns
-returns c = bad-digit _ _ _ _ (c .before .digit .ensures .0) (c .if1 .taken)
+returns c = let a = c .before .before .args in bad-digit (a .base) (a .v) (a .c) _ (c .before .digit .ensures .0) (c .if1 .taken)
 
 glyph-requires : tie.Need-glyph-requires
 glyph-requires c κs = search needs
@@ -35,8 +35,9 @@ wide-requires c κs = search needs
 returns-2 : tie.Need-returns-2
 returns-2 c =
     let w = c .before in
+    let a = w .before .before .before .before .args in
     let d = w .before .before .before .digit in
-    bad-glyph _ _ _ _ (d .ensures .0) (w .before .before .if1 .left) (λ e. c .if2 .taken (glyph-is (d .ensures .0) (w .before .glyph .ensures) (w .wide8 .ensures .0) e))
+    bad-glyph (a .base) (a .v) (a .c) _ (d .ensures .0) (w .before .before .if1 .left) (λ e. c .if2 .taken (glyph-is (d .ensures .0) (w .before .glyph .ensures) (w .wide8 .ensures .0) e))
 
 sub-if3 : tie.Need-sub-if3
 sub-if3 c = search needs
@@ -47,8 +48,9 @@ div-if3 c = search needs
 returns-3 : tie.Need-returns-3
 returns-3 c =
     let w = c .before .before in
+    let a = w .before .before .before .before .args in
     let d = w .before .before .before .digit in
-    bad-wide _ _ _ _ (d .ensures .0) (w .before .before .if1 .left) (is-glyph (d .ensures .0) (w .before .glyph .ensures) (w .wide8 .ensures .0) (c .before .if2 .left))
+    bad-wide (a .base) (a .v) (a .c) _ (d .ensures .0) (w .before .before .if1 .left) (is-glyph (d .ensures .0) (w .before .glyph .ensures) (w .wide8 .ensures .0) (c .before .if2 .left))
     (rw (d .ensures .0) at (fits-not _ _ _ (w .before .before .before .before .pre) (d .ensures .1) (c .if3 .taken)))
 
 mul-t6 : tie.Need-mul-t6
@@ -66,8 +68,9 @@ add-t7 c =
 returns-4 : tie.Need-returns-4
 returns-4 c =
     let w = c .before .before in
+    let a = w .before .before .before .before .args in
     let d = w .before .before .before .digit in
-    good _ _ _ _ (d .ensures .0) (w .before .before .if1 .left) (is-glyph (d .ensures .0) (w .before .glyph .ensures) (w .wide8 .ensures .0) (c .before .if2 .left))
+    good (a .base) (a .v) (a .c) _ (d .ensures .0) (w .before .before .if1 .left) (is-glyph (d .ensures .0) (w .before .glyph .ensures) (w .wide8 .ensures .0) (c .before .if2 .left))
     (rw (d .ensures .0) at (fits _ _ _ (w .before .before .before .before .pre) (d .ensures .1) (c .if3 .left)))
 
 pub step-spec : {M : Type 1} → statement M
