@@ -13,12 +13,14 @@ use Rattle.tanks.specs.Pool.{meaning}
 use Rattle.script.specs.declared.Call.{Call}
 use Rattle.script.specs.declared.Event.{Event}
 use Rattle.script.specs.declared.Fed.{Fed}
+use Rattle.script.specs.declared.Progress.{Progress}
+use Rattle.script.specs.declared.Read.{Read}
 use Rattle.script.specs.declared.Reader.{Reader}
-use Rattle.script.specs.Lines.{State, lineFront, hasEnd, stateOf, turnedOf, eventOf, afterOf, bringsOf, readOf, grownOf, Feeds}
+use Rattle.script.specs.Lines.{lineFront, hasEnd, State, stateOf, eventOf, turnedOf, readOf, bringsOf, afterOf, Feeds}
 use Rattle.script.specs.Reading.{lineOf}
 use Rattle.text.proofs.Finding.{front-here, front-past, held-here, held-past}
-use Rattle.script.proofs.CutAnywhere.{after-part, after-cut, brings-cut, grown-append}
-use Rattle.script.proofs.Unique.{fed-call}
+use Rattle.script.proofs.CutAnywhere.{read-cut, brings-cut, after-cut}
+use Rattle.script.proofs.Unique.{fed-state}
 use Rattle.answers.specs.Waiting.{Waiting, waiting, withAll, Adds}
 use Rattle.clerk.specs.declared.Done.{Done}
 use Rattle.clerk.specs.Calls.{Performs}
@@ -48,11 +50,12 @@ module _ (x : Course) where
   -- a line counts by its bytes in front of the newline, and by whether there is one
   line-by : Bool → List ℕ → Course
   line-by e front =
-      let read = lineOf (x .reader .call) (take 65 (x .reader .held ++ front)) in
+      let held = take 65 (x .reader .held ++ front) in
+      let read : Read = cond e (lineOf (x .reader .call) held) (record { call = x .reader .call; progress = Progress.More }) in
       onEvent
-      (cond e (eventOf (read .progress)) Event.Nothing)
+      (eventOf (read .progress))
       x
-      (cond e (turnedOf (x .reader .newlines) (read .progress) (read .call)) (record { held = take 65 (x .reader .held ++ front); call = x .reader .call; newlines = x .reader .newlines }))
+      (cond e (turnedOf (x .reader .newlines) (read .progress) (read .call)) (record { held = held; call = x .reader .call; newlines = x .reader .newlines }))
       (read .call)
 
   same-line : (a b : List ℕ) → hasEnd a ≡ hasEnd b → lineFront a ≡ lineFront b → afterLine x a ≡ afterLine x b
@@ -72,12 +75,7 @@ module _ (x : Course) where
   part-line c cs e =
       ap (λ (v : Event). onEvent v x (afterOf (afterOf (x .reader) (c ∷ [])) cs) (readOf (afterOf (x .reader) (c ∷ [])) cs .call)) (brings-cut (x .reader) (c ∷ []) cs e)
       ∙ ap (λ (r : State). onEvent (bringsOf (x .reader) (c ∷ cs)) x r (readOf (afterOf (x .reader) (c ∷ [])) cs .call)) (after-cut (x .reader) (c ∷ []) cs e)
-      ∙ ap (λ (k : Call). onEvent (bringsOf (x .reader) (c ∷ cs)) x (afterOf (x .reader) (c ∷ cs)) k) read-cut
-    where
-      read-cut : readOf (afterOf (x .reader) (c ∷ [])) cs .call ≡ readOf (x .reader) (c ∷ cs) .call
-      read-cut =
-          ap (λ (s : State). lineOf (s .call) (grownOf s cs) .call) (after-part (x .reader) (c ∷ []) cs e)
-          ∙ ap (λ (t : List ℕ). lineOf (x .reader .call) t .call) (grown-append (x .reader) (c ∷ []) cs e)
+      ∙ ap (λ (q : Read). onEvent (bringsOf (x .reader) (c ∷ cs)) x (afterOf (x .reader) (c ∷ cs)) (q .call)) (read-cut (x .reader) (c ∷ []) cs e)
 
 none-behind : (c : ℕ) → (c ≡ 10 → ⊥) → hasEnd (c ∷ []) ≡ false
 unfolding holds
@@ -144,7 +142,7 @@ module _ (s : Tanks) (at : ℕ) (out : List ℕ) {r : Reader} {from : ℕ} {inpu
   line-is : (e : Event) → f .event ≡ e → afterLine (standing s r at out) (drop from input) ≡ onEvent e (standing s r at out) (stateOf (f .reader)) (readOf (stateOf r) (drop from input) .call)
   line-is e h =
       ap (λ (v : Event). onEvent v (standing s r at out) (afterOf (stateOf r) (drop from input)) (readOf (stateOf r) (drop from input) .call)) (sym (fed .event) ∙ h)
-      ∙ ap (λ (t : State). onEvent e (standing s r at out) t (readOf (stateOf r) (drop from input) .call)) (sym (fed .state))
+      ∙ ap (λ (t : State). onEvent e (standing s r at out) t (readOf (stateOf r) (drop from input) .call)) (sym (fed-state fed))
 
   pub turn-nothing : f .event ≡ Event.Nothing → afterBytes (standing s (f .reader) at out) (drop (f .at) input) ≡ afterBytes (standing s r at out) (drop from input)
   unfolding onEvent withAll
@@ -155,7 +153,7 @@ module _ (s : Tanks) (at : ℕ) (out : List ℕ) {r : Reader} {from : ℕ} {inpu
   turn-call {d} {out'} h p =
       sym
       (line-taken
-      ∙ ap (λ (y : Course). afterBytes y (drop (f .at) input)) (line-is Event.Call h ∙ ap (λ (k : Call). onEvent Event.Call (standing s r at out) (stateOf (f .reader)) k) (sym (fed-call fed h)) ∙ sym performed))
+      ∙ ap (λ (y : Course). afterBytes y (drop (f .at) input)) (line-is Event.Call h ∙ ap (λ (k : Call). onEvent Event.Call (standing s r at out) (stateOf (f .reader)) k) (sym (fed .call)) ∙ sym performed))
     where
       performed : standing (d .tanks) (f .reader) (d .at) out' ≡ onEvent Event.Call (standing s r at out) (stateOf (f .reader)) (f .call)
       performed = ap₂ (λ (h : _) (w : Waiting). record { house = h; reader = stateOf (f .reader); waits = w; over = false }) (p .is) (p .answer .is)

@@ -7,9 +7,10 @@ use native.Mathlib.Decide.{decLt, ℕ-discrete}
 use native.Mathlib.Omega.{arith}
 use lib.ListN.{length, take, length-take}
 use lib.Seq.{take-all, take-append-le, take-take}
-use Rattle.script.specs.declared.Event.{Event}
+use Rattle.script.specs.declared.Progress.{Progress}
+use Rattle.script.specs.declared.Read.{Read}
 use Rattle.script.specs.Reading.{lineOf}
-use Rattle.script.specs.Lines.{lineFront, hasEnd, State, grownOf, turnedOf, eventOf, afterOf, bringsOf}
+use Rattle.script.specs.Lines.{lineFront, hasEnd, grownOf, State, eventOf, turnedOf, readOf, bringsOf, afterOf}
 use Rattle.text.proofs.Finding.{front-past, front-none, held-here, held-past}
 
 no-end-cons : (c : ℕ) (cs : List ℕ) → hasEnd (c ∷ cs) ≡ false → (c ≡ 10 → ⊥) × (hasEnd cs ≡ false)
@@ -46,26 +47,30 @@ take-kept n x y =
 
 module _ (s : State) (a b : List ℕ) (none : hasEnd a ≡ false) where
   -- the bytes with no newline only lengthen the line
-  pub after-part : afterOf s a ≡ record { held = grownOf s a; call = s .call; newlines = s .newlines }
+  after-part : afterOf s a ≡ record { held = grownOf (s .held) a; call = s .call; newlines = s .newlines }
   unfolding afterOf
   after-part = rw none
 
-  pub grown-append : grownOf (record { held = grownOf s a; call = s .call; newlines = s .newlines }) b ≡ grownOf s (a ++ b)
+  grown-append : grownOf (grownOf (s .held) a) b ≡ grownOf (s .held) (a ++ b)
   grown-append =
       ap (λ (t : List ℕ). take 65 (take 65 (s .held ++ t) ++ lineFront b)) (front-all a none)
       ∙ take-kept 65 (s .held ++ a) (lineFront b)
       ∙ ap (take 65) (append-assoc (s .held) a (lineFront b) ∙ ap (λ (t : List ℕ). s .held ++ t) (sym (front-append a b none)))
 
-  after-by : Bool → List ℕ → State
-  after-by e t = cond e (turnedOf (s .newlines) (lineOf (s .call) t .progress) (lineOf (s .call) t .call)) (record { held = t; call = s .call; newlines = s .newlines })
+  read-by : Bool → List ℕ → Read
+  read-by e t = cond e (lineOf (s .call) t) (record { call = s .call; progress = Progress.More })
 
-  pub after-cut : afterOf (afterOf s a) b ≡ afterOf s (a ++ b)
-  unfolding afterOf after-by
-  after-cut = ap (λ (t : State). afterOf t b) after-part ∙ ap₂ after-by (sym (end-append a b none)) grown-append
-
-  brings-by : Bool → List ℕ → Event
-  brings-by e t = cond e (eventOf (lineOf (s .call) t .progress)) Event.Nothing
+  pub read-cut : readOf (afterOf s a) b ≡ readOf s (a ++ b)
+  unfolding read-by
+  read-cut = ap (λ (t : State). readOf t b) after-part ∙ ap₂ read-by (sym (end-append a b none)) grown-append
 
   pub brings-cut : bringsOf (afterOf s a) b ≡ bringsOf s (a ++ b)
-  unfolding bringsOf brings-by
-  brings-cut = ap (λ (t : State). bringsOf t b) after-part ∙ ap₂ brings-by (sym (end-append a b none)) grown-append
+  unfolding bringsOf
+  brings-cut = ap (λ (q : Read). eventOf (q .progress)) read-cut
+
+  after-by : Bool → List ℕ → State
+  after-by e t = cond e (turnedOf (s .newlines) (read-by e t .progress) (read-by e t .call)) (record { held = t; call = s .call; newlines = s .newlines })
+
+  pub after-cut : afterOf (afterOf s a) b ≡ afterOf s (a ++ b)
+  unfolding afterOf read-by after-by
+  after-cut = ap (λ (t : State). afterOf t b) after-part ∙ ap₂ after-by (sym (end-append a b none)) grown-append

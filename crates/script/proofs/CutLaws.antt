@@ -12,7 +12,7 @@ use Rattle.text.specs.Number.{put}
 use Rattle.text.proofs.Finding.{front-take, front-inside, held-by-length}
 use Rattle.script.specs.declared.Cut.{Cut}
 use Rattle.script.specs.declared.Line.{Line}
-use Rattle.script.specs.Lines.{lineFront, heldOf, Keeps, grownLine, pastLine, cutOf}
+use Rattle.script.specs.Lines.{lineFront, heldOf, Keeps, holding, grownOf, pastLine, cutOf}
 
 -- ---- what is kept
 pub take-min : {A : Type 0} (n m : ℕ) (l : List A) → length l ≤ m → take (min n m) l ≡ take n l
@@ -69,8 +69,7 @@ module _ (bytes : List ℕ) (from : ℕ) (line : Line) (end count more n : ℕ) 
     end-inside : end ≤ length bytes
     end-inside = front-inside 10 bytes from end is-end inside
 
-    line-cut : _≡_ {A = Line} (record { text = out; count = n }) (grownLine line (drop from bytes))
-    unfolding grownLine
+    line-cut : _≡_ {A = Line} (record { text = out; count = n }) (holding line (grownOf (heldOf line) (drop from bytes)))
     line-cut =
         let is : more ≡ min (length (lineFront (drop from bytes))) (65 - count) = omega arith in
         let e = text-grown (line .text) (drop from bytes) (line .count) count more (keeps .sized) (keeps .count) is out (is-out ∙ ap (λ (k : ℕ). put (line .text) count (take k (drop from bytes))) stop-back) in
@@ -89,7 +88,6 @@ module _ (bytes : List ℕ) (from : ℕ) (line : Line) (end count more n : ℕ) 
         let f : end ≡ pastLine bytes from = omega (arith, end-inside) in
         λ i. record { line = line-cut i; at = f i; whole = e i }
 
--- what is kept of a line that has grown
-pub held-grown : (l : Line) (rest : List ℕ) → heldOf (grownLine l rest) ≡ take 65 (heldOf l ++ lineFront rest)
-unfolding grownLine
-held-grown l rest = let t = take 65 (heldOf l ++ lineFront rest) in take-append-seam t (drop (length t) (l .text))
+-- what is kept of a line is what was put at the front of its places
+pub held-holding : (l : Line) (t : List ℕ) → heldOf (holding l t) ≡ t
+held-holding l t = take-append-seam t (drop (length t) (l .text))

@@ -1,5 +1,6 @@
 -- Closed examples: what the definitions say of a few lines.
 use mathlib.Core.Path.{_≡_, refl}
+use mathlib.Core.Bool.{true}
 use mathlib.Core.List.{[], _++_}
 use lib.ListN.{replicate}
 use Rattle.text.specs.declared.Parsed.{Parsed}
@@ -13,9 +14,10 @@ use Rattle.script.specs.declared.Op.{Op}
 use Rattle.script.specs.declared.Progress.{Progress}
 use Rattle.script.specs.declared.ReadOp.{ReadOp}
 use Rattle.script.specs.declared.ReadValue.{ReadValue}
+use Rattle.script.specs.declared.Reader.{Reader}
 use Rattle.script.specs.Grammar.{opName, spelling}
 use Rattle.script.specs.Reading.{numberOf, opNamed, valueOf, freshOf, movedOf, heldLine, lineOf}
-use Rattle.script.specs.Lines.{emptyLine, grownLine, State, afterOf, lineAfter, callAfter}
+use Rattle.script.specs.Lines.{emptyLine, holding, cutOf, readerAt, State, readOf, afterOf, readerAfter}
 
 -- every op is known by its name
 op-open : opNamed (opName Op.Open) ≡ ReadOp.Op Op.Open
@@ -145,20 +147,30 @@ short-name : spelling (bytes "op=") ≡ record { text = bytes "op=" ++ replicate
 unfolding spelling
 short-name = refl
 
--- a line keeps what stands in front of a newline, and the next starts empty
-grown-line : grownLine emptyLine (bytes "tank=1\n") ≡ record { text = bytes "tank=1" ++ replicate 59 0; count = 6 }
-unfolding grownLine upTo
-grown-line = refl
+-- a line keeps what stands in front of a newline
+cut-line : cutOf (bytes "tank=1\nat=2") 0 emptyLine ≡ record { line = record { text = bytes "tank=1" ++ replicate 59 0; count = 6 }; at = 7; whole = true }
+unfolding upTo holds
+cut-line = refl
 
-open-line : lineAfter emptyLine (bytes "tank=1") ≡ grownLine emptyLine (bytes "tank=1\n")
-unfolding lineAfter holds grownLine upTo
+-- a reader within a line
+within : Reader
+within = record { line = holding emptyLine (bytes "tank="); call = freshOf Op.Length; newlines = 1 }
+
+-- the line goes on behind what is kept
+open-line : readerAfter within (bytes "7") ≡ record { line = holding emptyLine (bytes "tank=7"); call = freshOf Op.Length; newlines = 1 }
+unfolding within readerAfter afterOf upTo holds lineOf
 open-line = refl
 
-next-line : lineAfter (grownLine emptyLine (bytes "tank=")) (bytes "1\n") ≡ emptyLine
-unfolding lineAfter holds
+-- the next starts empty, here with a new call
+next-line : readerAfter within (bytes "7\nop=") ≡ readerAt (freshOf Op.Nothing) 2
+unfolding within readerAfter afterOf upTo holds lineOf heldLine movedOf numberOf startsOf decimalOf numberIn allDigits valueIn
 next-line = refl
 
--- the call that a line's end leaves
-named-call : callAfter start (bytes "ns\ntank=1") ≡ freshOf Op.Runs
-unfolding start callAfter upTo holds lineOf heldLine opNamed sameOf startsOf
+-- the call as a line's end leaves it, and before that as it was
+named-call : readOf start (bytes "ns\ntank=1") .call ≡ freshOf Op.Runs
+unfolding start upTo holds lineOf heldLine opNamed sameOf startsOf
 named-call = refl
+
+waiting-call : readOf start (bytes "ns") .call ≡ freshOf Op.Nothing
+unfolding start holds
+waiting-call = refl

@@ -1,36 +1,30 @@
--- `feed` has one answer: any two results that meet its statement are equal. The statements of the other functions that are read from outside are equations `r ≡ ..`, or say each part of the result.
-use mathlib.Core.Path.{_≡_, refl, sym, ap, _∙_}
-use mathlib.Core.Bool.{Bool, true, false, cond}
+-- `feed` has one answer: any two results that meet its statement are equal, and the reader's state goes on by `afterOf`. The statements of the other functions that are read from outside are equations `r ≡ ..`, or say each part of the result.
+use mathlib.Core.Path.{_≡_, sym, ap, _∙_}
+use mathlib.Core.Bool.{cond}
 use mathlib.Core.List.{List}
 use Prim.Native.Nat.{ℕ}
-use native.Mathlib.Omega.{arith}
 use lib.ListN.{drop}
-use Rattle.script.specs.declared.Call.{Call}
-use Rattle.script.specs.declared.Event.{Event}
 use Rattle.script.specs.declared.Fed.{Fed}
+use Rattle.script.specs.declared.Line.{Line}
 use Rattle.script.specs.declared.Reader.{Reader}
-use Rattle.script.specs.Lines.{State, hasEnd, stateOf, eventOf, readOf, bringsOf, callAfter, Feeds}
+use Rattle.script.specs.Lines.{hasEnd, emptyLine, State, stateOf, readerIn, afterOf, readerAfter, Feeds}
+use Rattle.script.proofs.CutLaws.{held-holding}
 
 pub one-feed : {r : Reader} {bytes : List ℕ} {from : ℕ} (f g : Fed) → Feeds r bytes from f → Feeds r bytes from g → f ≡ g
 one-feed f g x y =
-    let s = x .state ∙ sym (y .state) in
-    let l = x .line ∙ sym (y .line) in
-    let c = ap (λ (t : State). t .call) s in
-    let n = ap (λ (t : State). t .newlines) s in
-    let v = x .event ∙ sym (y .event) in
-    let m = x .call ∙ sym (y .call) in
+    let r = x .reader ∙ sym (y .reader) in
+    let e = x .event ∙ sym (y .event) in
+    let c = x .call ∙ sym (y .call) in
     let a = x .at ∙ sym (y .at) in
-    λ i. record { reader = record { line = l i; call = c i; newlines = n i }; event = v i; call = m i; at = a i }
+    λ i. record { reader = r i; event = e i; call = c i; at = a i }
 
--- only the end of a line brings a call
-ended : (b : Bool) (e : Event) → cond b e Event.Nothing ≡ Event.Call → b ≡ true
-ended true e h = refl
-ended false e h = let z : _≡_ {A = ℕ} 0 1 = cc in absurd (omega arith)
+-- a reader in a state stands there, whatever the places behind what is kept
+state-in : (l : Line) (s : State) → stateOf (readerIn l s) ≡ s
+state-in l s = ap (λ (t : List ℕ). record { held = t; call = s .call; newlines = s .newlines }) (held-holding l (s .held))
 
--- where a call is brought, it is what the line has made of the reader's
-pub fed-call : {r : Reader} {bytes : List ℕ} {from : ℕ} {f : Fed} → Feeds r bytes from f → f .event ≡ Event.Call → f .call ≡ readOf (stateOf r) (drop from bytes) .call
-unfolding bringsOf callAfter
-fed-call {r} {bytes} {from} {f} x h =
+-- the state after the bytes comes from the state before them alone
+pub fed-state : {r : Reader} {bytes : List ℕ} {from : ℕ} {f : Fed} → Feeds r bytes from f → stateOf (f .reader) ≡ afterOf (stateOf r) (drop from bytes)
+unfolding readerAfter
+fed-state {r} {bytes} {from} x =
     let rest = drop from bytes in
-    let e = ended (hasEnd rest) (eventOf (readOf (stateOf r) rest .progress)) (sym (x .event) ∙ h) in
-    x .call ∙ ap (λ (b : Bool). cond b (readOf (stateOf r) rest .call) (r .call)) e
+    ap stateOf (x .reader) ∙ state-in (cond (hasEnd rest) emptyLine (r .line)) (afterOf (stateOf r) rest)

@@ -45,10 +45,9 @@ emptyLine = record { text = replicate 65 0; count = 0 }
 abbrev pub holding : Line → List ℕ → Line
 holding l t = record { text = t ++ drop (length t) (l .text); count = length t }
 
--- a line with the bytes up to the newline, or all of them, behind what is kept of it
-unfoldable pub grownLine : Line → List ℕ → Line
-unfolding upTo
-grownLine l rest = holding l (take 65 (heldOf l ++ lineFront rest))
+-- what is kept of a line when the bytes up to the newline, or all of them, have come behind it
+abbrev pub grownOf : List ℕ → List ℕ → List ℕ
+grownOf held rest = take 65 (held ++ lineFront rest)
 
 -- the place behind the first newline from a place on, or the end of the bytes
 abbrev pub pastLine : List ℕ → ℕ → ℕ
@@ -56,7 +55,7 @@ pastLine bytes from = min (length bytes) (from + length (lineFront (drop from by
 
 -- a line takes the bytes up to its newline, and they are passed with it
 abbrev pub cutOf : List ℕ → ℕ → Line → Cut
-cutOf bytes from l = record { line = grownLine l (drop from bytes); at = pastLine bytes from; whole = hasEnd (drop from bytes) }
+cutOf bytes from l = record { line = holding l (grownOf (heldOf l) (drop from bytes)); at = pastLine bytes from; whole = hasEnd (drop from bytes) }
 
 -- a reader at the start of a line
 abbrev pub readerAt : Call → ℕ → Reader
@@ -71,6 +70,10 @@ pub record State : Type 0 where
 -- a reader's state
 abbrev pub stateOf : Reader → State
 stateOf r = record { held = heldOf (r .line); call = r .call; newlines = r .newlines }
+
+-- a reader in a state: what is kept stands at the front of a line's places
+abbrev pub readerIn : Line → State → Reader
+readerIn l s = record { line = holding l (s .held); call = s .call; newlines = s .newlines }
 
 -- one line more; 64 bits count no further than they go
 abbrev pub countedOf : ℕ → ℕ
@@ -88,43 +91,33 @@ turnedOf n Progress.Bad c = record { held = []; call = c; newlines = n }
 turnedOf n Progress.More c = record { held = []; call = c; newlines = countedOf n }
 turnedOf n Progress.Ready c = record { held = []; call = freshOf Op.Nothing; newlines = countedOf n }
 
--- the line as far as the bytes go
-abbrev pub grownOf : State → List ℕ → List ℕ
-grownOf s rest = take 65 (s .held ++ lineFront rest)
-
--- what the line makes of the call
+-- what the bytes up to the first newline, or all of them, make of the call: a line is read at its newline, and before it the call stays as it was
 abbrev pub readOf : State → List ℕ → Read
-readOf s rest = lineOf (s .call) (grownOf s rest)
+readOf s rest = cond (hasEnd rest) (lineOf (s .call) (grownOf (s .held) rest)) (record { call = s .call; progress = Progress.More })
 
--- the state after the bytes up to the first newline, or all of them
+-- what they bring: nothing before a newline, else by how the call stands
+unfoldable pub bringsOf : State → List ℕ → Event
+unfolding upTo holds lineOf
+bringsOf s rest = eventOf (readOf s rest .progress)
+
+-- the state after them
 unfoldable pub afterOf : State → List ℕ → State
 unfolding upTo holds lineOf
 afterOf s rest =
     cond (hasEnd rest)
     (turnedOf (s .newlines) (readOf s rest .progress) (readOf s rest .call))
-    (record { held = grownOf s rest; call = s .call; newlines = s .newlines })
+    (record { held = grownOf (s .held) rest; call = s .call; newlines = s .newlines })
 
--- what they bring: nothing before a newline, else what the line makes of the call
-unfoldable pub bringsOf : State → List ℕ → Event
-unfolding upTo holds lineOf
-bringsOf s rest = cond (hasEnd rest) (eventOf (readOf s rest .progress)) Event.Nothing
-
--- the line after them: an empty one behind a newline
-unfoldable pub lineAfter : Line → List ℕ → Line
-unfolding holds grownLine
-lineAfter l rest = cond (hasEnd rest) emptyLine (grownLine l rest)
-
--- the call as they leave it, in front of a newline as it was
-unfoldable pub callAfter : State → List ℕ → Call
-unfolding upTo holds lineOf
-callAfter s rest = cond (hasEnd rest) (readOf s rest .call) (s .call)
+-- the reader after them: behind a newline its line has the places of an empty one, else those it had
+unfoldable pub readerAfter : Reader → List ℕ → Reader
+unfolding holds afterOf
+readerAfter r rest = readerIn (cond (hasEnd rest) emptyLine (r .line)) (afterOf (stateOf r) rest)
 
 -- the bytes from a place on, fed to a reader
 pub record Feeds (r : Reader) (bytes : List ℕ) (from : ℕ) (f : Fed) : Type 0 where
-  pub state : stateOf (f .reader) ≡ afterOf (stateOf r) (drop from bytes)
-  pub line : f .reader .line ≡ lineAfter (r .line) (drop from bytes)
+  pub reader : f .reader ≡ readerAfter r (drop from bytes)
   pub event : f .event ≡ bringsOf (stateOf r) (drop from bytes)
-  pub call : f .call ≡ callAfter (stateOf r) (drop from bytes)
+  pub call : f .call ≡ readOf (stateOf r) (drop from bytes) .call
   pub at : f .at ≡ pastLine bytes from
 
 -- an input ends well where a line that names an op would come next

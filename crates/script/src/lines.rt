@@ -3,7 +3,7 @@ ghost use mathlib.Core.Path.{_≡_};
 ghost use Prim.Native.Nat.{_+_, _≤_, _<_, min};
 ghost use lib.ListN.{length};
 ghost use Rattle.script.specs.Reading.{freshOf, lineOf};
-ghost use Rattle.script.specs.Lines.{heldOf, Keeps, emptyLine, cutOf, readerAt, stateOf, countedOf, turnedOf, eventOf, Feeds, endingBy, endingOf};
+ghost use Rattle.script.specs.Lines.{heldOf, Keeps, emptyLine, cutOf, readerAt, stateOf, readerIn, countedOf, turnedOf, eventOf, Feeds, endingBy, endingOf};
 use super::Call;
 use super::Cut;
 use super::Ending;
@@ -121,7 +121,7 @@ pub fn begin() -> Reader
 
 // A reader after a line's end.
 fn turned(newlines: u64, p: Progress, call: Call) -> Reader
-    ensures { λ r. ⌜ (stateOf r ≡ turnedOf newlines p call) × (r .line ≡ emptyLine) ⌝ }
+    ensures { λ r. ⌜ r ≡ readerIn emptyLine (turnedOf newlines p call) ⌝ }
 {
     match p {
         Progress::Bad => at_line(call, newlines),

@@ -10,32 +10,31 @@ use Rattle.script.specs.declared.Event.{Event}
 use Rattle.script.specs.declared.Read.{Read}
 use Rattle.script.specs.declared.Reader.{Reader}
 use Rattle.script.specs.Reading.{lineOf}
-use Rattle.script.specs.Lines.{hasEnd, heldOf, emptyLine, grownLine, cutOf, stateOf, readOf, turnedOf, eventOf, afterOf, bringsOf, lineAfter, callAfter, Feeds}
-use Rattle.script.proofs.CutLaws.{held-grown}
+use Rattle.script.specs.Lines.{hasEnd, heldOf, emptyLine, grownOf, cutOf, stateOf, readerIn, eventOf, turnedOf, readOf, bringsOf, readerAfter, Feeds}
+use Rattle.script.proofs.CutLaws.{held-holding}
 use Rattle.script.proofs.lines.feed.Statement.{statement}
 use Rattle.script.proofs.lines.feed.Tie as tie
 
 module _ (r : Reader) (bytes : List ℕ) (from : ℕ) (c : Cut) (is-cut : c ≡ cutOf bytes from (r .line)) where
-  held : heldOf (c .line) ≡ heldOf (grownLine (r .line) (drop from bytes))
-  held = ap (λ (x : Cut). heldOf (x .line)) is-cut
-
   -- the line has ended, and has been read
   module _ (is-whole : c .whole ≡ true) (read : Read) (is-read : read ≡ lineOf (r .call) (heldOf (c .line))) (next : Reader)
-      (is-next : (stateOf next ≡ turnedOf (r .newlines) (read .progress) (read .call)) × (next .line ≡ emptyLine)) (brings : Event) (is-event : brings ≡ eventOf (read .progress)) where
+      (is-next : next ≡ readerIn emptyLine (turnedOf (r .newlines) (read .progress) (read .call))) (brings : Event) (is-event : brings ≡ eventOf (read .progress)) where
     has : true ≡ hasEnd (drop from bytes)
     has = sym is-whole ∙ ap (λ (x : Cut). x .whole) is-cut
 
+    held : heldOf (c .line) ≡ grownOf (heldOf (r .line)) (drop from bytes)
+    held = ap (λ (x : Cut). heldOf (x .line)) is-cut ∙ held-holding (r .line) (grownOf (heldOf (r .line)) (drop from bytes))
+
     is-of : read ≡ readOf (stateOf r) (drop from bytes)
-    is-of = is-read ∙ ap (lineOf (r .call)) (held ∙ held-grown (r .line) (drop from bytes))
+    is-of = is-read ∙ ap (lineOf (r .call)) held ∙ rw (sym has)
 
     feeds-whole : Feeds r bytes from (record { reader = next; event = brings; call = read .call; at = c .at })
-    unfolding afterOf bringsOf lineAfter callAfter
+    unfolding bringsOf readerAfter
     feeds-whole =
         record {
-          state = is-next .0 ∙ ap (λ (q : Read). turnedOf (r .newlines) (q .progress) (q .call)) is-of ∙ rw (sym has);
-          line = is-next .1 ∙ rw (sym has);
-          event = is-event ∙ ap (λ (q : Read). eventOf (q .progress)) is-of ∙ rw (sym has);
-          call = ap (λ (q : Read). q .call) is-of ∙ rw (sym has);
+          reader = is-next ∙ ap (λ (q : Read). readerIn emptyLine (turnedOf (r .newlines) (q .progress) (q .call))) is-of ∙ rw (sym has);
+          event = is-event ∙ ap (λ (q : Read). eventOf (q .progress)) is-of;
+          call = ap (λ (q : Read). q .call) is-of;
           at = ap (λ (x : Cut). x .at) is-cut;
         }
 
@@ -45,11 +44,10 @@ module _ (r : Reader) (bytes : List ℕ) (from : ℕ) (c : Cut) (is-cut : c ≡ 
     lacks = sym is-open ∙ ap (λ (x : Cut). x .whole) is-cut
 
     feeds-open : Feeds r bytes from (record { reader = record { line = c .line; call = r .call; newlines = r .newlines }; event = Event.Nothing; call = r .call; at = c .at })
-    unfolding afterOf bringsOf lineAfter callAfter
+    unfolding bringsOf readerAfter
     feeds-open =
         record {
-          state = rw (held ∙ held-grown (r .line) (drop from bytes), sym lacks);
-          line = ap (λ (x : Cut). x .line) is-cut ∙ rw (sym lacks);
+          reader = ap (λ (x : Cut). record { line = x .line; call = r .call; newlines = r .newlines }) is-cut ∙ rw (sym lacks);
           event = rw (sym lacks);
           call = rw (sym lacks);
           at = ap (λ (x : Cut). x .at) is-cut;

@@ -1,15 +1,15 @@
 -- By how the call stands.
-use mathlib.Core.Path.{_≡_, refl, ap, ap₂, _∙_}
+use mathlib.Core.Path.{_≡_, refl, ap₂, _∙_}
 use Prim.Native.Nat.{ℕ}
 use borrow.Author.Needs.{needs}
 use Rattle.script.specs.declared.Call.{Call}
 use Rattle.script.specs.declared.Reader.{Reader}
-use Rattle.script.specs.Lines.{emptyLine, readerAt, stateOf}
+use Rattle.script.specs.Lines.{readerAt}
 use Rattle.script.proofs.lines.turned.Statement.{statement}
 use Rattle.script.proofs.lines.turned.Tie as tie
 
-at-start : {r : Reader} (c d : Call) (m n : ℕ) → r ≡ readerAt c m → c ≡ d → m ≡ n → (stateOf r ≡ stateOf (readerAt d n)) × (r .line ≡ emptyLine)
-at-start {r} c d m n e f g = (ap stateOf e ∙ ap₂ (λ (x : Call) (k : ℕ). stateOf (readerAt x k)) f g, ap (λ (x : Reader). x .line) e)
+at-start : {r : Reader} (c d : Call) (m n : ℕ) → r ≡ readerAt c m → c ≡ d → m ≡ n → r ≡ readerAt d n
+at-start c d m n e f g = e ∙ ap₂ readerAt f g
 
 returns : tie.Need-returns
 returns c = rw (c .before .enum-told .given .1) (at-start _ _ _ _ (c .at-line .ensures) refl refl)
