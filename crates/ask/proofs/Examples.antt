@@ -10,7 +10,7 @@ use Rattle.styles.specs.Order.{numbers, stands}
 use Rattle.styles.specs.Marks.{Above, Sorted, member, placeOf, only, sameContent, hasKey, winner}
 use Rattle.styles.specs.Bits.{pick, withBit}
 use Rattle.runs.specs.Runs.{total, setAt, copyRuns, pushRun, joinRun, changing}
-use Rattle.runs.specs.Edits.{altered, deleted, inserted}
+use Rattle.runs.proofs.Copies.{altered, deleted, inserted}
 use Rattle.runs.specs.Gather.{gather}
 use Rattle.runs.specs.Positions.{anyAt, stretchTo}
 use Rattle.runs.specs.Scan.{commonAt}

@@ -1,4 +1,4 @@
--- The laws of `specs/Edits.antt`: how many positions an edit leaves, the set at each, the form, and the number of runs.
+-- The laws of edits: how many positions one leaves, the set at each, and the form; so that it leaves the joined list of them.
 use Prim.Native.Nat.{ℕ, _+_, _-_, _≤_, _<_, min}
 use mathlib.Core.Path.{_≡_, sym, ap, _∙_}
 use mathlib.Core.Bool.{cond, _&&_}
@@ -11,8 +11,9 @@ use lib.Bits.{bitOr, bitAnd, or-zero-r, and-zero-r}
 use native.Mathlib.Nat.{sub-zero}
 use borrow.Author.Tests.{lt-ltb, le-ltb, le-leb, lt-leb}
 use Rattle.runs.specs.Runs.{Run, total, setAt, Canon, pushRun, clip, copyRuns, changing, adding, runs, CanCopy, CanPush}
-use Rattle.runs.specs.Edits.{part, altered, deleted, inserted, CanEdit}
-use Rattle.runs.proofs.Laws.{at-past, total-push, push-before, push-at, canon-push, push-longer, total-copy, copy-before, copy-at, canon-copy, length-runs}
+use Rattle.runs.specs.Edits.{Joined, alteredAt, deletedAt, insertedAt, CanEdit}
+use Rattle.runs.proofs.Copies.{part, altered, deleted, inserted, Room}
+use Rattle.runs.proofs.Laws.{unique, at-past, total-push, push-before, push-at, canon-push, push-longer, total-copy, copy-before, copy-at, canon-copy, length-runs}
 
 pub add-is : (bits s : ℕ) → adding bits s ≡ bitOr s bits
 unfolding changing
@@ -46,7 +47,7 @@ pub inside-push : {base out : List Run} (l s : ℕ) → Inside (pushRun base l s
 inside-push {base} l s h = omega (arith, push-longer base l s, total-push base l s)
 
 -- what an edit asks is enough for each of its copies and pushes
-module _ {out : List Run} {olens₀ osets₀ lens sets : List ℕ} {m all : ℕ} (can : CanEdit out olens₀ osets₀ lens sets m all)
+module _ {out : List Run} {olens₀ osets₀ lens sets : List ℕ} {m all : ℕ} (can : Room out olens₀ osets₀ lens sets m all)
     (olens osets : List ℕ) (n : ℕ) (l : length olens ≡ length olens₀) (l′ : length osets ≡ length osets₀) (base : List Run) (e : runs olens osets n ≡ base) where
   pub can-copy : (f : ℕ → ℕ) (from to : ℕ) → Inside (copyRuns f base from to (runs lens sets m)) out → CanCopy f olens osets n lens sets m from to
   can-copy f from to h =
@@ -256,3 +257,88 @@ pub canon-inserted : (rs : List Run) (pos l s : ℕ) → Canon (inserted rs pos 
 unfolding inserted Canon
 canon-inserted rs pos l s =
     canon-copy (adding 0) (pushRun (part [] 0 pos rs) l s) pos (total rs) rs (canon-push (part [] 0 pos rs) l s (canon-copy (adding 0) [] 0 pos rs tt))
+
+-- ---- the joined list of positions and sets
+pub one-joined : {n : ℕ} {at : ℕ → ℕ} {xs ys : List Run} → Joined n at xs → Joined n at ys → xs ≡ ys
+one-joined {n} {at} {xs} {ys} j k =
+    unique xs ys (j .canon) (k .canon) (j .all ∙ sym (k .all))
+    (λ p.
+    elim (decLt p n) [
+      | yes h ↦ j .sets p h ∙ sym (k .sets p h)
+      | no h ↦ at-past xs p (omega (arith, j .all)) ∙ sym (at-past ys p (omega (arith, k .all)))
+    ])
+
+-- where there is room for the joined list, there is for a result that is that list
+pub room-of : {n : ℕ} {at : ℕ → ℕ} {olens osets lens sets : List ℕ} {m all : ℕ} {out : List Run}
+    → CanEdit n at olens osets lens sets m all → Joined n at out → Room out olens osets lens sets m all
+room-of {out = out} can j =
+    record {
+      even = can .even;
+      lens-m = can .lens-m;
+      sets-m = can .sets-m;
+      all-is = can .all-is;
+      source = can .source;
+      room = can .room out j;
+      sum = omega (arith, j .all, can .sum);
+    }
+
+module _ (rs : List Run) (n : ℕ) (is : n ≡ total rs) where
+  pub altered-joined : (a b : ℕ) (f : ℕ → ℕ) → a ≤ b → b ≤ n → Joined n (alteredAt a b f (setAt rs)) (altered rs a b f)
+  unfolding alteredAt
+  altered-joined a b f up fits =
+      record {
+        canon = canon-altered rs a b f;
+        all = total-altered rs a b f up (omega arith) ∙ sym is;
+        sets = λ p h. at-altered rs a b f up (omega arith) p;
+      }
+
+  pub deleted-joined : (a b : ℕ) → a ≤ b → b ≤ n → Joined (n - (b - a)) (deletedAt a b (setAt rs)) (deleted rs a b)
+  unfolding deletedAt
+  deleted-joined a b up fits =
+      record {
+        canon = canon-deleted rs a b;
+        all = omega (arith, total-deleted rs a b up (omega arith));
+        sets = λ p h. at-deleted rs a b up (omega arith) p;
+      }
+
+  pub inserted-joined : (pos l s : ℕ) → pos ≤ n → Joined (n + l) (insertedAt pos l s (setAt rs)) (inserted rs pos l s)
+  unfolding insertedAt
+  inserted-joined pos l s fits =
+      record {
+        canon = canon-inserted rs pos l s;
+        all = omega (arith, total-inserted rs pos l s (omega arith));
+        sets = λ p h. at-inserted rs pos l s (omega arith) p;
+      }
+
+-- ---- what the three functions ask is room for what they make, and that is what they promise
+module _ {olens osets lens sets : List ℕ} {m all : ℕ} (a b : ℕ) where
+  module _ (f : ℕ → ℕ) (pre : (a ≤ b) × (b ≤ all) × CanEdit all (alteredAt a b f (setAt (runs lens sets m))) olens osets lens sets m all) where
+    made-altered : Joined all (alteredAt a b f (setAt (runs lens sets m))) (altered (runs lens sets m) a b f)
+    made-altered = altered-joined (runs lens sets m) all (pre .2 .all-is) a b f (pre .0) (pre .1)
+
+    pub alter-room : Room (altered (runs lens sets m) a b f) olens osets lens sets m all
+    alter-room = room-of (pre .2) made-altered
+
+    pub alter-done : {out : List Run} → out ≡ altered (runs lens sets m) a b f → Joined all (alteredAt a b f (setAt (runs lens sets m))) out
+    alter-done e = rw e made-altered
+
+  module _ (pre : (a ≤ b) × (b ≤ all) × CanEdit (all - (b - a)) (deletedAt a b (setAt (runs lens sets m))) olens osets lens sets m all) where
+    made-deleted : Joined (all - (b - a)) (deletedAt a b (setAt (runs lens sets m))) (deleted (runs lens sets m) a b)
+    made-deleted = deleted-joined (runs lens sets m) all (pre .2 .all-is) a b (pre .0) (pre .1)
+
+    pub delete-room : Room (deleted (runs lens sets m) a b) olens osets lens sets m all
+    delete-room = room-of (pre .2) made-deleted
+
+    pub delete-done : {out : List Run} → out ≡ deleted (runs lens sets m) a b → Joined (all - (b - a)) (deletedAt a b (setAt (runs lens sets m))) out
+    delete-done e = rw e made-deleted
+
+module _ {olens osets lens sets : List ℕ} {m all : ℕ} (pos l s : ℕ)
+    (pre : (pos ≤ all) × CanEdit (all + l) (insertedAt pos l s (setAt (runs lens sets m))) olens osets lens sets m all) where
+  made-inserted : Joined (all + l) (insertedAt pos l s (setAt (runs lens sets m))) (inserted (runs lens sets m) pos l s)
+  made-inserted = inserted-joined (runs lens sets m) all (pre .1 .all-is) pos l s (pre .0)
+
+  pub insert-room : Room (inserted (runs lens sets m) pos l s) olens osets lens sets m all
+  insert-room = room-of (pre .1) made-inserted
+
+  pub insert-done : {out : List Run} → out ≡ inserted (runs lens sets m) pos l s → Joined (all + l) (insertedAt pos l s (setAt (runs lens sets m))) out
+  insert-done e = rw e made-inserted

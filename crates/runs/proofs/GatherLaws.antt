@@ -8,7 +8,7 @@ use native.Mathlib.Decide.{decLt, ℕ-discrete}
 use lib.Bits.{bitAnd, bitOr}
 use lib.ListN.{getD}
 use Rattle.runs.specs.Runs.{Run, runs, total, setAt, Canon, adding}
-use Rattle.runs.specs.Edits.{altered, deleted, inserted}
+use Rattle.runs.proofs.Copies.{altered, deleted, inserted}
 use Rattle.runs.specs.Gather.{gather}
 use Rattle.runs.proofs.Digits.{digit, or-digit, digit-none, digits-ext, within-digit, digit-within}
 use Rattle.runs.proofs.Laws.{at-in, at-last}

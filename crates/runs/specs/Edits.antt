@@ -1,33 +1,37 @@
--- The edits of a run list, each as copies of parts of it. What they do position by position is `at-altered`, `at-deleted` and `at-inserted`
--- (proofs/EditLaws).
-use Prim.Native.Nat.{ℕ, _≤_, _<_, _^_}
+-- The edits of a run list, by position: what becomes of the positions, and that the result is their joined list.
+use Prim.Native.Nat.{ℕ, _+_, _-_, _≤_, _<_, _^_}
 use mathlib.Core.Path.{_≡_}
-use mathlib.Core.List.{List, []}
+use mathlib.Core.Bool.{cond, _&&_}
+use mathlib.Core.List.{List}
+use lib.Dec.{ltb, leb}
 use lib.ListN.{length}
-use Rattle.runs.specs.Runs.{Run, runs, total, pushRun, copyRuns, adding}
+use Rattle.runs.specs.Runs.{Run, runs, total, setAt, Canon}
 
--- the positions from .. to of rs, onto base
-abbrev pub part : List Run → ℕ → ℕ → List Run → List Run
-part base from to rs = copyRuns (adding 0) base from to rs
+-- the joined list of n positions with the set `at p` at each position p: there is no other (`one-joined`, proofs/EditLaws)
+pub record Joined (n : ℕ) (at : ℕ → ℕ) (rs : List Run) : Type 0 where
+  pub canon : Canon rs
+  pub all : total rs ≡ n
+  pub sets : (p : ℕ) → p < n → setAt rs p ≡ at p
 
+-- ---- The sets at positions after an edit, from those before it
 -- the sets of the positions a .. b changed by f
-unfoldable pub altered : List Run → ℕ → ℕ → (ℕ → ℕ) → List Run
-altered rs a b f = part (copyRuns f (part [] 0 a rs) a b rs) b (total rs) rs
+unfoldable pub alteredAt : ℕ → ℕ → (ℕ → ℕ) → (ℕ → ℕ) → ℕ → ℕ
+alteredAt a b f at p = cond (leb a p && ltb p b) (f (at p)) (at p)
 
 -- the positions a .. b taken away
-unfoldable pub deleted : List Run → ℕ → ℕ → List Run
-deleted rs a b = part (part [] 0 a rs) b (total rs) rs
+unfoldable pub deletedAt : ℕ → ℕ → (ℕ → ℕ) → ℕ → ℕ
+deletedAt a b at p = cond (ltb p a) (at p) (at (p + (b - a)))
 
 -- l positions with the set s put in before position pos
-unfoldable pub inserted : List Run → ℕ → ℕ → ℕ → List Run
-inserted rs pos l s = part (pushRun (part [] 0 pos rs) l s) pos (total rs) rs
+unfoldable pub insertedAt : ℕ → ℕ → ℕ → (ℕ → ℕ) → ℕ → ℕ
+insertedAt pos l s at p = cond (ltb p pos) (at p) (cond (ltb p (pos + l)) s (at (p - l)))
 
--- what an edit of m runs into `out` asks
-pub record CanEdit (out : List Run) (olens osets lens sets : List ℕ) (m all : ℕ) : Type 0 where
+-- what an edit of m runs asks that leaves n positions with these sets: room for their joined list, and a sum that fits
+pub record CanEdit (n : ℕ) (at : ℕ → ℕ) (olens osets lens sets : List ℕ) (m all : ℕ) : Type 0 where
   pub even : length osets ≡ length olens
   pub lens-m : m ≤ length lens
   pub sets-m : m ≤ length sets
   pub all-is : all ≡ total (runs lens sets m)
   pub source : all < 2 ^ 63
-  pub room : length out ≤ length olens
-  pub sum : total out < 2 ^ 63
+  pub room : (out : List Run) → Joined n at out → length out ≤ length olens
+  pub sum : n < 2 ^ 63

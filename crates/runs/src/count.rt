@@ -2,10 +2,10 @@
 
 ghost use mathlib.Core.Path.{_≡_};
 ghost use mathlib.Core.List.{List, []};
-ghost use Prim.Native.Nat.{_+_, _<_, _≤_, _^_};
+ghost use Prim.Native.Nat.{_+_, _-_, _<_, _≤_, _^_};
 ghost use lib.ListN.{length};
-ghost use Rattle.runs.specs.Runs.{Run, runs, total, pushRun, copyRuns, changing};
-ghost use Rattle.runs.specs.Edits.{altered, deleted, inserted};
+ghost use Rattle.runs.specs.Runs.{Run, runs, total, setAt, pushRun, copyRuns, changing};
+ghost use Rattle.runs.specs.Edits.{Joined, alteredAt, deletedAt, insertedAt};
 ghost use Rattle.runs.specs.Count.{tallyOf, CanTally};
 use super::change;
 use super::clip;
@@ -103,8 +103,8 @@ pub fn count_alter(
     drop: u64,
 ) -> usize
     requires { ⌜ CanTally (now lens) (now sets) m ⌝ }
-    requires { ⌜ all ≡ total (runs (now lens) (now sets) m) ⌝ }
-    ensures { λ r. ⌜ r ≡ length (altered (runs (now (lens .entry)) (now (sets .entry)) m) a b (changing bits drop)) ⌝ }
+    requires { ⌜ (all ≡ total (runs (now lens) (now sets) m)) × (a ≤ b) × (b ≤ all) ⌝ }
+    ensures { λ r. ⌜ ((out : List Run) → Joined all (alteredAt a b (changing bits drop) (setAt (runs (now (lens .entry)) (now (sets .entry)) m))) out → r ≡ length out) ⌝ }
 {
     let t = count_part(nothing(), lens, sets, m, 0, a, 0, 0);
     let u = count_part(t, lens, sets, m, a, b, bits, drop);
@@ -115,8 +115,8 @@ pub fn count_alter(
 // How many runs `delete` would leave.
 pub fn count_delete(lens: &[u64], sets: &[u64], m: usize, all: u64, a: u64, b: u64) -> usize
     requires { ⌜ CanTally (now lens) (now sets) m ⌝ }
-    requires { ⌜ all ≡ total (runs (now lens) (now sets) m) ⌝ }
-    ensures { λ r. ⌜ r ≡ length (deleted (runs (now (lens .entry)) (now (sets .entry)) m) a b) ⌝ }
+    requires { ⌜ (all ≡ total (runs (now lens) (now sets) m)) × (a ≤ b) × (b ≤ all) ⌝ }
+    ensures { λ r. ⌜ ((out : List Run) → Joined (all - (b - a)) (deletedAt a b (setAt (runs (now (lens .entry)) (now (sets .entry)) m))) out → r ≡ length out) ⌝ }
 {
     let t = count_part(nothing(), lens, sets, m, 0, a, 0, 0);
     let u = count_part(t, lens, sets, m, b, all, 0, 0);
@@ -134,8 +134,8 @@ pub fn count_insert(
     set: u64,
 ) -> usize
     requires { ⌜ CanTally (now lens) (now sets) m ⌝ }
-    requires { ⌜ all ≡ total (runs (now lens) (now sets) m) ⌝ }
-    ensures { λ r. ⌜ r ≡ length (inserted (runs (now (lens .entry)) (now (sets .entry)) m) pos len set) ⌝ }
+    requires { ⌜ (all ≡ total (runs (now lens) (now sets) m)) × (pos ≤ all) ⌝ }
+    ensures { λ r. ⌜ ((out : List Run) → Joined (all + len) (insertedAt pos len set (setAt (runs (now (lens .entry)) (now (sets .entry)) m))) out → r ≡ length out) ⌝ }
 {
     let t = count_part(nothing(), lens, sets, m, 0, pos, 0, 0);
     let u = more(t, len, set);

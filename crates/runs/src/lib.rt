@@ -9,7 +9,7 @@ pub mod sets; // sets.rt: all sets together, and sets renumbered in place
 ghost use mathlib.Core.Path.{_≡_};
 ghost use Prim.Native.Nat.{_+_, _-_, _<_, _≤_, _^_, min, max};
 ghost use lib.ListN.{length};
-ghost use Rattle.runs.specs.Edits.{altered, deleted, inserted, CanEdit};
+ghost use Rattle.runs.specs.Edits.{Joined, alteredAt, deletedAt, insertedAt, CanEdit};
 ghost use Rattle.runs.specs.Runs.{runs, setAt, pushRun, copyRuns, CanPush, CanCopy, sums, Found, SameBehind, changing};
 
 // `len` positions more with the set `set`, after the runs of the first `n` entries. Returns how many runs there are then.
@@ -137,8 +137,8 @@ pub fn alter(
     bits: u64,
     drop: u64,
 ) -> usize
-    requires { ⌜ CanEdit (altered (runs (now lens) (now sets) m) a b (changing bits drop)) (now olens) (now osets) (now lens) (now sets) m all ⌝ }
-    ensures { λ r. ⌜ runs (now (olens .exit)) (now (osets .exit)) r ≡ altered (runs (now (lens .entry)) (now (sets .entry)) m) a b (changing bits drop) ⌝ }
+    requires { ⌜ (a ≤ b) × (b ≤ all) × CanEdit all (alteredAt a b (changing bits drop) (setAt (runs (now lens) (now sets) m))) (now olens) (now osets) (now lens) (now sets) m all ⌝ }
+    ensures { λ r. ⌜ Joined all (alteredAt a b (changing bits drop) (setAt (runs (now (lens .entry)) (now (sets .entry)) m))) (runs (now (olens .exit)) (now (osets .exit)) r) ⌝ }
     ensures { λ r. ⌜ SameBehind r (now (olens .entry)) (now (osets .entry)) (now (olens .exit)) (now (osets .exit)) ⌝ }
 {
     let n = copy(olens, osets, 0, lens, sets, m, 0, a, 0, 0);
@@ -157,8 +157,8 @@ pub fn delete(
     a: u64,
     b: u64,
 ) -> usize
-    requires { ⌜ CanEdit (deleted (runs (now lens) (now sets) m) a b) (now olens) (now osets) (now lens) (now sets) m all ⌝ }
-    ensures { λ r. ⌜ runs (now (olens .exit)) (now (osets .exit)) r ≡ deleted (runs (now (lens .entry)) (now (sets .entry)) m) a b ⌝ }
+    requires { ⌜ (a ≤ b) × (b ≤ all) × CanEdit (all - (b - a)) (deletedAt a b (setAt (runs (now lens) (now sets) m))) (now olens) (now osets) (now lens) (now sets) m all ⌝ }
+    ensures { λ r. ⌜ Joined (all - (b - a)) (deletedAt a b (setAt (runs (now (lens .entry)) (now (sets .entry)) m))) (runs (now (olens .exit)) (now (osets .exit)) r) ⌝ }
     ensures { λ r. ⌜ SameBehind r (now (olens .entry)) (now (osets .entry)) (now (olens .exit)) (now (osets .exit)) ⌝ }
 {
     let n = copy(olens, osets, 0, lens, sets, m, 0, a, 0, 0);
@@ -177,8 +177,8 @@ pub fn insert(
     len: u64,
     set: u64,
 ) -> usize
-    requires { ⌜ CanEdit (inserted (runs (now lens) (now sets) m) pos len set) (now olens) (now osets) (now lens) (now sets) m all ⌝ }
-    ensures { λ r. ⌜ runs (now (olens .exit)) (now (osets .exit)) r ≡ inserted (runs (now (lens .entry)) (now (sets .entry)) m) pos len set ⌝ }
+    requires { ⌜ (pos ≤ all) × CanEdit (all + len) (insertedAt pos len set (setAt (runs (now lens) (now sets) m))) (now olens) (now osets) (now lens) (now sets) m all ⌝ }
+    ensures { λ r. ⌜ Joined (all + len) (insertedAt pos len set (setAt (runs (now (lens .entry)) (now (sets .entry)) m))) (runs (now (olens .exit)) (now (osets .exit)) r) ⌝ }
     ensures { λ r. ⌜ SameBehind r (now (olens .entry)) (now (osets .entry)) (now (olens .exit)) (now (osets .exit)) ⌝ }
 {
     let n = copy(olens, osets, 0, lens, sets, m, 0, pos, 0, 0);

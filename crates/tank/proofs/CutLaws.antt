@@ -6,12 +6,13 @@ use mathlib.Core.List.{List}
 use native.Mathlib.Omega.{arith}
 use lib.Bits.{and-le-r}
 use lib.ListN.{length}
-use Rattle.runs.specs.Runs.{runs, total, Spare}
-use Rattle.runs.specs.Edits.{deleted, CanEdit}
+use Rattle.runs.specs.Runs.{runs, total, setAt, Spare}
+use Rattle.runs.specs.Edits.{Joined, deletedAt, CanEdit}
+use Rattle.runs.proofs.Copies.{deleted}
 use Rattle.runs.specs.Gather.{gather}
 use Rattle.runs.proofs.Laws.{length-runs}
 use Rattle.runs.proofs.CountLaws.{deleted-runs}
-use Rattle.runs.proofs.EditLaws.{total-deleted, canon-deleted}
+use Rattle.runs.proofs.EditLaws.{one-joined, deleted-joined, total-deleted, canon-deleted}
 use Rattle.runs.proofs.GatherLaws.{gather-deleted}
 use Rattle.tank.specs.declared.Tank.{Tank}
 use Rattle.tank.specs.Rules.{afterDelete}
@@ -24,19 +25,26 @@ module _ {t : Tank} (start end : ℕ) (h : CanCut t start end) where
   fits : end ≤ total (runsOf t)
   fits = let a = h .fits in let b = h .laid .sum in omega arith
 
-  pub cut-can : (olens osets : List ℕ) → length olens ≡ 514 → length osets ≡ 514
-      → CanEdit (deleted (runsOf t) start end) olens osets (t .lens) (t .sets) (t .runs) (t .length)
-  cut-can olens osets l l′ =
-      let a = h .laid .sum in
-      let b = h .laid .small in
-      can-edit (h .laid) (h .room) _ olens osets l l′ (omega (arith, deleted-runs (runsOf t) start end (h .up) fits))
-      (omega (arith, total-deleted (runsOf t) start end (h .up) fits))
+  -- what becomes of the runs
+  cut-out : Joined (t .length - (end - start)) (deletedAt start end (setAt (runsOf t))) (deleted (runsOf t) start end)
+  cut-out = deleted-joined (runsOf t) (t .length) (h .laid .sum) start end (h .up) (h .fits)
 
-  pub cut-done : (lens sets : List ℕ) (n : ℕ) → runs lens sets n ≡ deleted (runsOf t) start end → Spare lens sets n
+  pub cut-can : (olens osets : List ℕ) → length olens ≡ 514 → length osets ≡ 514
+      → (start ≤ end) × (end ≤ t .length)
+      × CanEdit (t .length - (end - start)) (deletedAt start end (setAt (runsOf t))) olens osets (t .lens) (t .sets) (t .runs) (t .length)
+  cut-can olens osets l l′ =
+      let b = h .laid .small in (
+        h .up,
+        h .fits,
+        can-edit (h .laid) (h .room) cut-out olens osets l l′ (omega (arith, deleted-runs (runsOf t) start end (h .up) fits)) (omega arith),
+      )
+
+  pub cut-done : (lens sets : List ℕ) (n : ℕ) → Joined (t .length - (end - start)) (deletedAt start end (setAt (runsOf t))) (runs lens sets n) → Spare lens sets n
       → length lens ≡ 514 → length sets ≡ 514
       → let r : Tank = record { touched = true; length = t .length - (end - start); runs = n; marks = t .marks; lens = lens; sets = sets; table = t .table } in
       (Laid r) × (view r ≡ afterDelete start end (view t))
-  cut-done lens sets n e sp l l′ =
+  cut-done lens sets n made sp l l′ =
+      let e = one-joined made cut-out in
       let f = h .laid in
       let a = f .sum in
       let b = f .small in

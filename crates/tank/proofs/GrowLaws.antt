@@ -14,13 +14,14 @@ use Rattle.styles.specs.Bits.{pick}
 use Rattle.styles.proofs.PickLaws.{pick-both}
 use Rattle.styles.proofs.UnionLaws.{pick-none}
 use Rattle.runs.specs.Runs.{Run, runs, total, setAt, Spare}
-use Rattle.runs.specs.Edits.{inserted, CanEdit}
+use Rattle.runs.specs.Edits.{Joined, insertedAt, CanEdit}
+use Rattle.runs.proofs.Copies.{inserted}
 use Rattle.runs.specs.Gather.{gather}
 use Rattle.runs.specs.Scan.{commonAt}
 use Rattle.runs.proofs.Laws.{length-runs}
 use Rattle.runs.proofs.CountLaws.{inserted-runs}
 use Rattle.runs.proofs.Digits.{and-digit, digit-within, within-digit}
-use Rattle.runs.proofs.EditLaws.{total-inserted, canon-inserted}
+use Rattle.runs.proofs.EditLaws.{one-joined, inserted-joined, total-inserted, canon-inserted}
 use Rattle.runs.proofs.GatherLaws.{set-within, gather-inserted}
 use Rattle.runs.proofs.ScanLaws.{common-end, common-inside}
 use Rattle.tank.specs.declared.Tank.{Tank}
@@ -76,19 +77,21 @@ module _ {t : Tank} (pos len set : ℕ) (h : CanGrow t pos len set) where
   fits : pos ≤ total (runsOf t)
   fits = let a = h .fits in let b = h .laid .sum in omega arith
 
-  pub grow-can : (olens osets : List ℕ) → length olens ≡ 514 → length osets ≡ 514
-      → CanEdit (inserted (runsOf t) pos len set) olens osets (t .lens) (t .sets) (t .runs) (t .length)
-  grow-can olens osets l l′ =
-      let a = h .laid .sum in
-      let b = h .small in
-      can-edit (h .laid) (h .room) _ olens osets l l′ (inserted-runs (runsOf t) pos len set fits)
-      (omega (arith, total-inserted (runsOf t) pos len set fits))
+  -- what becomes of the runs
+  grown-out : Joined (t .length + len) (insertedAt pos len set (setAt (runsOf t))) (inserted (runsOf t) pos len set)
+  grown-out = inserted-joined (runsOf t) (t .length) (h .laid .sum) pos len set (h .fits)
 
-  pub grow-done : (lens sets : List ℕ) (n : ℕ) → runs lens sets n ≡ inserted (runsOf t) pos len set → Spare lens sets n
+  pub grow-can : (olens osets : List ℕ) → length olens ≡ 514 → length osets ≡ 514
+      → (pos ≤ t .length) × CanEdit (t .length + len) (insertedAt pos len set (setAt (runsOf t))) olens osets (t .lens) (t .sets) (t .runs) (t .length)
+  grow-can olens osets l l′ =
+      (h .fits, can-edit (h .laid) (h .room) grown-out olens osets l l′ (inserted-runs (runsOf t) pos len set fits) (h .small))
+
+  pub grow-done : (lens sets : List ℕ) (n : ℕ) → Joined (t .length + len) (insertedAt pos len set (setAt (runsOf t))) (runs lens sets n) → Spare lens sets n
       → length lens ≡ 514 → length sets ≡ 514
       → Stepped (afterInsert pos len (view t)) (tableOf t) (gather (runsOf t))
       (record { touched = true; length = t .length + len; runs = n; marks = t .marks; lens = lens; sets = sets; table = t .table })
-  grow-done lens sets n e sp l l′ =
+  grow-done lens sets n made sp l l′ =
+      let e = one-joined made grown-out in
       let f = h .laid in
       let a = f .sum in
       let b = h .small in

@@ -12,12 +12,13 @@ use Rattle.styles.specs.Marks.{Sorted, insertMark, blank}
 use Rattle.styles.specs.Bits.{pick, withBit}
 use Rattle.styles.proofs.BitLaws.{with-is}
 use Rattle.styles.proofs.PickLaws.{pick-with}
-use Rattle.runs.specs.Runs.{runs, total, adding, Spare}
-use Rattle.runs.specs.Edits.{altered, CanEdit}
+use Rattle.runs.specs.Runs.{runs, total, setAt, adding, Spare}
+use Rattle.runs.specs.Edits.{Joined, alteredAt, CanEdit}
+use Rattle.runs.proofs.Copies.{altered}
 use Rattle.runs.specs.Gather.{gather}
 use Rattle.runs.proofs.Laws.{length-runs}
 use Rattle.runs.proofs.CountLaws.{altered-runs}
-use Rattle.runs.proofs.EditLaws.{add-is, total-altered, canon-altered}
+use Rattle.runs.proofs.EditLaws.{one-joined, altered-joined, add-is, total-altered, canon-altered}
 use Rattle.runs.proofs.GatherLaws.{gather-altered}
 use Rattle.tank.specs.declared.Tank.{Tank}
 use Rattle.tank.specs.Rules.{afterAnnotate}
@@ -42,19 +43,26 @@ module _ {t : Tank} (start end i : ℕ) (h : CanLay t start end i) where
   up : start ≤ end
   up = let a = h .up in omega arith
 
-  pub lay-can : (olens osets : List ℕ) → length olens ≡ 514 → length osets ≡ 514
-      → CanEdit (altered (runsOf t) start end (adding (withBit i 0))) olens osets (t .lens) (t .sets) (t .runs) (t .length)
-  lay-can olens osets l l′ =
-      let a = h .laid .sum in
-      let b = h .laid .small in
-      can-edit (h .laid) (h .room) _ olens osets l l′ (altered-runs (runsOf t) start end up fits (adding (withBit i 0)))
-      (omega (arith, total-altered (runsOf t) start end (adding (withBit i 0)) up fits))
+  -- what becomes of the runs
+  laid-out : Joined (t .length) (alteredAt start end (adding (withBit i 0)) (setAt (runsOf t))) (altered (runsOf t) start end (adding (withBit i 0)))
+  laid-out = altered-joined (runsOf t) (t .length) (h .laid .sum) start end (adding (withBit i 0)) up (h .fits)
 
-  pub lay-done : (lens sets : List ℕ) (n : ℕ) → runs lens sets n ≡ altered (runsOf t) start end (adding (withBit i 0)) → Spare lens sets n
+  pub lay-can : (olens osets : List ℕ) → length olens ≡ 514 → length osets ≡ 514
+      → (start ≤ end) × (end ≤ t .length)
+      × CanEdit (t .length) (alteredAt start end (adding (withBit i 0)) (setAt (runsOf t))) olens osets (t .lens) (t .sets) (t .runs) (t .length)
+  lay-can olens osets l l′ = (
+    up,
+    h .fits,
+    can-edit (h .laid) (h .room) laid-out olens osets l l′ (altered-runs (runsOf t) start end up fits (adding (withBit i 0))) (h .laid .small),
+  )
+
+  pub lay-done : (lens sets : List ℕ) (n : ℕ) → Joined (t .length) (alteredAt start end (adding (withBit i 0)) (setAt (runsOf t))) (runs lens sets n)
+      → Spare lens sets n
       → length lens ≡ 514 → length sets ≡ 514
       → Stepped (afterAnnotate start end (getD (tableOf t) i blank) (view t)) (tableOf t) (bitOr (gather (runsOf t)) (2 ^ i))
       (record { touched = true; length = t .length; runs = n; marks = t .marks; lens = lens; sets = sets; table = t .table })
-  lay-done lens sets n e sp l l′ =
+  lay-done lens sets n made sp l l′ =
+      let e = one-joined made laid-out in
       let f = h .laid in
       let a = f .sum in
       let b = f .small in

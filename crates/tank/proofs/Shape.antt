@@ -10,10 +10,11 @@ use lib.ListN.{length, getD, replicate}
 use lib.Pow.{pow-pos}
 use Rattle.styles.specs.declared.Mark.{Mark}
 use Rattle.runs.specs.Runs.{Run, runs, total, setAt, Canon, Spare}
-use Rattle.runs.specs.Edits.{CanEdit}
+use Rattle.runs.specs.Edits.{Joined, CanEdit}
 use Rattle.runs.specs.Gather.{gather}
 use Rattle.runs.specs.Scan.{CanLook}
 use Rattle.runs.proofs.Laws.{at-in, at-last, length-runs}
+use Rattle.runs.proofs.EditLaws.{one-joined}
 use Rattle.tank.specs.declared.Tank.{Tank}
 use Rattle.tank.specs.Rules.{View}
 use Rattle.tank.specs.State.{runsOf, tableOf, viewOf, view, Laid}
@@ -51,9 +52,9 @@ module _ {t : Tank} (f : Laid t) where
       record { lens-n = omega arith; sets-n = omega arith; small = subst (λ (n : ℕ). n < 2 ^ 63) (f .sum) (f .small) }
 
   -- what an edit asks of the tank's runs
-  pub can-edit : t .runs ≤ 512 → (out : List Run) (olens osets : List ℕ) → length olens ≡ 514 → length osets ≡ 514
-      → length out ≤ length (runsOf t) + 2 → total out < 2 ^ 63 → CanEdit out olens osets (t .lens) (t .sets) (t .runs) (t .length)
-  can-edit room out olens osets l l′ few fits =
+  pub can-edit : t .runs ≤ 512 → {n : ℕ} {at : ℕ → ℕ} {out : List Run} → Joined n at out → (olens osets : List ℕ) → length olens ≡ 514 → length osets ≡ 514
+      → length out ≤ length (runsOf t) + 2 → n < 2 ^ 63 → CanEdit n at olens osets (t .lens) (t .sets) (t .runs) (t .length)
+  can-edit room made olens osets l l′ few fits =
       let a = f .lens-514 in
       let b = f .sets-514 in
       record {
@@ -62,7 +63,7 @@ module _ {t : Tank} (f : Laid t) where
         sets-m = omega arith;
         all-is = f .sum;
         source = f .small;
-        room = omega (arith, length-runs (t .lens) (t .sets) (t .runs));
+        room = λ x j. omega (arith, ap length (one-joined j made), length-runs (t .lens) (t .sets) (t .runs));
         sum = fits;
       }
 

@@ -17,11 +17,12 @@ use Rattle.styles.specs.Bits.{pick, hasBit, withBit, withoutBit}
 use Rattle.styles.proofs.PickLaws.{pick-without}
 use Rattle.styles.proofs.MaskLaws.{member-pick}
 use Rattle.runs.specs.Runs.{runs, total, setAt, changing, Spare}
-use Rattle.runs.specs.Edits.{altered, CanEdit}
+use Rattle.runs.specs.Edits.{Joined, alteredAt, CanEdit}
+use Rattle.runs.proofs.Copies.{altered}
 use Rattle.runs.specs.Scan.{meets}
 use Rattle.runs.proofs.Laws.{length-runs}
 use Rattle.runs.proofs.CountLaws.{altered-runs}
-use Rattle.runs.proofs.EditLaws.{drop-is, total-altered, altered-in, altered-out, canon-altered}
+use Rattle.runs.proofs.EditLaws.{one-joined, altered-joined, drop-is, total-altered, altered-in, altered-out, canon-altered}
 use Rattle.tank.specs.declared.Tank.{Tank}
 use Rattle.tank.specs.Rules.{stripped}
 use Rattle.tank.specs.State.{runsOf, tableOf, view, Laid}
@@ -75,13 +76,18 @@ module _ {t : Tank} (start end i : ℕ) (h : CanStrip t start end i) where
   fits : end ≤ total (runsOf t)
   fits = let a = h .fits in let b = h .laid .sum in omega arith
 
+  -- what becomes of the runs
+  stripped-out : Joined (t .length) (alteredAt start end (changing 0 (withBit i 0)) (setAt (runsOf t))) (altered (runsOf t) start end (changing 0 (withBit i 0)))
+  stripped-out = altered-joined (runsOf t) (t .length) (h .laid .sum) start end (changing 0 (withBit i 0)) (h .up) (h .fits)
+
   pub strip-can : (olens osets : List ℕ) → length olens ≡ 514 → length osets ≡ 514
-      → CanEdit (altered (runsOf t) start end (changing 0 (withBit i 0))) olens osets (t .lens) (t .sets) (t .runs) (t .length)
-  strip-can olens osets l l′ =
-      let a = h .laid .sum in
-      let b = h .laid .small in
-      can-edit (h .laid) (h .room) _ olens osets l l′ (altered-runs (runsOf t) start end (h .up) fits (changing 0 (withBit i 0)))
-      (omega (arith, total-altered (runsOf t) start end (changing 0 (withBit i 0)) (h .up) fits))
+      → (start ≤ end) × (end ≤ t .length)
+      × CanEdit (t .length) (alteredAt start end (changing 0 (withBit i 0)) (setAt (runsOf t))) olens osets (t .lens) (t .sets) (t .runs) (t .length)
+  strip-can olens osets l l′ = (
+    h .up,
+    h .fits,
+    can-edit (h .laid) (h .room) stripped-out olens osets l l′ (altered-runs (runsOf t) start end (h .up) fits (changing 0 (withBit i 0))) (h .laid .small),
+  )
 
   -- no set has got larger
   at-small : (p : ℕ) → p < total (altered (runsOf t) start end (changing 0 (withBit i 0)))
@@ -104,11 +110,13 @@ module _ {t : Tank} (start end i : ℕ) (h : CanStrip t start end i) where
             ]
       ]
 
-  pub strip-done : (lens sets : List ℕ) (n : ℕ) → runs lens sets n ≡ altered (runsOf t) start end (changing 0 (withBit i 0)) → Spare lens sets n
+  pub strip-done : (lens sets : List ℕ) (n : ℕ) → Joined (t .length) (alteredAt start end (changing 0 (withBit i 0)) (setAt (runsOf t))) (runs lens sets n)
+      → Spare lens sets n
       → length lens ≡ 514 → length sets ≡ 514
       → let r : Tank = record { touched = t .touched; length = t .length; runs = n; marks = t .marks; lens = lens; sets = sets; table = t .table } in
       (Laid r) × (view r ≡ stripped (idOf (getD (tableOf t) i blank)) start end (view t))
-  strip-done lens sets n e sp l l′ =
+  strip-done lens sets n made sp l l′ =
+      let e = one-joined made stripped-out in
       let f = h .laid in
       let a = f .sum in
       let b = f .small in

@@ -1,10 +1,10 @@
 -- The edits of run lists over a table of marks mean what the rules say, position by position.
 use Prim.Native.Nat.{ℕ, _+_, _-_, _≤_, _<_}
-use mathlib.Core.Path.{_≡_, refl, sym, ap, _∙_, fun-ext}
+use mathlib.Core.Path.{_≡_, refl, ap, _∙_, fun-ext}
 use mathlib.Core.Bool.{Bool, true, false, cond}
 use mathlib.Core.List.{List}
 use native.Mathlib.Omega.{arith}
-use native.Mathlib.Decide.{decLt, decLe}
+use native.Mathlib.Decide.{decLe}
 use lib.Dec.{ltb}
 use borrow.Author.Tests.{lt-ltb, le-ltb, le-leb, lt-leb}
 use Rattle.styles.specs.declared.Identity.{Identity}
@@ -12,20 +12,8 @@ use Rattle.styles.specs.declared.Mark.{Mark}
 use Rattle.styles.specs.Marks.{insertMark, removeMark}
 use Rattle.styles.specs.Bits.{pick}
 use Rattle.runs.specs.Runs.{Run, total, setAt}
-use Rattle.runs.specs.Edits.{altered, deleted, inserted}
-use Rattle.runs.proofs.Laws.{at-past}
-use Rattle.runs.proofs.EditLaws.{
-  total-altered,
-  altered-in,
-  altered-out,
-  total-deleted,
-  deleted-before,
-  deleted-after,
-  total-inserted,
-  inserted-before,
-  inserted-in,
-  inserted-after,
-}
+use Rattle.runs.proofs.Copies.{altered, deleted, inserted}
+use Rattle.runs.proofs.EditLaws.{total-altered, at-altered, total-deleted, at-deleted, total-inserted, at-inserted}
 use Rattle.tank.specs.Rules.{View, within, afterAnnotate, inherited, afterInsert, afterDelete, stripped}
 use Rattle.tank.specs.State.{viewOf}
 
@@ -60,79 +48,30 @@ module _ {A : Type 0} (a b p : ℕ) (x y : A) where
 
 -- ---- a deletion
 module _ (rs : List Run) (a b : ℕ) (up : a ≤ b) (fits : b ≤ total rs) where
-  deleted-at : (p : ℕ) → setAt (deleted rs a b) p ≡ cond (ltb p a) (setAt rs p) (setAt rs (p + (b - a)))
-  deleted-at p =
-      elim (decLt p a) [
-        | yes h ↦ simp (lt-ltb p a h) (deleted-before rs a b up fits p h)
-        | no h ↦
-            let q : p + (b - a) - (b - a) ≡ p = omega arith in
-            elim (decLt (p + (b - a)) (total rs)) [
-              | yes k ↦ simp (le-ltb p a (omega arith)) (ap (setAt (deleted rs a b)) (sym q) ∙ deleted-after rs a b up fits (p + (b - a)) (omega arith) k)
-              | no k ↦
-                  simp (le-ltb p a (omega arith))
-                  (at-past (deleted rs a b) p (omega (arith, total-deleted rs a b up fits)) ∙ sym (at-past rs (p + (b - a)) (omega arith)))
-            ]
-      ]
-
   pub view-deleted : (ms : List Mark) → viewOf true (total (deleted rs a b)) ms (deleted rs a b) ≡ afterDelete a b (viewOf true (total rs) ms rs)
   unfolding afterDelete
   view-deleted ms =
-      view-ext _ _ (total-deleted rs a b up fits) refl (λ p. ap (pick ms) (deleted-at p) ∙ cond-ap (pick ms) (ltb p a) _ _)
+      view-ext _ _ (total-deleted rs a b up fits) refl (λ p. ap (pick ms) (at-deleted rs a b up fits p) ∙ cond-ap (pick ms) (ltb p a) _ _)
 
 -- ---- an insertion
 module _ (rs : List Run) (pos l s : ℕ) (fits : pos ≤ total rs) where
-  inserted-at : (p : ℕ) → setAt (inserted rs pos l s) p ≡ cond (ltb p pos) (setAt rs p) (cond (ltb p (pos + l)) s (setAt rs (p - l)))
-  inserted-at p =
-      elim (decLt p pos) [
-        | yes h ↦ simp (lt-ltb p pos h) (inserted-before rs pos l s fits p h)
-        | no h ↦
-            elim (decLt p (pos + l)) [
-              | yes k ↦ simp (le-ltb p pos (omega arith), lt-ltb p (pos + l) k) (inserted-in rs pos l s fits p (omega arith) k)
-              | no k ↦
-                  let q : p - l + l ≡ p = omega arith in
-                  simp (le-ltb p pos (omega arith), le-ltb p (pos + l) (omega arith))
-                  (elim (decLt (p - l) (total rs)) [
-                    | yes j ↦ ap (setAt (inserted rs pos l s)) (sym q) ∙ inserted-after rs pos l s fits (p - l) (omega arith) j
-                    | no j ↦
-                        at-past (inserted rs pos l s) p (omega (arith, total-inserted rs pos l s fits)) ∙ sym (at-past rs (p - l) (omega arith))
-                  ])
-            ]
-      ]
-
   pub view-inserted : (ms : List Mark) → pick ms s ≡ inherited pos (viewOf true (total rs) ms rs)
       → viewOf true (total (inserted rs pos l s)) ms (inserted rs pos l s) ≡ afterInsert pos l (viewOf true (total rs) ms rs)
   unfolding afterInsert
   view-inserted ms e =
       view-ext _ _ (total-inserted rs pos l s fits) refl
       (λ p.
-      ap (pick ms) (inserted-at p) ∙ cond-ap (pick ms) (ltb p pos) _ _
+      ap (pick ms) (at-inserted rs pos l s fits p) ∙ cond-ap (pick ms) (ltb p pos) _ _
       ∙ ap (cond (ltb p pos) (pick ms (setAt rs p)))
       (cond-ap (pick ms) (ltb p (pos + l)) _ _ ∙ ap (λ x. cond (ltb p (pos + l)) x (pick ms (setAt rs (p - l)))) e))
 
 -- ---- sets changed in a range
 module _ (rs : List Run) (a b : ℕ) (f : ℕ → ℕ) (up : a ≤ b) (fits : b ≤ total rs) where
-  altered-at : (p : ℕ) → setAt (altered rs a b f) p ≡ cond (within a b p) (f (setAt rs p)) (setAt rs p)
-  altered-at p =
-      elim (decLt p a) [
-        | yes h ↦ altered-out rs a b f up fits p (λ x y. omega arith) (omega arith) ∙ sym (range-before a b p _ _ h)
-        | no h ↦
-            elim (decLt p b) [
-              | yes k ↦ altered-in rs a b f up fits p (omega arith) k ∙ sym (range-in a b p _ _ (omega arith) k)
-              | no k ↦
-                  elim (decLt p (total rs)) [
-                    | yes j ↦ altered-out rs a b f up fits p (λ x y. omega arith) j ∙ sym (range-past a b p _ _ (omega arith))
-                    | no j ↦
-                        at-past (altered rs a b f) p (omega (arith, total-altered rs a b f up fits)) ∙ sym (at-past rs p (omega arith))
-                        ∙ sym (range-past a b p _ _ (omega arith))
-                  ]
-            ]
-      ]
-
   -- where f does to a set's bits what g does to its marks
   module _ (ms : List Mark) (g : List Mark → List Mark) (does : (s : ℕ) → pick ms (f s) ≡ g (pick ms s)) where
     marks-altered : (p : ℕ) → pick ms (setAt (altered rs a b f) p) ≡ cond (within a b p) (g (pick ms (setAt rs p))) (pick ms (setAt rs p))
     marks-altered p =
-        ap (pick ms) (altered-at p) ∙ cond-ap (pick ms) (within a b p) _ _
+        ap (pick ms) (at-altered rs a b f up fits p) ∙ cond-ap (pick ms) (within a b p) _ _
         ∙ ap (λ x. cond (within a b p) x (pick ms (setAt rs p))) (does (setAt rs p))
 
 pub view-annotated : (rs : List Run) (a b : ℕ) (f : ℕ → ℕ) → a ≤ b → b ≤ total rs → (ms : List Mark) (m : Mark) (t : Bool)

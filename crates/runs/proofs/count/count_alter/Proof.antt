@@ -1,11 +1,13 @@
 -- `count::count_alter` meets its contract: the part before a, the part a .. b altered, the part from b on.
-use mathlib.Core.Path.{_≡_}
+use mathlib.Core.Path.{_≡_, ap, _∙_}
 use mathlib.Core.List.{[]}
 use native.Mathlib.Omega.{arith}
+use lib.ListN.{length}
 use borrow.Author.Needs.{needs}
 use Rattle.runs.specs.Runs.{runs, copyRuns, changing, adding}
-use Rattle.runs.specs.Edits.{part, altered}
+use Rattle.runs.proofs.Copies.{part, altered}
 use Rattle.runs.specs.Count.{tallyOf}
+use Rattle.runs.proofs.EditLaws.{one-joined, altered-joined}
 use Rattle.runs.proofs.TallyLaws.{count-is, copied-most}
 use Rattle.runs.proofs.count.count_alter.Statement.{statement}
 use Rattle.runs.proofs.count.count_alter.Tie as tie
@@ -46,7 +48,9 @@ returns : tie.Need-returns
 unfolding altered
 returns c =
     let s = c .before .before .before .before .before .before in
-    rw (← s .pre .1) (count-is _ _ (c .count-part3 .ensures _ (second (c .before))))
+    λ out j.
+    (rw (← s .pre .1 .0) (count-is _ _ (c .count-part3 .ensures _ (second (c .before)))))
+    ∙ ap length (one-joined (altered-joined (runs (s .args .lens .now) (s .args .sets .now) (s .args .m)) (s .args .all) (s .pre .1 .0) (s .args .a) (s .args .b) (changing (s .args .bits) (s .args .drop)) (s .pre .1 .1) (s .pre .1 .2)) j)
 
 pub count-alter-spec : {M : Type 1} → statement M
 count-alter-spec =

@@ -1,11 +1,13 @@
 -- `count::count_delete` meets its contract: the part before a, then the part from b on.
-use mathlib.Core.Path.{_≡_}
+use mathlib.Core.Path.{_≡_, ap, _∙_}
 use mathlib.Core.List.{[]}
 use native.Mathlib.Omega.{arith}
+use lib.ListN.{length}
 use borrow.Author.Needs.{needs}
 use Rattle.runs.specs.Runs.{runs, adding}
-use Rattle.runs.specs.Edits.{part, deleted}
+use Rattle.runs.proofs.Copies.{part, deleted}
 use Rattle.runs.specs.Count.{tallyOf}
+use Rattle.runs.proofs.EditLaws.{one-joined, deleted-joined}
 use Rattle.runs.proofs.TallyLaws.{count-is, copied-most}
 use Rattle.runs.proofs.count.count_delete.Statement.{statement}
 use Rattle.runs.proofs.count.count_delete.Tie as tie
@@ -27,7 +29,9 @@ returns : tie.Need-returns
 unfolding deleted
 returns c =
     let s = c .before .before .before .before .before in
-    rw (← s .pre .1) (count-is _ _ (c .count-part2 .ensures _ (first (c .before))))
+    λ out j.
+    (rw (← s .pre .1 .0) (count-is _ _ (c .count-part2 .ensures _ (first (c .before)))))
+    ∙ ap length (one-joined (deleted-joined (runs (s .args .lens .now) (s .args .sets .now) (s .args .m)) (s .args .all) (s .pre .1 .0) (s .args .a) (s .args .b) (s .pre .1 .1) (s .pre .1 .2)) j)
 
 pub count-delete-spec : {M : Type 1} → statement M
 count-delete-spec = tie.close (tie.spec (λ c κs. search needs) count-part-requires count-part-requires-2 returns)

@@ -1,12 +1,14 @@
 -- `count::count_insert` meets its contract: the part before pos, the new positions, the part from pos on.
-use mathlib.Core.Path.{_≡_}
+use mathlib.Core.Path.{_≡_, ap, _∙_}
 use mathlib.Core.List.{[]}
 use native.Mathlib.Omega.{arith}
+use lib.ListN.{length}
 use borrow.Author.Needs.{needs}
 use Rattle.runs.specs.Runs.{runs, pushRun, adding}
-use Rattle.runs.specs.Edits.{part, inserted}
+use Rattle.runs.proofs.Copies.{part, inserted}
 use Rattle.runs.specs.Count.{tallyOf}
 use Rattle.runs.proofs.Laws.{length-push}
+use Rattle.runs.proofs.EditLaws.{one-joined, inserted-joined}
 use Rattle.runs.proofs.TallyLaws.{count-is, copied-most}
 use Rattle.runs.proofs.count.count_insert.Statement.{statement}
 use Rattle.runs.proofs.count.count_insert.Tie as tie
@@ -46,7 +48,9 @@ returns : tie.Need-returns
 unfolding inserted
 returns c =
     let s = c .before .before .before .before .before .before in
-    rw (← s .pre .1) (count-is _ _ (c .count-part2 .ensures _ (second (c .before))))
+    λ out j.
+    (rw (← s .pre .1 .0) (count-is _ _ (c .count-part2 .ensures _ (second (c .before)))))
+    ∙ ap length (one-joined (inserted-joined (runs (s .args .lens .now) (s .args .sets .now) (s .args .m)) (s .args .all) (s .pre .1 .0) (s .args .pos) (s .args .len) (s .args .set) (s .pre .1 .1)) j)
 
 pub count-insert-spec : {M : Type 1} → statement M
 count-insert-spec =
