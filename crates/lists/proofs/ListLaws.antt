@@ -10,9 +10,9 @@ use borrow.Author.Tests.{lt-ltb, le-ltb, le-leb, lt-leb, ne-eqb}
 use Rattle.styles.proofs.CountLaws.{pick-length}
 use Rattle.styles.proofs.SameLaws.{same-pick}
 use Rattle.runs.specs.Runs.{setAt}
-use Rattle.runs.specs.Positions.{asNumbers}
-use Rattle.runs.specs.Stretches.{clipped, inFront, listed, CanList}
-use Rattle.runs.proofs.PositionLaws.{clipped-is, at-ext, at-none}
+use Rattle.runs.specs.Positions.{stretchesAt, asNumbers}
+use Rattle.runs.specs.Stretches.{alikeIn, marksIn, listed, inFront, CanList}
+use Rattle.runs.proofs.PositionLaws.{at-ext, at-none}
 use Rattle.tank.specs.declared.Tank.{Tank}
 use Rattle.lists.specs.declared.Listed.{Listed}
 use Rattle.tank.specs.Rules.{View}
@@ -24,32 +24,33 @@ use Rattle.tank.proofs.Unique.{inside-table}
 
 -- ---- by position and by runs
 module _ {t : Tank} (f : Laid t) where
-  over-is : (a b : ℕ) → b ≤ t .length → clipped a b (runsOf t) ≡ stretchesOver a b (view t)
+  over-is : (a b : ℕ) → stretchesAt (alikeIn (runsOf t)) (marksIn (runsOf t)) a b ≡ stretchesOver a b (view t)
   unfolding view
-  over-is a b h =
-      clipped-is (runsOf t) a b (f .canon) (omega (arith, f .sum))
-      ∙ at-ext _ _ _ _ a b
+  over-is a b =
+      at-ext _ _ _ _ a b
       (λ p x y.
       sym
       (same-pick (tableOf t) (setAt (runsOf t) p) (setAt (runsOf t) (suc p)) (f .sorted) (at-inside (runsOf t) _ p (inside-table f))
       (at-inside (runsOf t) _ (suc p) (inside-table f))))
       (λ p x y. sym (pick-length (tableOf t) (setAt (runsOf t) p) (at-inside (runsOf t) _ p (inside-table f))))
 
-  pub range-is : (a b : ℕ) → b ≤ t .length → listed 0 a b (t .lens) (t .sets) (t .runs) ≡ rangeList a b (view t)
+  pub range-is : (a b : ℕ) → listed 0 a b (t .lens) (t .sets) (t .runs) ≡ rangeList a b (view t)
   unfolding rangeList
-  range-is a b h = ap (asNumbers 0) (over-is a b h)
+  range-is a b = ap (asNumbers 0) (over-is a b)
 
   pub whole-is : listed 1 0 (t .length) (t .lens) (t .sets) (t .runs) ≡ wholeList (view t)
   unfolding wholeList view
-  whole-is = ap (asNumbers 1) (over-is 0 (t .length) (omega arith))
+  whole-is = ap (asNumbers 1) (over-is 0 (t .length))
 
   -- what writing the lists asks: room for what is needed
   pub can-range : (a b : ℕ) (out : List ℕ) → b ≤ t .length → length (rangeList a b (view t)) ≤ length out
       → CanList 0 a b (t .lens) (t .sets) (t .runs) out
-  can-range a b out h g = record { look = can-look f; room = omega (arith, ap length (range-is a b h)) }
+  can-range a b out h g =
+      record { scan = record { look = can-look f; reach = omega (arith, f .sum) }; joined = f .canon; room = omega (arith, ap length (range-is a b)) }
 
   pub can-whole : (out : List ℕ) → length (wholeList (view t)) ≤ length out → CanList 1 0 (t .length) (t .lens) (t .sets) (t .runs) out
-  can-whole out g = record { look = can-look f; room = omega (arith, ap length whole-is) }
+  can-whole out g =
+      record { scan = record { look = can-look f; reach = omega (arith, f .sum) }; joined = f .canon; room = omega (arith, ap length whole-is) }
 
 -- ---- the refusals of a range
 module _ (a b : ℕ) (v : View) where

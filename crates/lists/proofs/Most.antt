@@ -8,7 +8,8 @@ use Rattle.styles.specs.declared.Mark.{Mark}
 use Rattle.styles.specs.Bits.{pick}
 use Rattle.styles.proofs.CountLaws.{length-keep}
 use Rattle.styles.proofs.PickLaws.{pick-cons}
-use Rattle.runs.proofs.ListLaws.{listed-most}
+use Rattle.runs.proofs.ListLaws.{clipped-most}
+use Rattle.runs.proofs.PositionLaws.{listed-is}
 use Rattle.tank.specs.declared.Tank.{Tank}
 use Rattle.tank.specs.State.{tableOf, view, Laid}
 use Rattle.tank.proofs.Unique.{table-length}
@@ -81,7 +82,19 @@ anchors-most {t} f =
 -- ---- stretches
 module _ {t : Tank} (f : Laid t) where
   pub range-most : (a b : ℕ) → b ≤ t .length → length (rangeList a b (view t)) ≤ 3 * t .runs
-  range-most a b h = omega (arith, ap length (range-is f a b h), listed-most 0 a b (t .lens) (t .sets) (t .runs))
+  range-most a b h =
+      omega (
+        arith,
+        ap length (range-is f a b),
+        ap length (listed-is 0 a b (t .lens) (t .sets) (t .runs) (f .canon) (omega (arith, f .sum))),
+        clipped-most 0 a b (t .lens) (t .sets) (t .runs),
+      )
 
   pub whole-most : length (wholeList (view t)) ≤ 3 * t .runs
-  whole-most = omega (arith, ap length (whole-is f), listed-most 1 0 (t .length) (t .lens) (t .sets) (t .runs))
+  whole-most =
+      omega (
+        arith,
+        ap length (whole-is f),
+        ap length (listed-is 1 0 (t .length) (t .lens) (t .sets) (t .runs) (f .canon) (omega (arith, f .sum))),
+        clipped-most 1 0 (t .length) (t .lens) (t .sets) (t .runs),
+      )

@@ -13,7 +13,8 @@ use lib.ListN.{length, getD, set, take, drop, length-append, length-drop}
 use lib.Seq.{sets-eq, take-at, drop-append-add, drop-drop}
 use Rattle.runs.specs.Runs.{Run, run, runs, total}
 use Rattle.runs.specs.Positions.{stretch, asNumbers}
-use Rattle.runs.specs.Stretches.{clipped, entry, inFront, listed}
+use Rattle.runs.specs.Stretches.{entry, inFront}
+use Rattle.runs.proofs.Clipped.{clipped, clippedList}
 
 -- ---- the numbers of one run
 pub entry-past : (least a b c : ℕ) → b ≤ a → entry least a b c ≡ []
@@ -60,31 +61,31 @@ numbers-more least from to r rs = go (ltb (max from (total rs)) (min to (total r
     go false e = sym (append-nil (asNumbers least (clipped from to rs)))
 
 module _ (least from to : ℕ) (lens sets : List ℕ) where
-  pub listed-more : (k : ℕ) → listed least from to lens sets (k + 1)
-      ≡ listed least from to lens sets k ++ entry least (max from (total (runs lens sets k))) (min to (total (runs lens sets k) + getD lens k 0)) (ones (getD sets k 0))
+  pub clipped-more : (k : ℕ) → clippedList least from to lens sets (k + 1)
+      ≡ clippedList least from to lens sets k ++ entry least (max from (total (runs lens sets k))) (min to (total (runs lens sets k) + getD lens k 0)) (ones (getD sets k 0))
   unfolding runs
-  listed-more k = rw add-one (numbers-more least from to (run (getD lens k 0) (getD sets k 0)) (runs lens sets k))
+  clipped-more k = rw add-one (numbers-more least from to (run (getD lens k 0) (getD sets k 0)) (runs lens sets k))
 
-  pub listed-grows : (k n : ℕ) → k ≤ n → length (listed least from to lens sets k) ≤ length (listed least from to lens sets n)
-  listed-grows k zero h = let e : k ≡ 0 = omega arith in rw e (omega arith)
-  listed-grows k (suc n) h =
+  pub clipped-grows : (k n : ℕ) → k ≤ n → length (clippedList least from to lens sets k) ≤ length (clippedList least from to lens sets n)
+  clipped-grows k zero h = let e : k ≡ 0 = omega arith in rw e (omega arith)
+  clipped-grows k (suc n) h =
       elim (decLe k n) [
         | yes g ↦
-            let e = ap length (listed-more n) in
-            let a = length-append (listed least from to lens sets n) (entry least (max from (total (runs lens sets n))) (min to (total (runs lens sets n) + getD lens n 0)) (ones (getD sets n 0))) in
-            rw (← add-one n) (omega (arith, listed-grows k n g))
+            let e = ap length (clipped-more n) in
+            let a = length-append (clippedList least from to lens sets n) (entry least (max from (total (runs lens sets n))) (min to (total (runs lens sets n) + getD lens n 0)) (ones (getD sets n 0))) in
+            rw (← add-one n) (omega (arith, clipped-grows k n g))
         | no g ↦ let e : k ≡ suc n = omega arith in rw e (omega arith)
       ]
 
-  pub listed-most : (n : ℕ) → length (listed least from to lens sets n) ≤ 3 * n
+  pub clipped-most : (n : ℕ) → length (clippedList least from to lens sets n) ≤ 3 * n
   unfolding runs clipped asNumbers
-  listed-most zero = omega arith
-  listed-most (suc n) =
+  clipped-most zero = omega arith
+  clipped-most (suc n) =
       omega (
         arith,
-        listed-most n,
+        clipped-most n,
         ap length (numbers-more least from to (run (getD lens n 0) (getD sets n 0)) (runs lens sets n)),
-        length-append (listed least from to lens sets n) (entry least (max from (total (runs lens sets n))) (min to (total (runs lens sets n) + getD lens n 0)) (ones (getD sets n 0))),
+        length-append (clippedList least from to lens sets n) (entry least (max from (total (runs lens sets n))) (min to (total (runs lens sets n) + getD lens n 0)) (ones (getD sets n 0))),
         entry-most least (max from (total (runs lens sets n))) (min to (total (runs lens sets n) + getD lens n 0)) (ones (getD sets n 0)),
       )
 

@@ -9,15 +9,12 @@ use native.Mathlib.Numerals.{sub-one}
 use borrow.Author.Tests.{lt-ltb, le-ltb, le-leb, lt-leb, eq-eqb, ne-eqb}
 use lib.Count.{ones}
 use lib.Dec.{eqb}
-use Rattle.runs.specs.Runs.{Run, total, setAt, Other, Canon}
-use Rattle.runs.specs.Positions.{Stretch, stretch, extended, stretchesAt}
-use Rattle.runs.specs.Stretches.{clipped}
+use lib.ListN.{length}
+use Rattle.runs.specs.Runs.{Run, runs, total, setAt, Other, Canon}
+use Rattle.runs.specs.Positions.{Stretch, stretch, extended, stretchesAt, asNumbers}
+use Rattle.runs.specs.Stretches.{alikeIn, marksIn, listed, CanList}
+use Rattle.runs.proofs.Clipped.{clipped, clippedList, Fits}
 use Rattle.runs.proofs.Laws.{at-in, at-last}
-use Rattle.runs.proofs.StretchLaws.{alikeIn}
-
--- how many marks a position has
-abbrev pub marksIn : List Run → ℕ → ℕ
-marksIn rs p = ones (setAt rs p)
 
 stretch-eq : (a a′ b b′ c c′ : ℕ) (xs ys : List Stretch) → a ≡ a′ → b ≡ b′ → c ≡ c′ → xs ≡ ys → stretch a b c ∷ xs ≡ stretch a′ b′ c′ ∷ ys
 stretch-eq a a′ b b′ c c′ xs ys e f g h = λ i. stretch (e i) (f i) (g i) ∷ h i
@@ -177,3 +174,15 @@ clipped-is (r ∷ rs) from to c h =
                 ∙ ap (stretchesAt (alikeIn (r ∷ rs)) (marksIn (r ∷ rs)) from) e
           ]
     ]
+
+-- the list by position is the one by runs
+pub listed-is : (least from to : ℕ) (lens sets : List ℕ) (n : ℕ) → Canon (runs lens sets n) → to ≤ total (runs lens sets n)
+    → listed least from to lens sets n ≡ clippedList least from to lens sets n
+listed-is least from to lens sets n c h = ap (asNumbers least) (sym (clipped-is (runs lens sets n) from to c h))
+
+pub fits-of : {least from to : ℕ} {lens sets : List ℕ} {n : ℕ} {out : List ℕ} → CanList least from to lens sets n out → Fits least from to lens sets n out
+fits-of {least} {from} {to} {lens} {sets} {n} can =
+    record {
+      look = can .scan .look;
+      room = omega (arith, can .room, ap length (listed-is least from to lens sets n (can .joined) (can .scan .reach)));
+    }

@@ -9,12 +9,9 @@ use lib.ListN.{length}
 use borrow.Author.Tests.{eq-eqb, ne-eqb}
 use Rattle.runs.specs.Runs.{Run, total, setAt, Other, Canon}
 use Rattle.runs.specs.Positions.{sumBelow, starts, stretchCount}
+use Rattle.runs.specs.Stretches.{alikeIn}
 use Rattle.runs.proofs.Laws.{at-in, at-last}
 use Rattle.runs.proofs.SumLaws.{sum-same}
-
--- the positions p and p + 1 have one set
-abbrev pub alikeIn : List Run → ℕ → Bool
-alikeIn rs p = eqb (setAt rs p) (setAt rs (suc p))
 
 -- ---- tests that agree count alike
 starts-ext : (f g : ℕ → Bool) (n : ℕ) → ((p : ℕ) → suc p ≤ n → f p ≡ g p) → starts f n ≡ starts g n

@@ -15,10 +15,9 @@ use Rattle.runs.specs.Gather.{gather, Renumbered}
 use Rattle.runs.specs.Positions.{sumBelow, anyAt, allAt, stretchTo, starts, stretchCount, stretch, extended, stretchesAt, asNumbers}
 use Rattle.runs.specs.Scan.{meets, shows, passes, commonAt}
 use Rattle.runs.specs.Count.{tallyOf}
-use Rattle.runs.specs.Stretches.{clipped, entry, inFront, listed}
+use Rattle.runs.specs.Stretches.{alikeIn, marksIn, listed, entry, inFront}
+use Rattle.runs.proofs.Clipped.{clipped}
 use Rattle.runs.proofs.MapLaws.{AllSets, mapRuns}
-use Rattle.runs.proofs.StretchLaws.{alikeIn}
-use Rattle.runs.proofs.PositionLaws.{marksIn}
 
 -- ten positions with no bit, then five with bit 1
 t : List Run
@@ -216,7 +215,7 @@ unfolding asNumbers
 as-numbers = refl
 
 marked : listed 1 8 12 (10 ∷ 5 ∷ []) (0 ∷ 2 ∷ []) 2 ≡ 10 ∷ 12 ∷ 1 ∷ []
-unfolding asNumbers clipped runs ones onesIn
+unfolding asNumbers stretchesAt extended setAt total runs ones onesIn
 marked = refl
 
 entries : (entry 1 8 10 0 ≡ []) × (entry 0 8 10 0 ≡ 8 ∷ 10 ∷ 0 ∷ []) × (entry 0 8 8 3 ≡ [])

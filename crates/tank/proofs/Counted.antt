@@ -15,7 +15,8 @@ use Rattle.runs.specs.Positions.{stretchCount}
 use Rattle.runs.specs.Gather.{gather}
 use Rattle.runs.proofs.Laws.{at-past}
 use Rattle.runs.proofs.GatherLaws.{set-within}
-use Rattle.runs.proofs.StretchLaws.{alikeIn, stretch-count-ext, count-stretches}
+use Rattle.runs.specs.Stretches.{alikeIn}
+use Rattle.runs.proofs.StretchLaws.{stretch-count-ext, count-stretches}
 use Rattle.tank.specs.Rules.{alike}
 
 -- a set at a position is no more than all sets together

@@ -35,7 +35,7 @@ returns-3 c =
     let v = view (s .args .t) in
     let n = needed-some (s .args .start) (s .args .end) v (a .result) (a .ensures) (d .if1 .left) in
     handed-full (rangeRefusal (s .args .start) (s .args .end) v) (rangeList (s .args .start) (s .args .end) v) _ (s .args .out .now) _ _ (n .0)
-    (range-is (s .pre .formed .laid) (s .args .start) (s .args .end) (n .1)) (omega (arith, n .2, e .if2 .left)) (w .ensures .0) (w .ensures .1)
+    (range-is (s .pre .formed .laid) (s .args .start) (s .args .end)) (omega (arith, n .2, e .if2 .left)) (w .ensures .0) (w .ensures .1)
 
 list-range-requires : tie.Need-list-range-requires
 unfolding view

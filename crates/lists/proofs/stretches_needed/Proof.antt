@@ -20,14 +20,17 @@ returns-2 c =
     needed-over (s .args .start) (s .args .end) (view (s .args .t)) (omega arith) (c .if2 .taken)
 
 need-range-requires : tie.Need-need-range-requires
-need-range-requires c κs = search needs
+need-range-requires c κs =
+    let s = c .before .before .before .before .before .before .before in
+    let f = s .pre .formed .laid in
+    (search needs, f .canon, omega (arith, f .sum))
 
 returns-3 : tie.Need-returns-3
 unfolding view
 returns-3 c =
     let s = c .before .before .before .before .before .before .before .before in
     needed-is (s .args .start) (s .args .end) (view (s .args .t)) _ (omega arith) (omega arith)
-    (c .need-range .ensures ∙ ap length (range-is (s .pre .formed .laid) (s .args .start) (s .args .end) (omega arith)))
+    (c .need-range .ensures ∙ ap length (range-is (s .pre .formed .laid) (s .args .start) (s .args .end)))
 
 pub stretches-needed-spec : {M : Type 1} → statement M
 stretches-needed-spec =

@@ -1,4 +1,5 @@
 -- `lists::whole_needed` meets its contract: the count of the runs' list.
+use native.Mathlib.Omega.{arith}
 use mathlib.Core.Path.{ap, _∙_}
 use borrow.Author.Needs.{needs}
 use lib.ListN.{length}
@@ -8,8 +9,13 @@ use Rattle.lists.proofs.whole_needed.Tie as tie
 use Rattle.lists.proofs.whole_needed.Reads as reads
 use Rattle.lists.proofs.whole_needed.Lts as lts
 
+need-marked-requires : tie.Need-need-marked-requires
+need-marked-requires c κs =
+    let f = c .before .before .before .before .pre .formed .laid in
+    (search needs, f .canon, omega (arith, f .sum))
+
 returns : tie.Need-returns
 returns c = c .need-marked .ensures ∙ ap length (whole-is (c .before .before .before .before .before .pre .formed .laid))
 
 pub whole-needed-spec : {M : Type 1} → statement M
-whole-needed-spec = tie.close (tie.spec (λ c. search needs) (λ c. search needs) (λ c κs. search needs) returns)
+whole-needed-spec = tie.close (tie.spec (λ c. search needs) (λ c. search needs) need-marked-requires returns)

@@ -8,9 +8,11 @@ use lib.Count.{ones}
 use lib.ListN.{length, getD, take, drop, length-append}
 use Rattle.runs.specs.Runs.{runs, total}
 use Rattle.runs.specs.Positions.{asNumbers}
-use Rattle.runs.specs.Stretches.{clipped, entry, inFront, listed, CanList}
+use Rattle.runs.specs.Stretches.{entry, inFront}
+use Rattle.runs.proofs.Clipped.{clipped, clippedList, Fits}
+use Rattle.runs.proofs.PositionLaws.{listed-is, fits-of}
 use Rattle.runs.proofs.Laws.{total-more, total-mono}
-use Rattle.runs.proofs.ListLaws.{listed-more, listed-grows, front-write, front-length}
+use Rattle.runs.proofs.ListLaws.{clipped-more, clipped-grows, front-write, front-length}
 use Rattle.runs.proofs.stretches.list.Statement.{statement}
 use Rattle.runs.proofs.stretches.list.Tie as tie
 use Rattle.runs.proofs.stretches.list.Reads as reads
@@ -23,8 +25,8 @@ use Rattle.runs.proofs.stretches.write.Reads as write-reads
 record Listed (lens sets : List ℕ) (n from to least : ℕ) (out₀ out : List ℕ) (k start at : ℕ) : Type 0 where
   within : k ≤ n
   begun : start ≡ total (runs lens sets k)
-  place : at ≡ length (listed least from to lens sets k)
-  done : out ≡ inFront (listed least from to lens sets k) out₀
+  place : at ≡ length (clippedList least from to lens sets k)
+  done : out ≡ inFront (clippedList least from to lens sets k) out₀
 
 -- the entry of a turn's run
 abbrev more : ℕ → ℕ → ℕ → ℕ → ℕ → ℕ → List ℕ
@@ -37,24 +39,24 @@ placed xs es out₀ out at e g h = rw (g, e) (front-write xs es out₀ h)
 
 -- a turn: what the call asks, and the invariant after it
 module _ {lens sets : List ℕ} {n from to least : ℕ} {out₀ out : List ℕ} {k start at : ℕ}
-    (can : CanList least from to lens sets n out₀) (inv : Listed lens sets n from to least out₀ out k start at) (in-turn : k < n) where
+    (can : Fits least from to lens sets n out₀) (inv : Listed lens sets n from to least out₀ out k start at) (in-turn : k < n) where
   turn-end : start + getD lens k 0 < 2 ^ 63
   turn-end = omega (arith, total-more lens sets k, total-mono lens sets (k + 1) n (omega arith))
 
-  turn-list : listed least from to lens sets (k + 1) ≡ listed least from to lens sets k ++ more least from to start (getD lens k 0) (getD sets k 0)
-  turn-list = rw (inv .begun) (listed-more least from to lens sets k)
+  turn-list : clippedList least from to lens sets (k + 1) ≡ clippedList least from to lens sets k ++ more least from to start (getD lens k 0) (getD sets k 0)
+  turn-list = rw (inv .begun) (clipped-more least from to lens sets k)
 
-  turn-fits : length (listed least from to lens sets k) + length (more least from to start (getD lens k 0) (getD sets k 0)) ≤ length out₀
+  turn-fits : length (clippedList least from to lens sets k) + length (more least from to start (getD lens k 0) (getD sets k 0)) ≤ length out₀
   turn-fits =
       omega (
         arith,
         ap length turn-list,
-        length-append (listed least from to lens sets k) (more least from to start (getD lens k 0) (getD sets k 0)),
-        listed-grows least from to lens sets (k + 1) n (omega arith),
+        length-append (clippedList least from to lens sets k) (more least from to start (getD lens k 0) (getD sets k 0)),
+        clipped-grows least from to lens sets (k + 1) n (omega arith),
       )
 
   turn-room : at + length (more least from to start (getD lens k 0) (getD sets k 0)) ≤ length out
-  turn-room = omega (arith, turn-fits, ap length (inv .done), front-length (listed least from to lens sets k) out₀ (omega (arith, turn-fits)))
+  turn-room = omega (arith, turn-fits, ap length (inv .done), front-length (clippedList least from to lens sets k) out₀ (omega (arith, turn-fits)))
 
   turn : (out′ : List ℕ) (at′ : ℕ)
       → out′ ≡ take at out ++ more least from to start (getD lens k 0) (getD sets k 0) ++ drop (at + length (more least from to start (getD lens k 0) (getD sets k 0))) out
@@ -65,17 +67,17 @@ module _ {lens sets : List ℕ} {n from to least : ℕ} {out₀ out : List ℕ} 
         within = omega arith;
         begun = omega (arith, total-more lens sets k);
         place =
-            omega (arith, ap length turn-list, length-append (listed least from to lens sets k) (more least from to start (getD lens k 0) (getD sets k 0)));
+            omega (arith, ap length turn-list, length-append (clippedList least from to lens sets k) (more least from to start (getD lens k 0) (getD sets k 0)));
         done =
             e
-            ∙ placed (listed least from to lens sets k) (more least from to start (getD lens k 0) (getD sets k 0)) out₀ out at (inv .place) (inv .done) turn-fits
+            ∙ placed (clippedList least from to lens sets k) (more least from to start (getD lens k 0) (getD sets k 0)) out₀ out at (inv .place) (inv .done) turn-fits
             ∙ ap (λ (x : List ℕ). inFront x out₀) (sym turn-list);
       }
 
-kept : {lens sets : List ℕ} {n from to least : ℕ} {out₀ out : List ℕ} {k start at : ℕ} → CanList least from to lens sets n out₀
+kept : {lens sets : List ℕ} {n from to least : ℕ} {out₀ out : List ℕ} {k start at : ℕ} → Fits least from to lens sets n out₀
     → Listed lens sets n from to least out₀ out k start at → length out ≡ length out₀
 kept {lens} {sets} {n} {from} {to} {least} {out₀} {k = k} can inv =
-    ap length (inv .done) ∙ front-length (listed least from to lens sets k) out₀ (omega (arith, listed-grows least from to lens sets k n (inv .within)))
+    ap length (inv .done) ∙ front-length (clippedList least from to lens sets k) out₀ (omega (arith, clipped-grows least from to lens sets k n (inv .within)))
 
 abbrev Inv-loop : tie.InvT-loop
 Inv-loop lens sets n from to least out₀ k₀ start₀ at₀ out k start at = Listed lens sets n from to least out₀ out k start at
@@ -90,7 +92,7 @@ loop-holds c = record { within = omega arith; begun = refl; place = refl; done =
 add-end : tie.Need-add-end Inv-loop μ-loop
 add-end c =
     let i = c .before in
-    omega (arith, turn-end (i .before .before .before .before .before .pre) (i .before .loop .inv) (omega arith))
+    omega (arith, turn-end (fits-of (i .before .before .before .before .before .pre)) (i .before .loop .inv) (omega arith))
 
 -- what the write of a turn is handed
 handed : (c : tie.After-marks-of Inv-loop μ-loop) → let i = c .before .before .before .before .before .before in
@@ -104,20 +106,23 @@ handed c = (c .before .before .before .before .later .ensures, c .before .before
 write-requires : tie.Need-write-requires Inv-loop μ-loop
 write-requires c κs =
     let i = c .before .before .before .before .before .before in
-    rw (handed c .0, handed c .1, handed c .2) (turn-room (i .before .before .before .before .before .pre) (i .before .loop .inv) (omega arith))
+    rw (handed c .0, handed c .1, handed c .2) (turn-room (fits-of (i .before .before .before .before .before .pre)) (i .before .loop .inv) (omega arith))
 
 loop-again : tie.Need-loop-again Inv-loop μ-loop
 loop-again c =
     let w = c .before .before in
     let g = w .before in
     let i = g .before .before .before .before .before .before in
-    turn (i .before .before .before .before .before .pre) (i .before .loop .inv) (omega arith) _ _
+    turn (fits-of (i .before .before .before .before .before .pre)) (i .before .loop .inv) (omega arith) _ _
     (rw (← handed g .0, ← handed g .1, ← handed g .2) (w .write .ensures .0)) (rw (← handed g .0, ← handed g .1, ← handed g .2) (w .write .ensures .1))
 
 returns : tie.Need-returns Inv-loop μ-loop
 returns c =
-    let e : c .before .loop .k ≡ c .before .before .before .before .before .args .n = omega arith in
-    (rw (← e) (c .before .loop .inv .done), rw (← e) (c .before .loop .inv .place))
+    let s = c .before .before .before .before .before in
+    let a = s .args in
+    let e : c .before .loop .k ≡ a .n = omega arith in
+    let by-runs = listed-is (a .least) (a .from) (a .to) (a .lens .now) (a .sets .now) (a .n) (s .pre .joined) (s .pre .scan .reach) in
+    (rw (by-runs, ← e) (c .before .loop .inv .done), rw (by-runs, ← e) (c .before .loop .inv .place))
 
 pub list-spec : {M : Type 1} → statement M
 list-spec =
@@ -138,5 +143,5 @@ list-spec =
     (λ c. omega arith)
     (λ c. omega arith)
     loop-again
-    (λ c. kept (c .before .before .before .before .before .pre) (c .before .loop .inv))
+    (λ c. kept (fits-of (c .before .before .before .before .before .pre)) (c .before .loop .inv))
     returns)

@@ -9,9 +9,11 @@ use lib.ListN.{length, getD, length-append}
 use Rattle.runs.specs.Runs.{runs, total}
 use Rattle.runs.specs.Count.{CanTally}
 use Rattle.runs.specs.Positions.{asNumbers}
-use Rattle.runs.specs.Stretches.{clipped, entry, listed}
+use Rattle.runs.specs.Stretches.{entry}
+use Rattle.runs.proofs.Clipped.{clipped, clippedList}
+use Rattle.runs.proofs.PositionLaws.{listed-is}
 use Rattle.runs.proofs.Laws.{total-more, total-mono}
-use Rattle.runs.proofs.ListLaws.{listed-more, listed-most, entry-most}
+use Rattle.runs.proofs.ListLaws.{clipped-more, clipped-most, entry-most}
 use Rattle.runs.proofs.stretches.need.Statement.{statement}
 use Rattle.runs.proofs.stretches.need.Tie as tie
 use Rattle.runs.proofs.stretches.need.Reads as reads
@@ -24,14 +26,14 @@ use Rattle.runs.proofs.stretches.width.Reads as width-reads
 record Needed (lens sets : List ℕ) (n from to least k start count : ℕ) : Type 0 where
   within : k ≤ n
   begun : start ≡ total (runs lens sets k)
-  place : count ≡ length (listed least from to lens sets k)
+  place : count ≡ length (clippedList least from to lens sets k)
 
 module _ {lens sets : List ℕ} {n from to least k start count : ℕ} (can : CanTally lens sets n) (inv : Needed lens sets n from to least k start count) (in-turn : k < n) where
   turn-end : start + getD lens k 0 < 2 ^ 63
   turn-end = omega (arith, total-more lens sets k, total-mono lens sets (k + 1) n (omega arith))
 
   small : count < 3 * 2 ^ 62
-  small = omega (arith, listed-most least from to lens sets k)
+  small = omega (arith, clipped-most least from to lens sets k)
 
   turn : (more : ℕ) → more ≡ length (entry least (max from start) (min to (start + getD lens k 0)) (ones (getD sets k 0)))
       → Needed lens sets n from to least (k + 1) (start + getD lens k 0) (count + more)
@@ -41,12 +43,12 @@ module _ {lens sets : List ℕ} {n from to least k start count : ℕ} (can : Can
         begun = omega (arith, total-more lens sets k);
         place =
             let b = inv .begun in
-            let l : length (listed least from to lens sets (k + 1)) ≡ length (listed least from to lens sets k ++ entry least (max from start) (min to (start + getD lens k 0)) (ones (getD sets k 0))) =
-            rw b (ap length (listed-more least from to lens sets k))
+            let l : length (clippedList least from to lens sets (k + 1)) ≡ length (clippedList least from to lens sets k ++ entry least (max from start) (min to (start + getD lens k 0)) (ones (getD sets k 0))) =
+            rw b (ap length (clipped-more least from to lens sets k))
             in
             omega (
               arith,
-              length-append (listed least from to lens sets k) (entry least (max from start) (min to (start + getD lens k 0)) (ones (getD sets k 0))),
+              length-append (clippedList least from to lens sets k) (entry least (max from start) (min to (start + getD lens k 0)) (ones (getD sets k 0))),
             );
       }
 
@@ -63,7 +65,7 @@ loop-holds c = record { within = omega arith; begun = refl; place = refl }
 add-end : tie.Need-add-end Inv-loop μ-loop
 add-end c =
     let i = c .before in
-    omega (arith, turn-end (i .before .before .before .before .pre) (i .before .loop .inv) (omega arith))
+    omega (arith, turn-end (i .before .before .before .before .pre .0) (i .before .loop .inv) (omega arith))
 
 -- what the turn adds
 added : (c : tie.After-width Inv-loop μ-loop) → let i = c .before .before .before .before .before .before in
@@ -84,7 +86,7 @@ add-count c =
     let a = i .before .before .before .before .args in
     omega (
       arith,
-      small (i .before .before .before .before .pre) (l .inv) (omega arith),
+      small (i .before .before .before .before .pre .0) (l .inv) (omega arith),
       added c,
       entry-most (a .least) (max (a .from) (l .start)) (min (a .to) (l .start + getD (a .lens .now) (l .k) 0)) (ones (getD (a .sets .now) (l .k) 0)),
     )
@@ -92,12 +94,14 @@ add-count c =
 loop-again : tie.Need-loop-again Inv-loop μ-loop
 loop-again c =
     let i = c .before .before .before .before .before .before in
-    turn (i .before .before .before .before .pre) (i .before .loop .inv) (omega arith) (c .width .result) (added c)
+    turn (i .before .before .before .before .pre .0) (i .before .loop .inv) (omega arith) (c .width .result) (added c)
 
 returns : tie.Need-returns Inv-loop μ-loop
 returns c =
-    let e : c .before .loop .k ≡ c .before .before .before .before .args .n = omega arith in
-    rw (← e) (c .before .loop .inv .place)
+    let s = c .before .before .before .before in
+    let a = s .args in
+    let e : c .before .loop .k ≡ a .n = omega arith in
+    rw (listed-is (a .least) (a .from) (a .to) (a .lens .now) (a .sets .now) (a .n) (s .pre .1) (s .pre .2), ← e) (c .before .loop .inv .place)
 
 pub need-spec : {M : Type 1} → statement M
 need-spec =
