@@ -12,7 +12,9 @@ use Rattle.styles.specs.declared.Mark.{Mark}
 use Rattle.styles.specs.declared.Styles.{Styles}
 use Rattle.styles.specs.declared.Value.{Value}
 use Rattle.styles.specs.Answers.{stylesOf}
-use Rattle.styles.specs.Bits.{pick, maskOf}
+use Rattle.styles.specs.Bits.{pick, MaskOf}
+use Rattle.styles.proofs.Built.{maskOf}
+use Rattle.styles.proofs.Unique.{mask-only}
 use Rattle.styles.specs.Marks.{keyIs, valueIs, sameMarks, blank}
 use Rattle.styles.specs.Values.{valueNan}
 use Rattle.styles.proofs.MaskLaws.{has-key-bits, shows-bits, mask-less}
@@ -131,14 +133,14 @@ module _ {t : Tank} (f : Formed t) where
 
   module _ (a b : ℕ) (some : a < b) (fits : b ≤ t .length) (e : t .touched ≡ true) (key : ℕ) where
     -- some position has a bit of the key's mask where it has a mark with the key
-    pub key-done : {mask : ℕ} {r : Bool} → mask ≡ maskOf (keyIs key) (tableOf t) → r ≡ anyAt (λ p. meets mask (setAt (runsOf t) p)) a b
+    pub key-done : {mask : ℕ} {r : Bool} → MaskOf (keyIs key) (tableOf t) mask → r ≡ anyAt (λ p. meets mask (setAt (runsOf t) p)) a b
         → toldOf 0 r ≡ rangeContainsKey a b key (view t)
     unfolding view
     key-done {mask} m q =
         ap (toldOf 0)
         (q
         ∙ any-ext _ _ a b
-        (λ p g h. ap (λ (x : ℕ). meets x (setAt (runsOf t) p)) m ∙ sym (has-key-bits (tableOf t) (setAt (runsOf t) p) key blank)))
+        (λ p g h. ap (λ (x : ℕ). meets x (setAt (runsOf t) p)) (mask-only _ _ mask m) ∙ sym (has-key-bits (tableOf t) (setAt (runsOf t) p) key blank)))
         ∙ told-done a b false _ some fits refl e
 
     first-small : (s : ℕ) → bitAnd s (maskOf (keyIs key) (tableOf t)) < 2 ^ 64
@@ -152,17 +154,17 @@ module _ {t : Tank} (f : Formed t) where
         )
 
     -- every position has as the highest bit of the key's mask one of the value's where it shows the value
-    pub value-done : (w : Value) {first second : ℕ} {r : Bool} → valueNan w ≡ false → first ≡ maskOf (keyIs key) (tableOf t)
-        → second ≡ maskOf (valueIs w) (tableOf t) → r ≡ allAt (λ p. shows first second (setAt (runsOf t) p)) a b
+    pub value-done : (w : Value) {first second : ℕ} {r : Bool} → valueNan w ≡ false → MaskOf (keyIs key) (tableOf t) first
+        → MaskOf (valueIs w) (tableOf t) second → r ≡ allAt (λ p. shows first second (setAt (runsOf t) p)) a b
         → toldOf 0 r ≡ rangeHasKeyValue a b key w (view t)
     unfolding view
-    value-done w number m n q =
+    value-done w {first} {second} number m n q =
         ap (toldOf 0)
         (q
         ∙ all-ext _ _ a b
         (λ p g h.
         let s = setAt (runsOf t) p in
-        (λ i. shows (m i) (n i) s)
+        (λ i. shows (mask-only _ _ first m i) (mask-only _ _ second n i) s)
         ∙ shows-bits (tableOf t) s key w blank 64 (f .laid .sorted) (first-small s)))
         ∙ told-done a b (valueNan w) _ some fits number e
 

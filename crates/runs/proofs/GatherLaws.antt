@@ -10,7 +10,7 @@ use lib.ListN.{getD}
 use Rattle.runs.specs.Runs.{Run, runs, total, setAt, Canon, adding}
 use Rattle.runs.proofs.Copies.{altered, deleted, inserted}
 use Rattle.runs.specs.Gather.{gather}
-use Rattle.runs.proofs.Digits.{digit, or-digit, digit-none, digits-ext, within-digit, digit-within}
+use Rattle.styles.proofs.Digits.{digit, or-digit, digit-none, digits-ext, within-digit, digit-within}
 use Rattle.runs.proofs.Laws.{at-in, at-last}
 use Rattle.runs.proofs.MapLaws.{mapRuns}
 use Rattle.runs.proofs.EditLaws.{add-is, total-altered, altered-in, altered-out, canon-altered, total-deleted, deleted-before, deleted-after, canon-deleted, total-inserted, inserted-before, inserted-in, inserted-after, canon-inserted}

@@ -1,6 +1,6 @@
 -- A renumbering of sets in place: the runs stay as they are, and every position's set is changed.
 use Prim.Native.Nat.{ℕ, zero, suc, _+_, _<_}
-use mathlib.Core.Path.{_≡_, refl, sym, ap, ap₂, _∙_}
+use mathlib.Core.Path.{_≡_, refl, sym, ap, ap₂, _∙_, subst}
 use mathlib.Core.List.{List, [], _∷_}
 use native.Mathlib.Omega.{arith}
 use native.Mathlib.Decide.{decLt}
@@ -58,25 +58,25 @@ module _ (f : ℕ → ℕ) where
     canon-map (r ∷ rs) a c = (c .0, other-map (r .set) rs (a .0) (a .1) (c .1), canon-map rs (a .1) (c .2))
 
 -- ---- sets renumbered where they stand, one at a time
-pub renumber-none : (f : ℕ → ℕ) (sets : List ℕ) → Renumbered f 0 sets sets
-renumber-none f sets = record { front = λ j h. absurd (omega arith); rest = λ j h. refl; kept = refl }
+pub renumber-none : (becomes : ℕ → ℕ → Type 0) (sets : List ℕ) → Renumbered becomes 0 sets sets
+renumber-none becomes sets = record { front = λ j h. absurd (omega arith); rest = λ j h. refl; kept = refl }
 
-pub renumber-more : (f : ℕ → ℕ) {before sets : List ℕ} (k v : ℕ) → Renumbered f k before sets → k < length before → v ≡ f (getD sets k 0)
-    → Renumbered f (k + 1) before (set sets k v)
-renumber-more f {before} {sets} k v s h e =
+pub renumber-more : (becomes : ℕ → ℕ → Type 0) {before sets : List ℕ} (k v : ℕ) → Renumbered becomes k before sets → k < length before → becomes (getD sets k 0) v
+    → Renumbered becomes (k + 1) before (set sets k v)
+renumber-more becomes {before} {sets} k v s h e =
     record {
       front = λ j g.
           elim (decLt j k) [
-            | yes l ↦ getD-set-other sets k j v 0 (omega arith) ∙ s .front j l
+            | yes l ↦ subst (becomes (getD before j 0)) (sym (getD-set-other sets k j v 0 (omega arith))) (s .front j l)
             | no l ↦
                 let i : j ≡ k = omega arith in
-                rw i (getD-set-same sets k v 0 (omega (arith, s .kept)) ∙ e ∙ ap f (s .rest k (omega arith)))
+                rw (i, getD-set-same sets k v 0 (omega (arith, s .kept))) (subst (λ (x : ℕ). becomes x v) (s .rest k (omega arith)) e)
           ];
       rest = λ j g. getD-set-other sets k j v 0 (omega arith) ∙ s .rest j (omega arith);
       kept = length-set sets k v ∙ s .kept;
     }
 
--- the runs that the sets stand in are changed by f, whatever their lengths
+-- the runs that the sets stand in are changed by f, whatever their lengths, where only f gives what the sets become
 runs-map : (f : ℕ → ℕ) (lens before after : List ℕ) (n : ℕ) → ((j : ℕ) → j < n → getD after j 0 ≡ f (getD before j 0))
     → runs lens after n ≡ mapRuns f (runs lens before n)
 unfolding runs mapRuns
@@ -84,11 +84,12 @@ runs-map f lens before after zero h = refl
 runs-map f lens before after (suc n) h =
     ap₂ (λ (s : ℕ) (rs : List Run). run (getD lens n 0) s ∷ rs) (h n (omega arith)) (runs-map f lens before after n (λ j g. h j (omega arith)))
 
-pub renumber-runs : {f : ℕ → ℕ} {n : ℕ} {before after : List ℕ} (lens : List ℕ) → Renumbered f n before after → runs lens after n ≡ mapRuns f (runs lens before n)
-renumber-runs lens s = runs-map _ lens _ _ _ (s .front)
+pub renumber-runs : (becomes : ℕ → ℕ → Type 0) (f : ℕ → ℕ) → ((s r : ℕ) → becomes s r → r ≡ f s) → {n : ℕ} {before after : List ℕ} (lens : List ℕ)
+    → Renumbered becomes n before after → runs lens after n ≡ mapRuns f (runs lens before n)
+renumber-runs becomes f only lens s = runs-map f lens _ _ _ (λ j h. only _ _ (s .front j h))
 
 -- blank places stay blank
-pub renumber-spare : {f : ℕ → ℕ} {n : ℕ} {before after : List ℕ} (lens : List ℕ) → Renumbered f n before after → Spare lens before n → Spare lens after n
+pub renumber-spare : {becomes : ℕ → ℕ → Type 0} {n : ℕ} {before after : List ℕ} (lens : List ℕ) → Renumbered becomes n before after → Spare lens before n → Spare lens after n
 unfolding Spare
 renumber-spare lens s p i h = (p i h .0, s .rest i h ∙ p i h .1)
 

@@ -6,11 +6,12 @@ use mathlib.Core.List.{List, [], _∷_}
 use native.Mathlib.Omega.{arith}
 use native.Mathlib.Nat.{pow-suc, min-le-left}
 use lib.Bits.{bitAnd, bitOr, and-step, and-le-r}
-use Rattle.styles.specs.Bits.{openBit, squeeze, squeezeStep}
+use Rattle.styles.specs.Bits.{openBit}
+use Rattle.styles.proofs.Built.{squeeze, squeezeStep}
 use Rattle.styles.proofs.UnionLaws.{open-or, squeeze-or, open-none, squeeze-none}
 use Rattle.runs.specs.Runs.{Run, Canon}
 use Rattle.runs.specs.Gather.{gather}
-use Rattle.runs.proofs.Digits.{or-digit, digit-within, within-digit}
+use Rattle.styles.proofs.Digits.{or-digit, digit-within, within-digit}
 use Rattle.runs.proofs.MapLaws.{AllSets, mapRuns, canon-map}
 use Rattle.runs.proofs.GatherLaws.{gather-map}
 

@@ -138,7 +138,7 @@ unfolding gather
 gathered = refl
 
 -- the first two sets get bit 0 opened, the third stays
-renumbered-two : Renumbered (openBit 0) 2 (1 ∷ 3 ∷ 5 ∷ []) (2 ∷ 6 ∷ 5 ∷ [])
+renumbered-two : Renumbered (λ s r. r ≡ openBit 0 s) 2 (1 ∷ 3 ∷ 5 ∷ []) (2 ∷ 6 ∷ 5 ∷ [])
 unfolding openBit
 renumbered-two = record { front = opened; rest = after; kept = refl }
   where

@@ -11,9 +11,10 @@ unfoldable pub gather : List Run → ℕ
 gather [] = 0
 gather (r ∷ rs) = bitOr (r .set) (gather rs)
 
--- of the sets in `before` the first n are changed by f in `after`, each at its place, and the others are as they were
-pub record Renumbered (f : ℕ → ℕ) (n : ℕ) (before after : List ℕ) : Type 0 where
-  pub front : (j : ℕ) → j < n → getD after j 0 ≡ f (getD before j 0)
+-- of the sets in `before` each of the first n becomes the one at its place in `after`, and the others are as they were; `becomes s r` says
+-- that r is what s is to be
+pub record Renumbered (becomes : ℕ → ℕ → Type 0) (n : ℕ) (before after : List ℕ) : Type 0 where
+  pub front : (j : ℕ) → j < n → becomes (getD before j 0) (getD after j 0)
   pub rest : (j : ℕ) → n ≤ j → getD after j 0 ≡ getD before j 0
   pub kept : length after ≡ length before
 

@@ -4,7 +4,7 @@ ghost use mathlib.Core.Path.{_≡_};
 ghost use mathlib.Core.List.{List};
 ghost use Prim.Native.Nat.{ℕ, _≤_};
 ghost use lib.ListN.{length};
-ghost use Rattle.styles.specs.Bits.{openBit, squeeze};
+ghost use Rattle.styles.specs.Bits.{openBit, Squeezed};
 ghost use Rattle.runs.specs.Runs.{runs};
 ghost use Rattle.runs.specs.Gather.{gather, Renumbered, CanOpen};
 
@@ -25,7 +25,7 @@ pub fn union_of(sets: &[u64], n: usize) -> u64
 // Opens a bit at i in each of the first n sets: bits from i on move up by one, and bit i is clear.
 pub fn open_sets(sets: &mut [u64], n: usize, i: usize)
     requires { ⌜ CanOpen (now sets) n ⌝ }
-    ensures { λ _. ⌜ Renumbered (openBit i) n (now (sets .entry)) (now (sets .exit)) ⌝ }
+    ensures { λ _. ⌜ Renumbered (λ s r. r ≡ openBit i s) n (now (sets .entry)) (now (sets .exit)) ⌝ }
 {
     let mut k = 0;
     while k < n {
@@ -37,7 +37,7 @@ pub fn open_sets(sets: &mut [u64], n: usize, i: usize)
 // Squeezes each of the first n sets to the bits that the mask has, moved down to close the gaps.
 pub fn squeeze_sets(sets: &mut [u64], n: usize, mask: u64)
     requires { ⌜ n ≤ length (now sets) ⌝ }
-    ensures { λ _. ⌜ Renumbered (squeeze 64 mask) n (now (sets .entry)) (now (sets .exit)) ⌝ }
+    ensures { λ _. ⌜ Renumbered (Squeezed mask) n (now (sets .entry)) (now (sets .exit)) ⌝ }
 {
     let mut k = 0;
     while k < n {

@@ -13,7 +13,7 @@ use lib.Count.{leading-top}
 use borrow.Author.Tests.{eqb-true, eq-eqb, ne-eqb, lt-ltb, le-ltb}
 use lib.ListN.{length, take, drop, getD, drop-of-length-le, length-take, length-drop}
 use lib.Seq.{drop-cons, getD-take}
-use lib.Pow.{pow-mono, pow-pos, shr-lt}
+use lib.Pow.{pow-mono, pow-pos}
 use Rattle.styles.specs.declared.Identity.{Identity}
 use Rattle.styles.specs.declared.Mark.{Mark}
 use Rattle.styles.specs.declared.Stand.the-variants.{Before}
@@ -21,11 +21,12 @@ use Rattle.styles.specs.declared.Value.{Value}
 use Rattle.styles.specs.declared.Winner.{Winner}
 use Rattle.styles.specs.declared.Winner.the-variants.{Nothing, Shows}
 use Rattle.styles.specs.Order.{stands, idOf}
-use Rattle.styles.specs.Marks.{Above, Sorted, member, only, keyIs, valueIs, hasKey, better, winner, shownBy, showsValue}
-use Rattle.styles.specs.Bits.{keepBit, pick, hasBit, asBit, maskOf, topIn}
+use Rattle.styles.specs.Marks.{Above, Sorted, member, only, keyIs, valueIs, hasKey, better, winner, shownBy, showsValue, blank}
+use Rattle.styles.specs.Bits.{keepBit, pick, hasBit, MaskOf, topIn}
+use Rattle.styles.proofs.Built.{asBit, maskOf}
 use Rattle.styles.proofs.OrderLaws.{less-flip, same-self}
 use Rattle.styles.proofs.PickLaws.{pick-cons, above-pick, above-at, not-member}
-use Rattle.styles.proofs.BitLaws.{half-shr, half-less}
+use Rattle.styles.proofs.BitLaws.{half-shr, half-less, has-past}
 use Rattle.styles.proofs.WalkLaws.{next-set, winner-last, sorted-pick}
 use Rattle.styles.proofs.UnionLaws.{pick-none}
 
@@ -96,6 +97,10 @@ mask-digit f (m ∷ ms) (suc i) d h =
     let l = bit-low (f m) in
     let e : (maskOf f ms * 2 + asBit (f m)) / 2 ≡ maskOf f ms = omega arith in
     digit-next (maskOf f ms * 2 + asBit (f m)) i ∙ (rw e (mask-digit f ms i d (omega arith)))
+
+-- so it is the mask by its rule
+pub mask-is : (f : Mark → Bool) (t : List Mark) → MaskOf f t (maskOf f t)
+mask-is f t = record { bits = λ i h. mask-digit f t i blank h; past = mask-less f t }
 
 -- ---- a key is there, and its winner, by the mask of the key
 winner-skip : (k : ℕ) (a : Bool) (m : Mark) (l : List Mark) (w : Winner) → keyIs k m ≡ a → winner k l ≡ w → cond a (better m w) w ≡ winner k (cond a (m ∷ l) l)
@@ -195,20 +200,17 @@ one-top i j s a b c e =
     omega arith
 
 -- what it says of the second mask is the answer
-small-clear : (k u : ℕ) → u < 2 ^ k → hasBit k u ≡ false
-small-clear k u h = ne-eqb (u / 2 ^ k % 2) 1 (λ e. omega (arith, shr-lt {n = u} 0 k (let z : 0 + k ≡ k = omega arith in rw z h)))
-
 pub top-in-none : (k v : ℕ) → topIn k 0 v ≡ false
 unfolding topIn
 top-in-none zero v = refl
-top-in-none (suc k) v = simp (small-clear k 0 (pow-pos k)) (top-in-none k v)
+top-in-none (suc k) v = simp (has-past k k 0 (omega arith) (pow-pos k)) (top-in-none k v)
 
 pub top-in-top : (k j u v : ℕ) → u < 2 ^ k → 2 ^ j ≤ u → u < 2 ^ suc j → topIn k u v ≡ hasBit j v
 unfolding topIn
 top-in-top zero j u v h a b = absurd (omega (arith, pow-pos j))
 top-in-top (suc k) j u v h a b =
     elim (decLt u (2 ^ k)) [
-      | yes g ↦ simp (small-clear k u g) (top-in-top k j u v g a b)
+      | yes g ↦ simp (has-past k k u (omega arith) g) (top-in-top k j u v g a b)
       | no g ↦ simp (top-set k u (omega arith) h) (ap (λ (x : ℕ). hasBit x v) (one-top k j u (omega arith) h a b))
     ]
 

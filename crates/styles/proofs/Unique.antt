@@ -1,15 +1,22 @@
 -- Each function of this crate has one answer: any two results that meet its statement are equal.
 -- Where the statement is an equation `r ≡ ..` that is `one-answer`; the functions that say it otherwise follow it.
-use Prim.Native.Nat.{ℕ}
+use Prim.Native.Nat.{ℕ, _^_, _<_}
 use mathlib.Core.Path.{_≡_, refl, sym, ap, _∙_}
+use mathlib.Core.Bool.{Bool}
+use mathlib.Core.List.{List}
 use native.Mathlib.Omega.{arith}
 use native.Mathlib.Decide.{decLt}
 use lib.Count.{ones}
+use lib.ListN.{length}
 use Rattle.styles.specs.declared.RankedBit.{RankedBit}
 use Rattle.styles.specs.declared.RankedBit.the-variants.{Past, At}
-use Rattle.styles.specs.Bits.{NthBit}
+use Rattle.styles.specs.declared.Mark.{Mark}
+use Rattle.styles.specs.Bits.{NthBit, Squeezed, MaskOf}
 use Rattle.styles.specs.Answers.{RankBit}
-use Rattle.styles.proofs.RankLaws.{nth-held, one-place}
+use Rattle.styles.proofs.RankLaws.{nth-held, one-place, nth-there, squeeze-is}
+use Rattle.styles.proofs.Built.{squeeze, maskOf}
+use Rattle.styles.proofs.Digits.{below-pow, same-bits}
+use Rattle.styles.proofs.MaskLaws.{mask-is}
 
 pub one-answer : {A : Type 0} {r s x : A} → r ≡ x → s ≡ x → r ≡ s
 one-answer e f = e ∙ sym f
@@ -28,3 +35,22 @@ one-ranked-bit set j Past Past h k = refl
 one-ranked-bit set j Past (At i) h k = absurd (omega (arith, nth-held set j i k))
 one-ranked-bit set j (At i) Past h k = absurd (omega (arith, nth-held set j i h))
 one-ranked-bit set j (At i) (At l) h k = ap At (one-place set j i l h k)
+
+-- `squeeze_set`
+pub one-squeezed : (mask s r u : ℕ) → Squeezed mask s r → Squeezed mask s u → r ≡ u
+one-squeezed mask s r u h k =
+    same-bits (ones mask) r u (h .past) (k .past)
+    (λ j l.
+    let n = nth-there mask mask j (below-pow mask) l in
+    h .bits j (n .0) (n .1) ∙ sym (k .bits j (n .0) (n .1)))
+
+-- and so it is the one that the loop builds
+pub squeeze-only : (k mask s r : ℕ) → mask < 2 ^ k → Squeezed mask s r → r ≡ squeeze k mask s
+squeeze-only k mask s r l h = one-squeezed mask s r (squeeze k mask s) h (squeeze-is k mask s l)
+
+-- `key_bits`, `value_bits`
+pub one-mask : (f : Mark → Bool) (ms : List Mark) (r u : ℕ) → MaskOf f ms r → MaskOf f ms u → r ≡ u
+one-mask f ms r u h k = same-bits (length ms) r u (h .past) (k .past) (λ i l. h .bits i l ∙ sym (k .bits i l))
+
+pub mask-only : (f : Mark → Bool) (ms : List Mark) (r : ℕ) → MaskOf f ms r → r ≡ maskOf f ms
+mask-only f ms r h = one-mask f ms r (maskOf f ms) h (mask-is f ms)

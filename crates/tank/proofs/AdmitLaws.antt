@@ -52,7 +52,7 @@ module _ {t : Tank} (i : ℕ) (m : Mark) (h : CanAdmit t i m) where
             (sets-less 63 (runsOf t) (let d = f .inside in omega (arith, pow-mono {i = t .marks} {j = 63} (omega arith)))) j k;
       }
 
-  module _ (sets : List ℕ) (table : List Mark) (opened : Renumbered (openBit i) (t .runs) (t .sets) sets)
+  module _ (sets : List ℕ) (table : List Mark) (opened : Renumbered (λ s r. r ≡ openBit i s) (t .runs) (t .sets) sets)
       (made : table ≡ tableWith (t .marks) i m (t .table)) where
     long : t .marks ≤ length (t .table)
     long = let a = h .few in let b = h .laid .table-64 in omega arith
@@ -64,7 +64,7 @@ module _ {t : Tank} (i : ℕ) (m : Mark) (h : CanAdmit t i m) where
     rest = ap (drop (t .marks + 1)) made ∙ with-rest (t .marks) i m (t .table) place-fits (h .few) long
 
     runs-are : runs (t .lens) sets (t .runs) ≡ mapRuns (openBit i) (runsOf t)
-    runs-are = renumber-runs (t .lens) opened
+    runs-are = renumber-runs _ (openBit i) (λ s r e. e) (t .lens) opened
 
     table-64 : length table ≡ 64
     table-64 =

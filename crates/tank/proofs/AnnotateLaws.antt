@@ -19,7 +19,7 @@ use Rattle.styles.proofs.BitLaws.{with-is}
 use Rattle.styles.proofs.TableLaws.{length-put}
 use Rattle.styles.proofs.UnionLaws.{open-all}
 use Rattle.runs.specs.Gather.{gather}
-use Rattle.runs.proofs.Digits.{or-within}
+use Rattle.styles.proofs.Digits.{or-within}
 use Rattle.tank.specs.declared.Tank.{Tank}
 use Rattle.tank.specs.declared.Room.the-variants.{Known, New, Clash, Full}
 use Rattle.tank.specs.Rules.{View, annotating, after, afterAnnotate, empty, over, long, notNumber, clash, clashes, full, carried, runsHeld}

@@ -11,7 +11,7 @@ use Rattle.styles.proofs.UnionLaws.{pick-or, pick-none}
 use Rattle.runs.specs.Runs.{Run, total, setAt, Canon}
 use Rattle.runs.specs.Gather.{gather}
 use Rattle.runs.proofs.Laws.{at-in, at-last}
-use Rattle.runs.proofs.Digits.{digits-ext, or-digit}
+use Rattle.styles.proofs.Digits.{digits-ext, or-digit}
 use Rattle.tank.specs.Rules.{gathered}
 
 -- a set that is there adds nothing

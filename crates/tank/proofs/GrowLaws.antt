@@ -20,7 +20,7 @@ use Rattle.runs.specs.Gather.{gather}
 use Rattle.runs.specs.Scan.{commonAt}
 use Rattle.runs.proofs.Laws.{length-runs}
 use Rattle.runs.proofs.CountLaws.{inserted-runs}
-use Rattle.runs.proofs.Digits.{and-digit, digit-within, within-digit}
+use Rattle.styles.proofs.Digits.{and-digit, digit-within, within-digit}
 use Rattle.runs.proofs.EditLaws.{one-joined, inserted-joined, total-inserted, canon-inserted}
 use Rattle.runs.proofs.GatherLaws.{set-within, gather-inserted}
 use Rattle.runs.proofs.ScanLaws.{common-end, common-inside}

@@ -15,11 +15,13 @@ use Rattle.styles.specs.declared.Mark.{Mark}
 use Rattle.styles.specs.declared.Styles.{Styles}
 use Rattle.styles.specs.Answers.{stylesOf}
 use Rattle.styles.specs.Marks.{blank}
-use Rattle.styles.specs.Bits.{keepBit, pick, squeeze}
+use Rattle.styles.specs.Bits.{keepBit, pick, Squeezed}
+use Rattle.styles.proofs.Built.{squeeze}
 use Rattle.styles.proofs.BitLaws.{half-less}
 use Rattle.styles.proofs.CountLaws.{pick-length}
 use Rattle.styles.proofs.SqueezeLaws.{pick-squeeze}
 use Rattle.styles.proofs.UnionLaws.{squeeze-all, squeeze-none}
+use Rattle.styles.proofs.Unique.{squeeze-only}
 use Rattle.styles.proofs.WalkLaws.{sorted-pick, pick-length-le}
 use Rattle.runs.specs.Runs.{runs, total, setAt}
 use Rattle.runs.specs.Gather.{gather, Renumbered}
@@ -77,7 +79,7 @@ module _ {t : Tank} (f : Laid t) (e : t .touched ≡ true) where
         is = refl;
       }
 
-  module _ (carried : ℕ) (g : carried ≡ gather (runsOf t)) (sets : List ℕ) (squeezed : Renumbered (squeeze 64 carried) (t .runs) (t .sets) sets)
+  module _ (carried : ℕ) (g : carried ≡ gather (runsOf t)) (sets : List ℕ) (squeezed : Renumbered (Squeezed carried) (t .runs) (t .sets) sets)
       (kept : Styles) (kept-is : kept ≡ stylesOf (pick (tableOf t) carried)) where
     count-is : kept .count ≡ length (pick (tableOf t) carried)
     count-is = ap (λ (k : Styles). k .count) kept-is
@@ -89,7 +91,7 @@ module _ {t : Tank} (f : Laid t) (e : t .touched ≡ true) where
     small = let a = f .inside in let b = f .few in omega (arith, pow-mono {i = t .marks} {j = 64} (omega arith))
 
     runs-are : runs (t .lens) sets (t .runs) ≡ mapRuns (squeeze 64 carried) (runsOf t)
-    runs-are = renumber-runs (t .lens) squeezed
+    runs-are = renumber-runs _ (squeeze 64 carried) (λ s r e. squeeze-only 64 carried s r small e) (t .lens) squeezed
 
     few : kept .count ≤ 64
     few = let a = f .few in omega (arith, count-is, pick-length-le (tableOf t) carried, table-length f)

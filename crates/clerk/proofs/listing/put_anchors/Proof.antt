@@ -1,5 +1,4 @@
 -- An anchor to a turn; what is left to say stays the same.
-use Prim.Native.Nat.{_-_}
 use borrow.Author.Needs.{needs}
 use lib.ListN.{length, take}
 use mathlib.Core.Path.{_≡_}

@@ -15,7 +15,7 @@ use Rattle.runs.proofs.sets.open_sets.Lts as lts
 use Rattle.styles.proofs.bits.open_bit.Reads as open-bit-reads
 
 abbrev Inv-loop : tie.InvT-loop
-Inv-loop sets₀ n i k₀ sets k = (k ≤ n) × Renumbered (openBit i) k sets₀ sets
+Inv-loop sets₀ n i k₀ sets k = (k ≤ n) × Renumbered (λ s r. r ≡ openBit i s) k sets₀ sets
 
 abbrev μ-loop : tie.MeasureT-loop
 μ-loop sets₀ n i k₀ sets k = n - k

@@ -3,7 +3,7 @@ use Prim.Native.Nat.{_-_, _≤_}
 use mathlib.Core.Path.{_≡_}
 use native.Mathlib.Omega.{arith}
 use borrow.Author.Needs.{needs}
-use Rattle.styles.specs.Bits.{squeeze}
+use Rattle.styles.specs.Bits.{Squeezed}
 use Rattle.runs.specs.Gather.{Renumbered}
 use Rattle.runs.proofs.MapLaws.{renumber-none, renumber-more}
 use Rattle.runs.proofs.sets.squeeze_sets.Statement.{statement}
@@ -13,7 +13,7 @@ use Rattle.runs.proofs.sets.squeeze_sets.Lts as lts
 use Rattle.styles.proofs.bits.squeeze_set.Reads as squeeze-set-reads
 
 abbrev Inv-loop : tie.InvT-loop
-Inv-loop sets₀ n mask k₀ sets k = (k ≤ n) × Renumbered (squeeze 64 mask) k sets₀ sets
+Inv-loop sets₀ n mask k₀ sets k = (k ≤ n) × Renumbered (Squeezed mask) k sets₀ sets
 
 abbrev μ-loop : tie.MeasureT-loop
 μ-loop sets₀ n mask k₀ sets k = n - k

@@ -3,11 +3,14 @@ use Prim.Native.Nat.{ℕ, zero, suc, _+_, _/_, _%_, _^_, _≤_, _<_, min, max}
 use mathlib.Core.Path.{_≡_, sym, ap, _∙_}
 use native.Mathlib.Omega.{arith}
 use native.Mathlib.Nat.{pow-suc, div-one}
+use native.Mathlib.Decide.{decLt, ℕ-discrete}
+use borrow.Author.Tests.{eqb-true, eqb-false, eq-eqb, ne-eqb}
 use lib.Bits.{bitAnd, bitOr, or-shr, and-shr}
 use lib.Pow.{pow-mono}
-use Rattle.styles.proofs.BitLaws.{half-shr}
+use Rattle.styles.specs.Bits.{hasBit}
+use Rattle.styles.proofs.BitLaws.{half-shr, has-past}
 use Rattle.styles.proofs.UnionLaws.{or-low}
 use Rattle.styles.proofs.MaskLaws.{and-low}
 
 -- bit i of s, as 0 or 1
 abbrev pub digit : ℕ → ℕ → ℕ
@@ -24,7 +27,7 @@ digit-none zero = omega arith
 digit-none (suc i) = ap (λ (x : ℕ). x % 2) (half-shr 0 i) ∙ digit-none i
 
 -- ---- two sets with the same bits are one
-below-pow : (n : ℕ) → n < 2 ^ n
+pub below-pow : (n : ℕ) → n < 2 ^ n
 below-pow zero = omega arith
 below-pow (suc n) = omega (arith, below-pow n, pow-suc 2 n)
 
@@ -43,6 +46,24 @@ digits-ext a b e =
     ext-below (a + b) a b (omega (arith, below-pow a, pow-mono {i = a} {j = a + b} (omega arith)))
     (omega (arith, below-pow b, pow-mono {i = b} {j = a + b} (omega arith)))
     e
+
+-- below 2 ^ k the bits below k are enough
+one-digit : (s u i : ℕ) → hasBit i s ≡ hasBit i u → digit s i ≡ digit u i
+one-digit s u i e =
+    elim (ℕ-discrete (digit u i) 1) [
+      | yes g ↦ eqb-true (digit s i) 1 (e ∙ eq-eqb (digit u i) 1 g) ∙ sym g
+      | no g ↦ let f = eqb-false (digit s i) 1 (e ∙ ne-eqb (digit u i) 1 g) in omega arith
+    ]
+
+pub same-bits : (k s u : ℕ) → s < 2 ^ k → u < 2 ^ k → ((i : ℕ) → i < k → hasBit i s ≡ hasBit i u) → s ≡ u
+same-bits k s u h g e =
+    digits-ext s u
+    (λ i.
+    one-digit s u i
+    (elim (decLt i k) [
+      | yes l ↦ e i l
+      | no l ↦ has-past k i s (omega arith) h ∙ sym (has-past k i u (omega arith) g)
+    ]))
 
 -- ---- a set within another: each of its bits is there
 pub within-digit : (a b : ℕ) → bitAnd a b ≡ a → (i : ℕ) → digit a i ≤ digit b i
