@@ -268,6 +268,9 @@ one-joined {n} {at} {xs} {ys} j k =
       | no h ↦ at-past xs p (omega (arith, j .all)) ∙ sym (at-past ys p (omega (arith, k .all)))
     ])
 
+pub joined-is : {n : ℕ} {at : ℕ → ℕ} {xs ys : List Run} → Joined n at ys → xs ≡ ys → Joined n at xs
+joined-is j e = rw e j
+
 -- where there is room for the joined list, there is for a result that is that list
 pub room-of : {n : ℕ} {at : ℕ → ℕ} {olens osets lens sets : List ℕ} {m all : ℕ} {out : List Run}
     → CanEdit n at olens osets lens sets m all → Joined n at out → Room out olens osets lens sets m all
@@ -309,36 +312,3 @@ module _ (rs : List Run) (n : ℕ) (is : n ≡ total rs) where
         all = omega (arith, total-inserted rs pos l s (omega arith));
         sets = λ p h. at-inserted rs pos l s (omega arith) p;
       }
-
--- ---- what the three functions ask is room for what they make, and that is what they promise
-module _ {olens osets lens sets : List ℕ} {m all : ℕ} (a b : ℕ) where
-  module _ (f : ℕ → ℕ) (pre : (a ≤ b) × (b ≤ all) × CanEdit all (alteredAt a b f (setAt (runs lens sets m))) olens osets lens sets m all) where
-    made-altered : Joined all (alteredAt a b f (setAt (runs lens sets m))) (altered (runs lens sets m) a b f)
-    made-altered = altered-joined (runs lens sets m) all (pre .2 .all-is) a b f (pre .0) (pre .1)
-
-    pub alter-room : Room (altered (runs lens sets m) a b f) olens osets lens sets m all
-    alter-room = room-of (pre .2) made-altered
-
-    pub alter-done : {out : List Run} → out ≡ altered (runs lens sets m) a b f → Joined all (alteredAt a b f (setAt (runs lens sets m))) out
-    alter-done e = rw e made-altered
-
-  module _ (pre : (a ≤ b) × (b ≤ all) × CanEdit (all - (b - a)) (deletedAt a b (setAt (runs lens sets m))) olens osets lens sets m all) where
-    made-deleted : Joined (all - (b - a)) (deletedAt a b (setAt (runs lens sets m))) (deleted (runs lens sets m) a b)
-    made-deleted = deleted-joined (runs lens sets m) all (pre .2 .all-is) a b (pre .0) (pre .1)
-
-    pub delete-room : Room (deleted (runs lens sets m) a b) olens osets lens sets m all
-    delete-room = room-of (pre .2) made-deleted
-
-    pub delete-done : {out : List Run} → out ≡ deleted (runs lens sets m) a b → Joined (all - (b - a)) (deletedAt a b (setAt (runs lens sets m))) out
-    delete-done e = rw e made-deleted
-
-module _ {olens osets lens sets : List ℕ} {m all : ℕ} (pos l s : ℕ)
-    (pre : (pos ≤ all) × CanEdit (all + l) (insertedAt pos l s (setAt (runs lens sets m))) olens osets lens sets m all) where
-  made-inserted : Joined (all + l) (insertedAt pos l s (setAt (runs lens sets m))) (inserted (runs lens sets m) pos l s)
-  made-inserted = inserted-joined (runs lens sets m) all (pre .1 .all-is) pos l s (pre .0)
-
-  pub insert-room : Room (inserted (runs lens sets m) pos l s) olens osets lens sets m all
-  insert-room = room-of (pre .1) made-inserted
-
-  pub insert-done : {out : List Run} → out ≡ inserted (runs lens sets m) pos l s → Joined (all + l) (insertedAt pos l s (setAt (runs lens sets m))) out
-  insert-done e = rw e made-inserted

@@ -121,7 +121,7 @@ module _ {t : Tank} (s : Sound t) (start end : ℕ) (m : Mark) where
               omega (arith, known .2, place-in (tableOf t) (idOf m) (s .formed .laid .sorted) (known .0), table-length (s .formed .laid))
 
           pub can-lay : CanLay t start end i
-          can-lay = record { laid = s .formed .laid; room = s .within; up = up; fits = fits; there = place-there }
+          can-lay = record { range = record { laid = s .formed .laid; room = s .within; up = omega arith; fits = fits }; there = place-there; some = up }
 
           mark-is : getD (tableOf t) i blank ≡ m
           mark-is = ap (λ k. getD (tableOf t) k blank) (known .2) ∙ known-is m (tableOf t) (s .formed .laid .sorted) (known .0) (known .1)
@@ -173,10 +173,14 @@ module _ {t : Tank} (s : Sound t) (start end : ℕ) (m : Mark) where
                 let q = ap (λ (v : View). v .length) (a .is) in
                 let k = s .within in
                 record {
-                  laid = a .laid;
-                  room = omega (arith, sym (runs-held (a .laid)), ap runsHeld (a .is), runs-held (s .formed .laid));
-                  up = up;
-                  fits = omega arith;
+                  range =
+                      record {
+                        laid = a .laid;
+                        room = omega (arith, sym (runs-held (a .laid)), ap runsHeld (a .is), runs-held (s .formed .laid));
+                        up = omega arith;
+                        fits = omega arith;
+                      };
+                  some = up;
                   there = omega (arith, marks-put, fits-put, table-length (s .formed .laid));
                 }
 

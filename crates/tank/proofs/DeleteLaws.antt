@@ -31,7 +31,7 @@ module _ {t : Tank} (s : Sound t) (start end : ℕ) where
 
       module _ (e : t .touched ≡ true) where
         pub can-cut : CanCut t start end
-        can-cut = record { laid = s .formed .laid; touched = e; room = s .within; up = omega arith; fits = fits }
+        can-cut = record { range = record { laid = s .formed .laid; room = s .within; up = omega arith; fits = fits }; touched = e }
 
         module _ {u : Tank} (c : (Laid u) × (view u ≡ afterDelete start end (view t))) where
           pub still-touched : u .touched ≡ true

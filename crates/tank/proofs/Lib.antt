@@ -3,6 +3,7 @@ pub mod Counted
 pub mod Carried
 pub mod Unique
 pub mod Shape
+pub mod AlterLaws
 pub mod LayLaws
 pub mod AdmitLaws
 pub mod TrimLaws

@@ -122,10 +122,13 @@ module _ {t : Tank} (s : Sound t) (id : Identity) (last : ℕ) where
         pub can-strip : CanStrip t first (last + 1) at
         can-strip =
             record {
-              laid = s .formed .laid;
-              room = s .within;
-              up = omega (arith, q, stretch-le (λ p. meets (withBit at 0) (setAt (runsOf t) p)) (last + 1));
-              fits = omega arith;
+              range =
+                  record {
+                    laid = s .formed .laid;
+                    room = s .within;
+                    up = omega (arith, q, stretch-le (λ p. meets (withBit at 0) (setAt (runsOf t) p)) (last + 1));
+                    fits = omega arith;
+                  };
               there = place-inside;
             }
 

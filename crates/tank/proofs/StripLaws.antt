@@ -1,4 +1,4 @@
--- A mark of the table taken off a range: what `strip` asks of the run edit, and what it then means.
+-- A mark of the table taken off a range: what the tank then means.
 use Prim.Native.Nat.{ℕ, zero, suc, _+_, _-_, _*_, _/_, _%_, _≤_, _<_, _^_}
 use mathlib.Core.Path.{_≡_, sym, ap, _∙_}
 use mathlib.Core.List.{List}
@@ -17,19 +17,18 @@ use Rattle.styles.specs.Bits.{pick, hasBit, withBit, withoutBit}
 use Rattle.styles.proofs.PickLaws.{pick-without}
 use Rattle.styles.proofs.MaskLaws.{member-pick}
 use Rattle.runs.specs.Runs.{runs, total, setAt, changing, Spare}
-use Rattle.runs.specs.Edits.{Joined, alteredAt, CanEdit}
+use Rattle.runs.specs.Edits.{Joined, alteredAt}
 use Rattle.runs.proofs.Copies.{altered}
 use Rattle.runs.specs.Scan.{meets}
-use Rattle.runs.proofs.Laws.{length-runs}
-use Rattle.runs.proofs.CountLaws.{altered-runs}
-use Rattle.runs.proofs.EditLaws.{one-joined, altered-joined, drop-is, total-altered, altered-in, altered-out, canon-altered}
+use Rattle.runs.proofs.EditLaws.{drop-is, total-altered, altered-in, altered-out, canon-altered}
 use Rattle.tank.specs.declared.Tank.{Tank}
 use Rattle.tank.specs.Rules.{stripped}
 use Rattle.tank.specs.State.{runsOf, tableOf, view, Laid}
 use Rattle.tank.specs.Steps.{CanStrip}
 use Rattle.tank.proofs.Counted.{at-inside}
 use Rattle.tank.proofs.LayLaws.{one-bit}
-use Rattle.tank.proofs.Shape.{can-edit, gather-small, over-runs, view-sum}
+use Rattle.tank.proofs.Shape.{gather-small, view-sum}
+use Rattle.tank.proofs.AlterLaws.{fits-runs, alter-done}
 use Rattle.tank.proofs.Unique.{table-length}
 use Rattle.tank.proofs.ViewLaws.{view-stripped}
 
@@ -73,40 +72,26 @@ module _ (ms : List Mark) (i : ℕ) (sorted : Sorted ms) (there : i < length ms)
   meets-mark s = meets-bit i s ∙ sym (member-pick ms i blank s there sorted)
 
 module _ {t : Tank} (start end i : ℕ) (h : CanStrip t start end i) where
-  fits : end ≤ total (runsOf t)
-  fits = let a = h .fits in let b = h .laid .sum in omega arith
-
-  -- what becomes of the runs
-  stripped-out : Joined (t .length) (alteredAt start end (changing 0 (withBit i 0)) (setAt (runsOf t))) (altered (runsOf t) start end (changing 0 (withBit i 0)))
-  stripped-out = altered-joined (runsOf t) (t .length) (h .laid .sum) start end (changing 0 (withBit i 0)) (h .up) (h .fits)
-
-  pub strip-can : (olens osets : List ℕ) → length olens ≡ 514 → length osets ≡ 514
-      → (start ≤ end) × (end ≤ t .length)
-      × CanEdit (t .length) (alteredAt start end (changing 0 (withBit i 0)) (setAt (runsOf t))) olens osets (t .lens) (t .sets) (t .runs) (t .length)
-  strip-can olens osets l l′ = (
-    h .up,
-    h .fits,
-    can-edit (h .laid) (h .room) stripped-out olens osets l l′ (altered-runs (runsOf t) start end (h .up) fits (changing 0 (withBit i 0))) (h .laid .small),
-  )
-
   -- no set has got larger
   at-small : (p : ℕ) → p < total (altered (runsOf t) start end (changing 0 (withBit i 0)))
       → setAt (altered (runsOf t) start end (changing 0 (withBit i 0))) p < 2 ^ t .marks
   at-small p k =
-      let old = at-inside (runsOf t) (t .marks) p (h .laid .inside) in
-      let z = total-altered (runsOf t) start end (changing 0 (withBit i 0)) (h .up) fits in
+      let up = h .range .up in
+      let fits = fits-runs (h .range) in
+      let old = at-inside (runsOf t) (t .marks) p (h .range .laid .inside) in
+      let z = total-altered (runsOf t) start end (changing 0 (withBit i 0)) up fits in
       elim (decLt p start) [
-        | yes a ↦ omega (arith, altered-out (runsOf t) start end (changing 0 (withBit i 0)) (h .up) fits p (λ x y. omega arith) (omega arith))
+        | yes a ↦ omega (arith, altered-out (runsOf t) start end (changing 0 (withBit i 0)) up fits p (λ x y. omega arith) (omega arith))
         | no a ↦
             elim (decLt p end) [
               | yes b ↦
                   omega (
                     arith,
-                    altered-in (runsOf t) start end (changing 0 (withBit i 0)) (h .up) fits p (omega arith) b,
+                    altered-in (runsOf t) start end (changing 0 (withBit i 0)) up fits p (omega arith) b,
                     drop-is (withBit i 0) (setAt (runsOf t) p),
                   )
               | no b ↦
-                  omega (arith, altered-out (runsOf t) start end (changing 0 (withBit i 0)) (h .up) fits p (λ x y. omega arith) (omega arith))
+                  omega (arith, altered-out (runsOf t) start end (changing 0 (withBit i 0)) up fits p (λ x y. omega arith) (omega arith))
             ]
       ]
 
@@ -116,22 +101,15 @@ module _ {t : Tank} (start end i : ℕ) (h : CanStrip t start end i) where
       → let r : Tank = record { touched = t .touched; length = t .length; runs = n; marks = t .marks; lens = lens; sets = sets; table = t .table } in
       (Laid r) × (view r ≡ stripped (idOf (getD (tableOf t) i blank)) start end (view t))
   strip-done lens sets n made sp l l′ =
-      let e = one-joined made stripped-out in
-      let f = h .laid in
-      let a = f .sum in
-      let b = f .small in
-      let c = h .room in
+      let f = h .range .laid in
       let out = altered (runsOf t) start end (changing 0 (withBit i 0)) in
-      let canon = canon-altered (runsOf t) start end (changing 0 (withBit i 0)) in
-      let z = total-altered (runsOf t) start end (changing 0 (withBit i 0)) (h .up) fits in
       let s =
-      over-runs f (t .touched) lens sets n (t .length) out e canon (omega arith) sp l l′
-      (omega (arith, altered-runs (runsOf t) start end (h .up) fits (changing 0 (withBit i 0)), length-runs (t .lens) (t .sets) (t .runs))) (omega arith)
-      (gather-small (t .marks) out canon at-small)
+      alter-done (h .range) (changing 0 (withBit i 0)) (t .touched) lens sets n made sp l l′
+      (gather-small (t .marks) out (canon-altered (runsOf t) start end (changing 0 (withBit i 0))) at-small)
       in (
         s .laid,
         s .is
-            ∙ view-stripped (runsOf t) start end (changing 0 (withBit i 0)) (h .up) fits (tableOf t) (idOf (getD (tableOf t) i blank)) (t .touched)
+            ∙ view-stripped (runsOf t) start end (changing 0 (withBit i 0)) (h .range .up) (fits-runs (h .range)) (tableOf t) (idOf (getD (tableOf t) i blank)) (t .touched)
             (drops-mark (tableOf t) i (f .sorted) (let q = h .there in omega (arith, table-length f)))
             ∙ ap (stripped (idOf (getD (tableOf t) i blank)) start end) (view-sum f),
       )

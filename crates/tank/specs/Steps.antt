@@ -24,13 +24,18 @@ pub record Stepped (v : View) (ms : List Mark) (all : ℕ) (r : Tank) : Type 0 w
   pub table-is : tableOf r ≡ ms
   pub all-is : gather (runsOf r) ≡ all
 
--- what laying mark i on a range asks
-pub record CanLay (t : Tank) (start end i : ℕ) : Type 0 where
+-- what any change of the positions start .. end asks
+pub record OnRange (t : Tank) (start end : ℕ) : Type 0 where
   pub laid : Laid t
   pub room : t .runs ≤ 512
-  pub up : start < end
+  pub up : start ≤ end
   pub fits : end ≤ t .length
+
+-- what laying mark i on a range asks: there is such a mark, and some position gets it
+pub record CanLay (t : Tank) (start end i : ℕ) : Type 0 where
+  pub range : OnRange t start end
   pub there : i < t .marks
+  pub some : start < end
 
 -- what a new mark asks: room for it, and its place in the order
 pub record CanAdmit (t : Tank) (i : ℕ) (m : Mark) : Type 0 where
@@ -47,11 +52,8 @@ pub record Trimmed (t r : Tank) : Type 0 where
 
 -- what taking a range away asks
 pub record CanCut (t : Tank) (start end : ℕ) : Type 0 where
-  pub laid : Laid t
+  pub range : OnRange t start end
   pub touched : t .touched ≡ true
-  pub room : t .runs ≤ 512
-  pub up : start ≤ end
-  pub fits : end ≤ t .length
 
 -- how a mark stands to the marks that a tank carries
 unfoldable pub roomFor : Mark → List Mark → Room
@@ -71,8 +73,5 @@ pub record CanGrow (t : Tank) (pos len set : ℕ) : Type 0 where
 
 -- what taking mark i off a range asks
 pub record CanStrip (t : Tank) (start end i : ℕ) : Type 0 where
-  pub laid : Laid t
-  pub room : t .runs ≤ 512
-  pub up : start ≤ end
-  pub fits : end ≤ t .length
+  pub range : OnRange t start end
   pub there : i < t .marks

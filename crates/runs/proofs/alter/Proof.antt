@@ -4,7 +4,7 @@ use mathlib.Core.List.{[]}
 use borrow.Author.Needs.{needs}
 use Rattle.runs.specs.Runs.{runs, changing, adding, copyRuns}
 use Rattle.runs.proofs.Copies.{part, altered}
-use Rattle.runs.proofs.EditLaws.{inside-self, inside-copy, can-copy, alter-room, alter-done}
+use Rattle.runs.proofs.EditLaws.{inside-self, inside-copy, can-copy, room-of, altered-joined, joined-is}
 use Rattle.runs.proofs.BehindLaws.{count-copy, behind-on}
 use Rattle.runs.proofs.alter.Statement.{statement}
 use Rattle.runs.proofs.alter.Tie as tie
@@ -16,7 +16,7 @@ copy-requires : tie.Need-copy-requires
 unfolding runs altered
 copy-requires c κs =
     let s = c .before .before .before .before .before .before in
-    can-copy (alter-room (s .args .a) (s .args .b) (changing (s .args .bits) (s .args .drop)) (s .pre)) (s .args .olens .now) (s .args .osets .now) 0 refl refl [] refl (adding 0) 0 (s .args .a)
+    can-copy (room-of (s .pre .2) (altered-joined _ _ (s .pre .2 .all-is) (s .args .a) (s .args .b) (changing (s .args .bits) (s .args .drop)) (s .pre .0) (s .pre .1))) (s .args .olens .now) (s .args .osets .now) 0 refl refl [] refl (adding 0) 0 (s .args .a)
     (inside-copy (changing (s .args .bits) (s .args .drop)) (s .args .a) (s .args .b) _ (inside-copy (adding 0) (s .args .b) _ _ (inside-self _)))
 
 -- after the first copy, and after the second
@@ -35,7 +35,7 @@ unfolding altered
 copy-requires-2 c κs =
     let x = c .before .before .before .before .before .before in
     let s = x .before .before .before .before .before .before .before in
-    can-copy (alter-room (s .args .a) (s .args .b) (changing (s .args .bits) (s .args .drop)) (s .pre)) (x .copy .last .0) (x .copy .last .1 .0) (x .copy .result) (x .copy .kept .0) (x .copy .kept .1 .0) _ (first x)
+    can-copy (room-of (s .pre .2) (altered-joined _ _ (s .pre .2 .all-is) (s .args .a) (s .args .b) (changing (s .args .bits) (s .args .drop)) (s .pre .0) (s .pre .1))) (x .copy .last .0) (x .copy .last .1 .0) (x .copy .result) (x .copy .kept .0) (x .copy .kept .1 .0) _ (first x)
     (changing (s .args .bits) (s .args .drop)) (s .args .a) (s .args .b) (inside-copy (adding 0) (s .args .b) _ _ (inside-self _))
 
 copy-requires-3 : tie.Need-copy-requires-3
@@ -44,7 +44,7 @@ copy-requires-3 c κs =
     let y = c .before .before .before .before .before .before in
     let x = y .before .before .before .before .before .before .before in
     let s = x .before .before .before .before .before .before .before in
-    can-copy (alter-room (s .args .a) (s .args .b) (changing (s .args .bits) (s .args .drop)) (s .pre)) (y .copy2 .last .0) (y .copy2 .last .1 .0) (y .copy2 .result) (y .copy2 .kept .0 ∙ x .copy .kept .0) (y .copy2 .kept .1 .0 ∙ x .copy .kept .1 .0)
+    can-copy (room-of (s .pre .2) (altered-joined _ _ (s .pre .2 .all-is) (s .args .a) (s .args .b) (changing (s .args .bits) (s .args .drop)) (s .pre .0) (s .pre .1))) (y .copy2 .last .0) (y .copy2 .last .1 .0) (y .copy2 .result) (y .copy2 .kept .0 ∙ x .copy .kept .0) (y .copy2 .kept .1 .0 ∙ x .copy .kept .1 .0)
     _ (second y) (adding 0) (s .args .b) (s .args .all) (rw (s .pre .2 .all-is) (inside-self _))
 
 same-length : tie.Need-same-length
@@ -62,7 +62,7 @@ returns c =
     let x = y .before .before .before .before .before .before .before in
     let k = count-copy _ _ _ _ _ _ _ _ _ _ (y .copy2 .ensures .0) in
     let l = count-copy _ _ _ _ _ _ _ _ _ _ (z .copy3 .ensures .0) in (
-      alter-done (s .args .a) (s .args .b) (changing (s .args .bits) (s .args .drop)) (s .pre) (rw (second y, s .pre .2 .all-is) at (z .copy3 .ensures .0)),
+      joined-is (altered-joined _ _ (s .pre .2 .all-is) (s .args .a) (s .args .b) (changing (s .args .bits) (s .args .drop)) (s .pre .0) (s .pre .1)) (rw (second y, s .pre .2 .all-is) at (z .copy3 .ensures .0)),
       behind-on _ _ l (behind-on _ _ k (x .copy .ensures .1) (y .copy2 .ensures .1)) (z .copy3 .ensures .1),
     )
 

@@ -4,7 +4,7 @@ use mathlib.Core.List.{[]}
 use borrow.Author.Needs.{needs}
 use Rattle.runs.specs.Runs.{runs, adding, pushRun}
 use Rattle.runs.proofs.Copies.{part, inserted}
-use Rattle.runs.proofs.EditLaws.{inside-self, inside-copy, inside-push, can-copy, can-push, insert-room, insert-done}
+use Rattle.runs.proofs.EditLaws.{inside-self, inside-copy, inside-push, can-copy, can-push, room-of, inserted-joined, joined-is}
 use Rattle.runs.proofs.BehindLaws.{count-push, count-copy, behind-on}
 use Rattle.runs.proofs.insert.Statement.{statement}
 use Rattle.runs.proofs.insert.Tie as tie
@@ -17,7 +17,7 @@ copy-requires : tie.Need-copy-requires
 unfolding runs inserted
 copy-requires c κs =
     let s = c .before .before .before .before .before .before in
-    can-copy (insert-room (s .args .pos) (s .args .len) (s .args .set) (s .pre)) (s .args .olens .now) (s .args .osets .now) 0 refl refl [] refl (adding 0) 0 (s .args .pos)
+    can-copy (room-of (s .pre .1) (inserted-joined _ _ (s .pre .1 .all-is) (s .args .pos) (s .args .len) (s .args .set) (s .pre .0))) (s .args .olens .now) (s .args .osets .now) 0 refl refl [] refl (adding 0) 0 (s .args .pos)
     (inside-push (s .args .len) (s .args .set) (inside-copy (adding 0) (s .args .pos) _ _ (inside-self _)))
 
 -- after the first copy, and after the push
@@ -36,7 +36,7 @@ unfolding inserted
 push-requires c κs =
     let x = c .before .before .before .before .before .before in
     let s = x .before .before .before .before .before .before .before in
-    can-push (insert-room (s .args .pos) (s .args .len) (s .args .set) (s .pre)) (x .copy .last .0) (x .copy .last .1 .0) (x .copy .result) (x .copy .kept .0) (x .copy .kept .1 .0) _ (first x)
+    can-push (room-of (s .pre .1) (inserted-joined _ _ (s .pre .1 .all-is) (s .args .pos) (s .args .len) (s .args .set) (s .pre .0))) (x .copy .last .0) (x .copy .last .1 .0) (x .copy .result) (x .copy .kept .0) (x .copy .kept .1 .0) _ (first x)
     (s .args .len) (s .args .set) (inside-copy (adding 0) (s .args .pos) _ _ (inside-self _))
 
 copy-requires-2 : tie.Need-copy-requires-2
@@ -45,7 +45,7 @@ copy-requires-2 c κs =
     let y = c .before .before .before .before .before .before in
     let x = y .before .before .before .before .before .before .before in
     let s = x .before .before .before .before .before .before .before in
-    can-copy (insert-room (s .args .pos) (s .args .len) (s .args .set) (s .pre)) (y .push .last .0) (y .push .last .1 .0) (y .push .result) (y .push .kept .0 ∙ x .copy .kept .0) (y .push .kept .1 .0 ∙ x .copy .kept .1 .0)
+    can-copy (room-of (s .pre .1) (inserted-joined _ _ (s .pre .1 .all-is) (s .args .pos) (s .args .len) (s .args .set) (s .pre .0))) (y .push .last .0) (y .push .last .1 .0) (y .push .result) (y .push .kept .0 ∙ x .copy .kept .0) (y .push .kept .1 .0 ∙ x .copy .kept .1 .0)
     _ (second y) (adding 0) (s .args .pos) (s .args .all) (rw (s .pre .1 .all-is) (inside-self _))
 
 same-length : tie.Need-same-length
@@ -63,7 +63,7 @@ returns c =
     let x = y .before .before .before .before .before .before .before in
     let k = count-push _ _ _ _ _ _ _ _ (y .push .ensures .0) in
     let l = count-copy _ _ _ _ _ _ _ _ _ _ (z .copy2 .ensures .0) in (
-      insert-done (s .args .pos) (s .args .len) (s .args .set) (s .pre) (rw (second y, s .pre .1 .all-is) at (z .copy2 .ensures .0)),
+      joined-is (inserted-joined _ _ (s .pre .1 .all-is) (s .args .pos) (s .args .len) (s .args .set) (s .pre .0)) (rw (second y, s .pre .1 .all-is) at (z .copy2 .ensures .0)),
       behind-on _ _ l (behind-on _ _ k (x .copy .ensures .1) (y .push .ensures .1)) (z .copy2 .ensures .1),
     )
 

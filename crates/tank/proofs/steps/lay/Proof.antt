@@ -6,7 +6,9 @@ use Rattle.styles.specs.Bits.{withBit}
 use Rattle.styles.proofs.BitLaws.{with-bit-fits}
 use Rattle.runs.proofs.BehindLaws.{spare-behind}
 use Rattle.tank.proofs.Shape.{all-spare}
-use Rattle.tank.proofs.LayLaws.{lay-can, lay-done}
+use Rattle.tank.proofs.AlterLaws.{alter-can}
+use Rattle.runs.specs.Runs.{adding}
+use Rattle.tank.proofs.LayLaws.{lay-done}
 use Rattle.tank.proofs.steps.lay.Statement.{statement}
 use Rattle.tank.proofs.steps.lay.Tie as tie
 
@@ -16,14 +18,14 @@ module _ (c : tie.After-with-bit) where
   bit-is =
       let s = c .before .before .before .before in
       let a = s .pre .there in
-      let b = s .pre .laid .few in
+      let b = s .pre .range .laid .few in
       c .with-bit .ensures ∙ with-bit-fits (s .args .i) 0 (omega arith) (omega arith)
 
 alter-requires : tie.Need-alter-requires
 alter-requires c κs =
     let w = c .before .before .before .before in
     let s = w .before .before .before .before in
-    rw (bit-is w) (lay-can (s .args .start) (s .args .end) (s .args .i) (s .pre) _ _ refl refl)
+    rw (bit-is w) (alter-can (s .pre .range) (adding (withBit (s .args .i) 0)) _ _ refl refl)
 
 returns : tie.Need-returns
 returns c =
