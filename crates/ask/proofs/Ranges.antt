@@ -12,7 +12,7 @@ use Rattle.styles.specs.Bits.{pick}
 use Rattle.styles.proofs.UnionLaws.{pick-none}
 use Rattle.runs.specs.Runs.{Run, total, setAt}
 use Rattle.runs.proofs.Laws.{at-in, at-last, at-past}
-use Rattle.tank.specs.Rules.{within}
+use Rattle.runs.specs.Positions.{within}
 use Rattle.tank.proofs.ViewLaws.{cond-same, range-in, range-before, range-past}
 use Rattle.ask.specs.Examples.{Range, on, marksAt}
 

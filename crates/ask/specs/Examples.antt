@@ -16,7 +16,8 @@ use Rattle.richtext.specs.declared.AnchorType.the-variants.{Start, End}
 use Rattle.lists.specs.Anchors.{anchorOf, anchors}
 use Rattle.questions.specs.declared.Told.{Told}
 use Rattle.questions.specs.declared.Told.the-variants.{Yes, No}
-use Rattle.tank.specs.Rules.{View, within, freshLength, runsHeld, Edit, annotating, inserting, deleting, removing}
+use Rattle.tank.specs.Rules.{View, freshLength, runsHeld, Edit, annotating, inserting, deleting, removing}
+use Rattle.runs.specs.Positions.{within}
 use Rattle.tanks.specs.declared.Setting.{Setting}
 use Rattle.tanks.specs.Settings.{claims}
 use Rattle.tanks.specs.House.{House, tankAt, held, openNumber, opening, refusalAt, afterAt, insertedSetAt, removedFirstAt, Call, afterAll}

@@ -11,7 +11,8 @@ use lib.Bits.{bitOr, bitAnd, or-zero-r, and-zero-r}
 use native.Mathlib.Nat.{sub-zero}
 use borrow.Author.Tests.{lt-ltb, le-ltb, le-leb, lt-leb}
 use Rattle.runs.specs.Runs.{Run, total, setAt, Canon, pushRun, clip, copyRuns, changing, adding, runs, CanCopy, CanPush}
-use Rattle.runs.specs.Edits.{Joined, alteredAt, deletedAt, insertedAt, CanEdit}
+use Rattle.runs.specs.Edits.{Joined, CanEdit}
+use Rattle.runs.specs.Positions.{alteredAt, deletedAt, insertedAt}
 use Rattle.runs.proofs.Copies.{part, altered, deleted, inserted, Room}
 use Rattle.runs.proofs.Laws.{unique, at-past, total-push, push-before, push-at, canon-push, push-longer, total-copy, copy-before, copy-at, canon-copy, length-runs}
 
@@ -287,7 +288,6 @@ room-of {out = out} can j =
 
 module _ (rs : List Run) (n : ℕ) (is : n ≡ total rs) where
   pub altered-joined : (a b : ℕ) (f : ℕ → ℕ) → a ≤ b → b ≤ n → Joined n (alteredAt a b f (setAt rs)) (altered rs a b f)
-  unfolding alteredAt
   altered-joined a b f up fits =
       record {
         canon = canon-altered rs a b f;
@@ -296,7 +296,6 @@ module _ (rs : List Run) (n : ℕ) (is : n ≡ total rs) where
       }
 
   pub deleted-joined : (a b : ℕ) → a ≤ b → b ≤ n → Joined (n - (b - a)) (deletedAt a b (setAt rs)) (deleted rs a b)
-  unfolding deletedAt
   deleted-joined a b up fits =
       record {
         canon = canon-deleted rs a b;
@@ -305,7 +304,6 @@ module _ (rs : List Run) (n : ℕ) (is : n ≡ total rs) where
       }
 
   pub inserted-joined : (pos l s : ℕ) → pos ≤ n → Joined (n + l) (insertedAt pos l s (setAt rs)) (inserted rs pos l s)
-  unfolding insertedAt
   inserted-joined pos l s fits =
       record {
         canon = canon-inserted rs pos l s;

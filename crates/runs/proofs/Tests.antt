@@ -9,7 +9,7 @@ use lib.ListN.{getD}
 use Rattle.styles.specs.Bits.{openBit, topIn}
 use Rattle.runs.specs.declared.scan.Test.the-variants.{Meets, Misses, Hides, Differs}
 use Rattle.runs.specs.Runs.{Run, run, runs, total, setAt, Other, Canon, pushRun, joinRun, clip, copyRuns, changing, adding, sums, Found, SameBehind, Spare}
-use Rattle.runs.specs.Edits.{alteredAt, deletedAt, insertedAt}
+use Rattle.runs.specs.Positions.{alteredAt, deletedAt, insertedAt}
 use Rattle.runs.proofs.Copies.{part, altered, deleted, inserted}
 use Rattle.runs.specs.Gather.{gather, Renumbered}
 use Rattle.runs.specs.Positions.{sumBelow, anyAt, allAt, stretchTo, starts, stretchCount, stretch, extended, stretchesAt, asNumbers}
@@ -125,7 +125,7 @@ joined = refl
 -- by position: bit 0 on 8 .. 12, the positions 5 .. 8 gone, four put in at 10
 sets-after : (alteredAt 8 12 (adding 1) (setAt t) 7 ≡ 0) × (alteredAt 8 12 (adding 1) (setAt t) 8 ≡ 1) × (alteredAt 8 12 (adding 1) (setAt t) 12 ≡ 2)
     × (deletedAt 5 8 (setAt t) 6 ≡ 0) × (deletedAt 5 8 (setAt t) 7 ≡ 2) × (insertedAt 10 4 9 (setAt t) 13 ≡ 9) × (insertedAt 10 4 9 (setAt t) 14 ≡ 2)
-unfolding alteredAt deletedAt insertedAt t changing setAt
+unfolding t changing setAt
 sets-after = (refl, refl, refl, refl, refl, refl, refl)
 
 grown : inserted t 10 4 0 ≡ run 5 2 ∷ run 14 0 ∷ []

@@ -1,9 +1,7 @@
--- The edits of a run list, by position: what becomes of the positions, and that the result is their joined list.
-use Prim.Native.Nat.{ℕ, _+_, _-_, _≤_, _<_, _^_}
+-- An edit of a run list leaves the joined list of its positions: what stands at each of them is said in Positions.
+use Prim.Native.Nat.{ℕ, _≤_, _<_, _^_}
 use mathlib.Core.Path.{_≡_}
-use mathlib.Core.Bool.{cond, _&&_}
 use mathlib.Core.List.{List}
-use lib.Dec.{ltb, leb}
 use lib.ListN.{length}
 use Rattle.runs.specs.Runs.{Run, runs, total, setAt, Canon}
 
@@ -12,19 +10,6 @@ pub record Joined (n : ℕ) (at : ℕ → ℕ) (rs : List Run) : Type 0 where
   pub canon : Canon rs
   pub all : total rs ≡ n
   pub sets : (p : ℕ) → p < n → setAt rs p ≡ at p
-
--- ---- The sets at positions after an edit, from those before it
--- the sets of the positions a .. b changed by f
-unfoldable pub alteredAt : ℕ → ℕ → (ℕ → ℕ) → (ℕ → ℕ) → ℕ → ℕ
-alteredAt a b f at p = cond (leb a p && ltb p b) (f (at p)) (at p)
-
--- the positions a .. b taken away
-unfoldable pub deletedAt : ℕ → ℕ → (ℕ → ℕ) → ℕ → ℕ
-deletedAt a b at p = cond (ltb p a) (at p) (at (p + (b - a)))
-
--- l positions with the set s put in before position pos
-unfoldable pub insertedAt : ℕ → ℕ → ℕ → (ℕ → ℕ) → ℕ → ℕ
-insertedAt pos l s at p = cond (ltb p pos) (at p) (cond (ltb p (pos + l)) s (at (p - l)))
 
 -- what an edit of m runs asks that leaves n positions with these sets: room for their joined list, and a sum that fits
 pub record CanEdit (n : ℕ) (at : ℕ → ℕ) (olens osets lens sets : List ℕ) (m all : ℕ) : Type 0 where

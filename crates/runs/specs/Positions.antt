@@ -1,4 +1,5 @@
--- A sum over the first n, and what is said of positions alone, with nothing of runs: a test over a range, the longest stretch that passes one, and maximal stretches.
+-- A sum over the first n, and what is said of positions alone, with nothing of runs: what an edit makes of them, a test over a range, the longest
+-- stretch that passes one, and maximal stretches.
 use Prim.Native.Nat.{ℕ, zero, suc, _+_, _-_}
 use mathlib.Core.Bool.{Bool, true, false, cond, _&&_, _||_}
 use mathlib.Core.List.{List, [], _∷_, _++_}
@@ -8,6 +9,23 @@ use lib.Dec.{ltb, leb}
 unfoldable pub sumBelow : (ℕ → ℕ) → ℕ → ℕ
 sumBelow f zero = 0
 sumBelow f (suc n) = sumBelow f n + f n
+
+-- ---- What stands at each position after an edit; `at p` stood at p before it
+-- a ≤ p < b
+abbrev pub within : ℕ → ℕ → ℕ → Bool
+within a b p = leb a p && ltb p b
+
+-- what stands at the positions a .. b changed by f
+abbrev pub alteredAt : {A : Type 0} → ℕ → ℕ → (A → A) → (ℕ → A) → ℕ → A
+alteredAt a b f at p = cond (within a b p) (f (at p)) (at p)
+
+-- the positions a .. b gone, and later ones moved down
+abbrev pub deletedAt : {A : Type 0} → ℕ → ℕ → (ℕ → A) → ℕ → A
+deletedAt a b at p = cond (ltb p a) (at p) (at (p + (b - a)))
+
+-- l positions with x put in at pos: earlier ones as they were, later ones moved up
+abbrev pub insertedAt : {A : Type 0} → ℕ → ℕ → A → (ℕ → A) → ℕ → A
+insertedAt pos l x at p = cond (ltb p pos) (at p) (cond (ltb p (pos + l)) x (at (p - l)))
 
 -- ---- A test over a range
 -- some position of from .. to passes the test

@@ -9,7 +9,8 @@ pub mod sets; // sets.rt: all sets together, and sets renumbered in place
 ghost use mathlib.Core.Path.{_≡_};
 ghost use Prim.Native.Nat.{_+_, _-_, _<_, _≤_, _^_, min, max};
 ghost use lib.ListN.{length};
-ghost use Rattle.runs.specs.Edits.{Joined, alteredAt, deletedAt, insertedAt, CanEdit};
+ghost use Rattle.runs.specs.Edits.{Joined, CanEdit};
+ghost use Rattle.runs.specs.Positions.{alteredAt, deletedAt, insertedAt};
 ghost use Rattle.runs.specs.Runs.{runs, setAt, pushRun, copyRuns, CanPush, CanCopy, sums, Found, SameBehind, changing};
 
 // `len` positions more with the set `set`, after the runs of the first `n` entries. Returns how many runs there are then.

@@ -6,7 +6,8 @@ use mathlib.Core.List.{List}
 use native.Mathlib.Omega.{arith}
 use lib.ListN.{length}
 use Rattle.runs.specs.Runs.{runs, total, setAt, Spare}
-use Rattle.runs.specs.Edits.{Joined, alteredAt, CanEdit}
+use Rattle.runs.specs.Edits.{Joined, CanEdit}
+use Rattle.runs.specs.Positions.{alteredAt}
 use Rattle.runs.specs.Gather.{gather}
 use Rattle.runs.proofs.Copies.{altered}
 use Rattle.runs.proofs.Laws.{length-runs}

@@ -7,7 +7,8 @@ use native.Mathlib.Omega.{arith}
 use lib.Bits.{and-le-r}
 use lib.ListN.{length}
 use Rattle.runs.specs.Runs.{runs, total, setAt, Spare}
-use Rattle.runs.specs.Edits.{Joined, deletedAt, CanEdit}
+use Rattle.runs.specs.Edits.{Joined, CanEdit}
+use Rattle.runs.specs.Positions.{deletedAt}
 use Rattle.runs.proofs.Copies.{deleted}
 use Rattle.runs.specs.Gather.{gather}
 use Rattle.runs.proofs.Laws.{length-runs}

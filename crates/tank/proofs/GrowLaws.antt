@@ -14,7 +14,8 @@ use Rattle.styles.specs.Bits.{pick}
 use Rattle.styles.proofs.PickLaws.{pick-both}
 use Rattle.styles.proofs.UnionLaws.{pick-none}
 use Rattle.runs.specs.Runs.{Run, runs, total, setAt, Spare}
-use Rattle.runs.specs.Edits.{Joined, insertedAt, CanEdit}
+use Rattle.runs.specs.Edits.{Joined, CanEdit}
+use Rattle.runs.specs.Positions.{insertedAt}
 use Rattle.runs.proofs.Copies.{inserted}
 use Rattle.runs.specs.Gather.{gather}
 use Rattle.runs.specs.Scan.{commonAt}

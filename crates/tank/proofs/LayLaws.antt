@@ -13,7 +13,8 @@ use Rattle.styles.specs.Bits.{pick, withBit}
 use Rattle.styles.proofs.BitLaws.{with-is}
 use Rattle.styles.proofs.PickLaws.{pick-with}
 use Rattle.runs.specs.Runs.{runs, total, setAt, adding, Spare}
-use Rattle.runs.specs.Edits.{Joined, alteredAt}
+use Rattle.runs.specs.Edits.{Joined}
+use Rattle.runs.specs.Positions.{alteredAt}
 use Rattle.runs.proofs.Copies.{altered}
 use Rattle.runs.specs.Gather.{gather}
 use Rattle.runs.proofs.EditLaws.{add-is}

@@ -22,7 +22,8 @@ use Rattle.runs.specs.Scan.{meets, CanScan}
 use Rattle.runs.proofs.ScanLaws.{stretch-le, stretch-end, stretch-ext}
 use Rattle.tank.specs.declared.Tank.{Tank}
 use Rattle.tank.specs.declared.Removed.{Removed}
-use Rattle.tank.specs.Rules.{View, within, removing, after, backFrom, stripped, afterRemove, empty, over, long, notNumber, clashes, full, refusal, removedFirst}
+use Rattle.tank.specs.Rules.{View, removing, after, backFrom, stripped, afterRemove, empty, over, long, notNumber, clashes, full, refusal, removedFirst}
+use Rattle.runs.specs.Positions.{within}
 use Rattle.tank.specs.State.{runsOf, tableOf, view, Laid, Formed, Sound, Called}
 use Rattle.tank.specs.Steps.{Trimmed, CanStrip}
 use Rattle.tank.proofs.Calls.{number-4, number-0, refused, made}

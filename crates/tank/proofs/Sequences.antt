@@ -8,7 +8,8 @@ use lib.Dec.{T, eqb}
 use borrow.Author.Tests.{ltb-false, eqb-true}
 use Rattle.styles.specs.declared.Identity.{Identity}
 use Rattle.styles.specs.Marks.{only}
-use Rattle.tank.specs.Rules.{View, within, freshLength, freshView, Edit, annotating, inserting, deleting, removing, afterAnnotate, afterInsert, afterDelete, afterRemove, stripped, after, empty, over, long, notNumber, clashes, full, refusal}
+use Rattle.tank.specs.Rules.{View, freshLength, freshView, Edit, annotating, inserting, deleting, removing, afterAnnotate, afterInsert, afterDelete, afterRemove, stripped, after, empty, over, long, notNumber, clashes, full, refusal}
+use Rattle.runs.specs.Positions.{within}
 use Rattle.tank.specs.Lengths.{gained, lost, annotates}
 use Rattle.tank.proofs.ViewLaws.{view-ext, cond-same}
 

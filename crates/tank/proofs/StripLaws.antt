@@ -17,7 +17,8 @@ use Rattle.styles.specs.Bits.{pick, hasBit, withBit, withoutBit}
 use Rattle.styles.proofs.PickLaws.{pick-without}
 use Rattle.styles.proofs.MaskLaws.{member-pick}
 use Rattle.runs.specs.Runs.{runs, total, setAt, changing, Spare}
-use Rattle.runs.specs.Edits.{Joined, alteredAt}
+use Rattle.runs.specs.Edits.{Joined}
+use Rattle.runs.specs.Positions.{alteredAt}
 use Rattle.runs.proofs.Copies.{altered}
 use Rattle.runs.specs.Scan.{meets}
 use Rattle.runs.proofs.EditLaws.{drop-is, total-altered, altered-in, altered-out, canon-altered}

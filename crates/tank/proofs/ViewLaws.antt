@@ -14,7 +14,8 @@ use Rattle.styles.specs.Bits.{pick}
 use Rattle.runs.specs.Runs.{Run, total, setAt}
 use Rattle.runs.proofs.Copies.{altered, deleted, inserted}
 use Rattle.runs.proofs.EditLaws.{total-altered, at-altered, total-deleted, at-deleted, total-inserted, at-inserted}
-use Rattle.tank.specs.Rules.{View, within, afterAnnotate, inherited, afterInsert, afterDelete, stripped}
+use Rattle.tank.specs.Rules.{View, afterAnnotate, inherited, afterInsert, afterDelete, stripped}
+use Rattle.runs.specs.Positions.{within}
 use Rattle.tank.specs.State.{viewOf}
 
 -- two views are equal where they agree at each position

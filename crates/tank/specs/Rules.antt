@@ -5,7 +5,7 @@ use mathlib.Core.Bool.{Bool, true, false, cond, _&&_, not}
 use mathlib.Core.List.{List, [], _∷_}
 use lib.Dec.{ltb, leb, eqb}
 use lib.ListN.{length}
-use Rattle.runs.specs.Positions.{stretchCount, stretchTo}
+use Rattle.runs.specs.Positions.{alteredAt, deletedAt, insertedAt, stretchCount, stretchTo}
 use Rattle.styles.specs.declared.Identity.{Identity}
 use Rattle.styles.specs.declared.Mark.{Mark}
 use Rattle.styles.specs.Order.{idOf, sameId}
@@ -19,10 +19,6 @@ pub record View : Type 0 where
   pub touched : Bool
   pub at : ℕ → List Mark
 
--- a ≤ p < b
-abbrev pub within : ℕ → ℕ → ℕ → Bool
-within a b p = leb a p && ltb p b
-
 -- ---- A fresh tank has length T, no marks, untouched
 -- T = 2^62 - 1
 abbrev pub freshLength : ℕ
@@ -35,7 +31,7 @@ freshView = record { length = freshLength; touched = false; at = λ p. [] }
 -- ---- Annotate a .. b: every position of it gains the mark, the tank becomes touched
 unfoldable pub afterAnnotate : ℕ → ℕ → Mark → View → View
 afterAnnotate a b m v =
-    record { length = v .length; touched = true; at = λ p. cond (within a b p) (insertMark m (v .at p)) (v .at p) }
+    record { length = v .length; touched = true; at = alteredAt a b (insertMark m) (v .at) }
 
 -- ---- Insert len at pos
 -- at 0 and at the length the empty set; otherwise the marks common to positions pos - 1 and pos, by identity
@@ -49,7 +45,7 @@ afterInsert pos len v =
     (record {
       length = v .length + len;
       touched = true;
-      at = λ p. cond (ltb p pos) (v .at p) (cond (ltb p (pos + len)) (inherited pos v) (v .at (p - len)));
+      at = insertedAt pos len (inherited pos v) (v .at);
     })
     v
 
@@ -64,7 +60,7 @@ afterDelete a b v =
     (record {
       length = v .length - (b - a);
       touched = true;
-      at = λ p. cond (ltb p a) (v .at p) (v .at (p + (b - a)));
+      at = deletedAt a b (v .at);
     })
     v
 
@@ -76,7 +72,7 @@ backFrom id last v = stretchTo (λ p. member id (v .at p)) (last + 1)
 -- positions a .. b lose an identity
 unfoldable pub stripped : Identity → ℕ → ℕ → View → View
 stripped id a b v =
-    record { length = v .length; touched = v .touched; at = λ p. cond (within a b p) (removeMark id (v .at p)) (v .at p) }
+    record { length = v .length; touched = v .touched; at = alteredAt a b (removeMark id) (v .at) }
 
 -- that stretch loses it; positions after last keep it
 unfoldable pub afterRemove : Identity → ℕ → View → View

@@ -12,7 +12,8 @@ use Rattle.styles.specs.Marks.{Sorted}
 use Rattle.styles.proofs.WalkLaws.{sorted-pick}
 use Rattle.styles.proofs.SetLaws.{sorted-insert, sorted-only}
 use Rattle.tank.specs.declared.Tank.{Tank}
-use Rattle.tank.specs.Rules.{View, within, freshView, Edit, annotating, inserting, deleting, removing, afterAnnotate, inherited, afterInsert, forInsert, afterDelete, backFrom, stripped, afterRemove, after}
+use Rattle.tank.specs.Rules.{View, freshView, Edit, annotating, inserting, deleting, removing, afterAnnotate, inherited, afterInsert, forInsert, afterDelete, backFrom, stripped, afterRemove, after}
+use Rattle.runs.specs.Positions.{within}
 use Rattle.tank.specs.State.{view, Laid, tableOf}
 use Rattle.tank.proofs.Sequences as own
 use Rattle.tanks.specs.declared.Setting.{Setting}
