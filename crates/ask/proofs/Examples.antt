@@ -23,11 +23,11 @@ use Rattle.lists.proofs.AnchorsOnRuns.{edges, anchorsOn, anchors-on}
 use Rattle.questions.specs.declared.Told.the-variants.{Refused}
 use Rattle.questions.specs.Questions.{yesNo, yesNoRefusal, rangeContainsKey}
 use Rattle.tanks.specs.declared.Setting.{Setting}
-use Rattle.tanks.specs.Settings.{allKeepRule, accepted as settingsFit, claims, judgement}
+use Rattle.tanks.specs.Settings.{allKeepRule, accepted, claims, judgement}
 use Rattle.tanks.specs.House.{House, tankAt, openNumber, noTank, refusalAt, insertedSetAt, removedFirstAt}
 use Rattle.tanks.specs.Pool.{tankNumbers}
-use Rattle.tanks.proofs.OnRuns.{Kept, fresh, keptAt, heldOn, viewOn, houseOn, numberAt, allAfter, may, Way, step, steps, Fit, AllFit, all-fresh, opening-on, tank-on, held-on, number-on, after-fit, after-on, step-clear, steps-clear, steps-on}
-use Rattle.ask.specs.Examples.{Answer, refused, accepted, gives, first, reply, answer, marksAt, Look, Looks, winners, Line, given, call, holds, containsKey, wins, anchored, Says, leaves, AllSaid, Case, Holds, AllHold, A, B, C, table}
+use Rattle.tanks.proofs.OnRuns.{Kept, fresh, keptAt, keptAfter, tried, tried-clear, own-on, heldOn, viewOn, houseOn, numberAt, allAfter, may, Way, step, steps, Fit, AllFit, all-fresh, opening-on, tank-on, held-on, number-on, after-fit, after-on, step-clear, steps-clear, steps-on}
+use Rattle.ask.specs.Examples.{Answer, refused, taken, gives, begins, reply, answer, marksAt, Look, Looks, winners, Line, given, made, would, runsAre, containsKey, wins, anchored, Says, leaves, AllSaid, Case, Holds, AllHold, A, B, C, table}
 use Rattle.ask.proofs.Ranges.{rangeOf, ranges, ranges-at}
 
 -- the marks of all examples, in order
@@ -40,10 +40,10 @@ sorted = ((refl, (refl, tt)), ((refl, tt), (tt, tt)))
 
 -- ---- what a call answers, by its number and the tank
 unfoldable replyOn : ℕ → Edit → View → Answer
-replyOn n (annotating a b m) v = accepted
+replyOn n (annotating a b m) v = taken
 replyOn n (inserting pos len) v = gives (cond (eqb n 0) (forInsert pos v) [])
-replyOn n (deleting a b) v = accepted
-replyOn n (removing id last) v = first (cond (eqb n 0) (backFrom id last v) 0)
+replyOn n (deleting a b) v = taken
+replyOn n (removing id last) v = begins (cond (eqb n 0) (backFrom id last v) 0)
 
 unfoldable answerOn : ℕ → Edit → View → Answer
 unfolding replyOn
@@ -65,9 +65,10 @@ lookOn k = record { length = total (k .runs); runs = length (k .runs); marks = r
 unfoldable finds : List Setting → List Kept → Line → Line
 unfolding answerOn lookOn abc
 finds st ks (given cs) = given cs
-finds st ks (call t e says look) =
-    call t e (answerOn (numberAt st abc ks t e) e (viewOn abc (keptAt ks t))) (lookOn (keptAt (allAfter st abc ks t e) t))
-finds st ks (holds ns sum) = holds (map (heldOn ks) tankNumbers) (claims st (heldOn ks) 8)
+finds st ks (made t e says look) =
+    made t e (answerOn (numberAt st abc ks t e) e (viewOn abc (keptAt ks t))) (lookOn (keptAt (allAfter st abc ks t e) t))
+finds st ks (would t e n) = would t e (length (keptAfter abc e (keptAt ks t) .runs))
+finds st ks (runsAre ns sum) = runsAre (map (heldOn ks) tankNumbers) (claims st (heldOn ks) 8)
 finds st ks (containsKey t a b key says) = containsKey t a b key (cond (noTank t) (Refused 1) (rangeContainsKey a b key (viewOn abc (keptAt ks t))))
 finds st ks (wins t key p ws) = wins t key p (winners key p (length ws) (viewOn abc (keptAt ks t)))
 finds st ks (anchored t xs) = anchored t (anchorsOn abc (keptAt ks t .runs))
@@ -76,8 +77,9 @@ finds st ks (anchored t xs) = anchored t (anchorsOn abc (keptAt ks t .runs))
 unfoldable next : List Setting → Way → Line → Way
 unfolding abc
 next st w (given cs) = steps st abc w cs
-next st w (call t e says look) = step st abc w t e
-next st w (holds ns sum) = w
+next st w (made t e says look) = step st abc w t e
+next st w (would t e n) = tried abc w t e
+next st w (runsAre ns sum) = w
 next st w (containsKey t a b key says) = w
 next st w (wins t key p ws) = w
 next st w (anchored t xs) = w
@@ -104,10 +106,10 @@ module _ (st : List Setting) (w : Way) (f : AllFit abc (w .kept)) where
   abbrev h : House
   h = houseOn st abc ks
 
-  call-stands : (t : ℕ) (e : Edit) (says : Answer) (look : Look) → step st abc w t e .clear ≡ true
-      → finds st ks (call t e says look) ≡ call t e says look → Stands st w (call t e says look)
+  made-stands : (t : ℕ) (e : Edit) (says : Answer) (look : Look) → step st abc w t e .clear ≡ true
+      → finds st ks (made t e says look) ≡ made t e says look → Stands st w (made t e says look)
   unfolding finds Says leaves next step allAfter
-  call-stands t e says look m q =
+  made-stands t e says look m q =
       let a : answerOn (numberAt st abc ks t e) e (viewOn abc (keptAt ks t)) ≡ says = cc in
       let b : lookOn (keptAt (allAfter st abc ks t e) t) ≡ look = cc in
       let ok = step-clear abc sorted st w t e m .1 in
@@ -123,10 +125,14 @@ module _ (st : List Setting) (w : Way) (f : AllFit abc (w .kept)) where
       }
 
   line-stands : (l : Line) → next st w l .clear ≡ true → finds st ks l ≡ l → Stands st w l
-  unfolding finds Says leaves next
+  unfolding finds Says leaves next tried
   line-stands (given cs) m q = let k = steps-on abc sorted st w cs f m in record { says = tt; left = k .0; fits = k .1 }
-  line-stands (call t e says look) m q = call-stands t e says look m q
-  line-stands (holds ns sum) m q =
+  line-stands (made t e says look) m q = made-stands t e says look m q
+  line-stands (would t e n) m q =
+      let a : length (keptAfter abc e (keptAt ks t) .runs) ≡ n = cc in
+      let k = own-on abc sorted st ks t e f (tried-clear abc w t e m .1) in
+      record { says = (k .0, k .1 ∙ a); left = refl; fits = f }
+  line-stands (runsAre ns sum) m q =
       let a : map (heldOn ks) tankNumbers ≡ ns = cc in
       let b : claims st (heldOn ks) 8 ≡ sum = cc in
       let e = held-on abc sorted st ks f in
@@ -163,8 +169,9 @@ report st w (l ∷ ls) = onto (finds st (w .kept) l) (report st (next st w l) ls
 next-clear : (st : List Setting) (w : Way) (l : Line) → next st w l .clear ≡ true → w .clear ≡ true
 unfolding next
 next-clear st w (given cs) m = steps-clear abc sorted st w cs m
-next-clear st w (call t e says look) m = step-clear abc sorted st w t e m .0
-next-clear st w (holds ns sum) m = m
+next-clear st w (made t e says look) m = step-clear abc sorted st w t e m .0
+next-clear st w (would t e n) m = tried-clear abc w t e m .0
+next-clear st w (runsAre ns sum) m = m
 next-clear st w (containsKey t a b key says) m = m
 next-clear st w (wins t key p ws) m = m
 next-clear st w (anchored t xs) m = m
@@ -194,7 +201,7 @@ begin = record { clear = true; kept = replicate 8 fresh }
 
 unfoldable found : Case → Found
 unfolding report
-found c = record { opens = settingsFit (c .settings); report = report (c .settings) begin (c .lines) }
+found c = record { opens = accepted (c .settings); report = report (c .settings) begin (c .lines) }
 
 unfoldable claimed : Case → Found
 claimed c = record { opens = true; report = record { clear = true; lines = c .lines } }
@@ -216,8 +223,8 @@ all-hold (c ∷ cs) e =
     (case-holds c here, all-hold cs there)
 
 pub examples : AllHold table
-unfolding table found claimed abc settingsFit allKeepRule sumBelow
-    numberAt allAfter step steps may judgement known numberOn runsAfter touchedAfter ranges rangeOf anchorsOn edges anchorsOf
+unfolding table found claimed abc accepted allKeepRule sumBelow
+    numberAt allAfter step steps tried may judgement known numberOn runsAfter touchedAfter ranges rangeOf anchorsOn edges anchorsOf
     altered deleted inserted copyRuns pushRun joinRun changing gather commonAt setAt total
     pick withBit placeOf member stands numbers clash sameContent only hasKey winner winners
     refusal empty over long notNumber clashes full forInsert inherited backFrom stretchTo anyAt yesNo yesNoRefusal

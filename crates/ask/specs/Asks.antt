@@ -10,7 +10,7 @@ use Rattle.questions.specs.declared.Shown.{Shown}
 use Rattle.questions.specs.declared.Told.{Told}
 use Rattle.questions.specs.Questions.{setOf, sharedOf, valueAt, stylesAt, styleAt, stylesForInsert, styleForInsert, rangeContainsKey, rangeHasKeyValue, stylesOfRange}
 use Rattle.lists.specs.declared.Listed.{Listed}
-use Rattle.lists.specs.Lists.{rangeNeeded, wholeNeeded}
+use Rattle.lists.specs.Lists.{rangeNeeded, wholeNeeded, filledBeside}
 use Rattle.lists.specs.Anchors.{anchorsNeeded}
 use Rattle.tank.specs.Rules.{View}
 use Rattle.tanks.specs.House.{House, noTank, tankAt}
@@ -55,7 +55,7 @@ sameAsked h t a b = askAt h t (sharedOf 1 false []) (stylesOfRange a b)
 -- ---- Lists
 -- no such tank: nothing is listed
 abbrev pub noList : Listed
-noList = record { number = 1; count = 0 }
+noList = filledBeside {A = ℕ} 1 []
 
 -- the count needed for the stretches of a .. b
 abbrev pub rangeNeededAsked : House → ℕ → ℕ → ℕ → Listed

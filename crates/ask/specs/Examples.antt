@@ -16,7 +16,7 @@ use Rattle.richtext.specs.declared.AnchorType.the-variants.{Start, End}
 use Rattle.lists.specs.Anchors.{anchorOf, anchors}
 use Rattle.questions.specs.declared.Told.{Told}
 use Rattle.questions.specs.declared.Told.the-variants.{Yes, No}
-use Rattle.tank.specs.Rules.{View, freshLength, runsHeld, Edit, annotating, inserting, deleting, removing}
+use Rattle.tank.specs.Rules.{View, freshLength, runsHeld, Edit, annotating, inserting, deleting, removing, after, refusal, whenAccepted}
 use Rattle.runs.specs.Positions.{within}
 use Rattle.tanks.specs.declared.Setting.{Setting}
 use Rattle.tanks.specs.Settings.{claims}
@@ -28,20 +28,20 @@ use Rattle.ask.specs.Asks.{keyAsked}
 -- a call's answer: the refusal's number, or accepted, an insertion's set, a removal's first position
 pub data Answer : Type 0 where
   refused : ℕ → Answer
-  accepted : Answer
+  taken : Answer
   gives : List Mark → Answer
-  first : ℕ → Answer
+  begins : ℕ → Answer
 
 -- what an accepted call answers: an insertion its set, a removal the first position, annotate and delete no more than accepted
 unfoldable pub reply : House → ℕ → Edit → Answer
-reply h t (annotating a b m) = accepted
+reply h t (annotating a b m) = taken
 reply h t (inserting pos len) = gives (insertedSetAt h t pos len)
-reply h t (deleting a b) = accepted
-reply h t (removing id last) = first (removedFirstAt h t id last)
+reply h t (deleting a b) = taken
+reply h t (removing id last) = begins (removedFirstAt h t id last)
 
 -- what a call answers: its refusal's number, or what an accepted call does
 abbrev pub answer : House → ℕ → Edit → Answer
-answer h t e = cond (eqb (refusalAt h t e) 0) (reply h t e) (refused (refusalAt h t e))
+answer h t e = whenAccepted (refusalAt h t e) (reply h t e) (refused (refusalAt h t e))
 
 -- the positions start .. end, each with these marks
 pub record Range : Type 0 where
@@ -76,9 +76,11 @@ pub data Line : Type 0 where
   -- calls that went before, their answers left out
   given : List Call → Line
   -- a call on a tank, its answer, and the tank after it
-  call : ℕ → Edit → Answer → Look → Line
+  made : ℕ → Edit → Answer → Look → Line
+  -- an edit that a tank's own rules allow would leave it with so many runs
+  would : ℕ → Edit → ℕ → Line
   -- the runs that each tank holds, and the sum over tanks of the larger of runs and share
-  holds : List ℕ → ℕ → Line
+  runsAre : List ℕ → ℕ → Line
   -- of a tank: has any position of a .. b a mark with this key?
   containsKey : ℕ → ℕ → ℕ → ℕ → Told → Line
   -- of a tank: the winners of a key from a position on
@@ -90,8 +92,9 @@ pub data Line : Type 0 where
 unfoldable pub Says : Line → House → Type 0
 unfolding reply winners
 Says (given cs) h = Unit {0}
-Says (call t e says look) h = (answer h t e ≡ says) × Looks look (tankAt (afterAt h t e) t)
-Says (holds ns sum) h = (map (held h) tankNumbers ≡ ns) × (claims (h .settings) (held h) 8 ≡ sum)
+Says (made t e says look) h = (answer h t e ≡ says) × Looks look (tankAt (afterAt h t e) t)
+Says (would t e n) h = (refusal e (tankAt h t) ≡ 0) × (runsHeld (after e (tankAt h t)) ≡ n)
+Says (runsAre ns sum) h = (map (held h) tankNumbers ≡ ns) × (claims (h .settings) (held h) 8 ≡ sum)
 Says (containsKey t a b key says) h = keyAsked h t a b key ≡ says
 Says (wins t key p ws) h = winners key p (length ws) (tankAt h t) ≡ ws
 Says (anchored t xs) h = anchors (tankAt h t) ≡ xs
@@ -99,8 +102,9 @@ Says (anchored t xs) h = anchors (tankAt h t) ≡ xs
 -- and the house that it leaves
 unfoldable pub leaves : Line → House → House
 leaves (given cs) h = afterAll h cs
-leaves (call t e says look) h = afterAt h t e
-leaves (holds ns sum) h = h
+leaves (made t e says look) h = afterAt h t e
+leaves (would t e n) h = h
+leaves (runsAre ns sum) h = h
 leaves (containsKey t a b key says) h = h
 leaves (wins t key p ws) h = h
 leaves (anchored t xs) h = h
@@ -162,11 +166,11 @@ alone = opened 1 512
 
 -- a call on that tank, its answer, and the tank after it
 abbrev pub edit : Edit → Answer → Look → Line
-edit = call 0
+edit = made 0
 
 -- A on 10..20, with which most of them begin
 abbrev pub first-A : Line
-first-A = edit (annotating 10 20 A) accepted (look freshLength 3 (on 10 20 (A ∷ []) ∷ []))
+first-A = edit (annotating 10 20 A) taken (look freshLength 3 (on 10 20 (A ∷ []) ∷ []))
 
 -- A on n positions, every second one from p on: 2n runs where p is 0, and 2n + 1 where it is 1
 unfoldable pub dots : ℕ → ℕ → List Range
@@ -183,7 +187,7 @@ abbrev pub last-A : Edit
 last-A = annotating (freshLength - 1) freshLength A
 
 -- ---- The table
--- the twelve numbered examples in their order; the tenth takes two lines of the table
+-- the twelve numbered examples in their order; the tenth takes two cases
 unfoldable pub table : List Case
 unfolding dots laying
 table =
@@ -198,27 +202,27 @@ table =
     -- 5. A on 10..20, C on 15..25: 5 runs. Insert 15, len 2: {A}, still 5.
     ∷ alone
     (first-A
-    ∷ edit (annotating 15 25 C) accepted (look freshLength 5 (on 10 15 (A ∷ []) ∷ on 15 20 (A ∷ C ∷ []) ∷ on 20 25 (C ∷ []) ∷ []))
+    ∷ edit (annotating 15 25 C) taken (look freshLength 5 (on 10 15 (A ∷ []) ∷ on 15 20 (A ∷ C ∷ []) ∷ on 20 25 (C ∷ []) ∷ []))
     ∷ edit (inserting 15 2) (gives (A ∷ [])) (look 4611686018427387905 5 (on 10 17 (A ∷ []) ∷ on 17 22 (A ∷ C ∷ []) ∷ on 22 27 (C ∷ []) ∷ []))
     ∷ [])
     -- 6. A on 10..20, C on 20..30: 4 runs. Insert 20, len 1: empty, 5 runs.
     ∷ alone
     (first-A
-    ∷ edit (annotating 20 30 C) accepted (look freshLength 4 (on 10 20 (A ∷ []) ∷ on 20 30 (C ∷ []) ∷ []))
+    ∷ edit (annotating 20 30 C) taken (look freshLength 4 (on 10 20 (A ∷ []) ∷ on 20 30 (C ∷ []) ∷ []))
     ∷ edit (inserting 20 1) (gives []) (look 4611686018427387904 5 (on 10 20 (A ∷ []) ∷ on 21 31 (C ∷ []) ∷ []))
     ∷ [])
     -- 7. A and B on 10..20: B wins key 1.
     ∷ alone
-    (first-A ∷ edit (annotating 10 20 B) accepted (look freshLength 3 (on 10 20 (A ∷ B ∷ []) ∷ [])) ∷ wins 0 1 10 (replicate 10 (Shows B)) ∷ [])
+    (first-A ∷ edit (annotating 10 20 B) taken (look freshLength 3 (on 10 20 (A ∷ B ∷ []) ∷ [])) ∷ wins 0 1 10 (replicate 10 (Shows B)) ∷ [])
     -- 8. A on 10..20, delete 10..20: 1 run, length 4611686018427387893. Insert 0, len 10: length T.
     ∷ alone
-    (first-A ∷ edit (deleting 10 20) accepted (look 4611686018427387893 1 []) ∷ edit (inserting 0 10) (gives []) (look freshLength 1 []) ∷ [])
+    (first-A ∷ edit (deleting 10 20) taken (look 4611686018427387893 1 []) ∷ edit (inserting 0 10) (gives []) (look freshLength 1 []) ∷ [])
     -- 9. A on 10..20, remove from 19: answer 10, 1 run.
-    ∷ alone (first-A ∷ edit (removing (idOf A) 19) (first 10) (look freshLength 1 []) ∷ [])
+    ∷ alone (first-A ∷ edit (removing (idOf A) 19) (begins 10) (look freshLength 1 []) ∷ [])
     -- 10. Remove from 14 instead: answer 10, A on 15..20.
-    ∷ alone (first-A ∷ edit (removing (idOf A) 14) (first 10) (look freshLength 3 (on 15 20 (A ∷ []) ∷ [])) ∷ [])
+    ∷ alone (first-A ∷ edit (removing (idOf A) 14) (begins 10) (look freshLength 3 (on 15 20 (A ∷ []) ∷ [])) ∷ [])
     -- From 5: answer 6.
-    ∷ alone (first-A ∷ edit (removing (idOf A) 5) (first 6) (look freshLength 3 (on 10 20 (A ∷ []) ∷ [])) ∷ [])
+    ∷ alone (first-A ∷ edit (removing (idOf A) 5) (begins 6) (look freshLength 3 (on 10 20 (A ∷ []) ∷ [])) ∷ [])
     -- 11. A on 10..20. Key 1 in 20..30: no. In 19..20: yes. In 5..5: no.
     ∷ alone (first-A ∷ containsKey 0 20 30 1 No ∷ containsKey 0 19 20 1 Yes ∷ containsKey 0 5 5 1 No ∷ [])
     -- 12. Shares 40, limits 200. Tank 0 holds 200, tank 1 holds 72, tank 3 holds 39, the rest 40: sum 512.
@@ -229,10 +233,12 @@ table =
     ∷ given (laying 2 (dots 0 20))
     ∷ given (laying 3 (dots 1 19))
     ∷ given (laying 4 (dots 0 20) ++ laying 5 (dots 0 20) ++ laying 6 (dots 0 20) ++ laying 7 (dots 0 20))
-    ∷ holds (200 ∷ 72 ∷ 40 ∷ 39 ∷ 40 ∷ 40 ∷ 40 ∷ 40 ∷ []) 512
-    ∷ call 2 last-A (refused 10) (look freshLength 40 (dots 0 20))
-    ∷ call 0 last-A (refused 9) (look freshLength 200 (dots 0 100))
-    ∷ call 3 last-A accepted (look freshLength 40 (dots 1 19 ++ on (freshLength - 1) freshLength (A ∷ []) ∷ []))
-    ∷ holds (200 ∷ 72 ∷ 40 ∷ 40 ∷ 40 ∷ 40 ∷ 40 ∷ 40 ∷ []) 512
+    ∷ runsAre (200 ∷ 72 ∷ 40 ∷ 39 ∷ 40 ∷ 40 ∷ 40 ∷ 40 ∷ []) 512
+    ∷ would 2 last-A 41
+    ∷ made 2 last-A (refused 10) (look freshLength 40 (dots 0 20))
+    ∷ would 0 last-A 201
+    ∷ made 0 last-A (refused 9) (look freshLength 200 (dots 0 100))
+    ∷ made 3 last-A taken (look freshLength 40 (dots 1 19 ++ on (freshLength - 1) freshLength (A ∷ []) ∷ []))
+    ∷ runsAre (200 ∷ 72 ∷ 40 ∷ 40 ∷ 40 ∷ 40 ∷ 40 ∷ 40 ∷ []) 512
     ∷ [])
     ∷ []

@@ -1,7 +1,8 @@
 -- The stretches over a range are the maximal ones: they tile it, each has one set throughout and begins where the set changes, and no other list does so.
-use Prim.Native.Nat.{ℕ, zero, suc, _-_, _≤_, _<_}
+-- The runs that a tank holds are as many as those of the whole of it.
+use Prim.Native.Nat.{ℕ, zero, suc, _+_, _-_, _≤_, _<_}
 use mathlib.Core.Path.{_≡_, refl, sym, ap, _∙_}
-use mathlib.Core.Bool.{Bool, true, false, false≢true}
+use mathlib.Core.Bool.{Bool, true, false, cond, false≢true}
 use mathlib.Core.List.{List, [], _∷_}
 use native.Mathlib.Omega.{arith}
 use native.Mathlib.Decide.{decLt, decLe}
@@ -11,8 +12,9 @@ use Rattle.styles.specs.declared.Mark.{Mark}
 use Rattle.styles.specs.Order.{idOf, sameId}
 use Rattle.styles.specs.Marks.{sameMarks}
 use Rattle.styles.proofs.ValueLaws.{both-hold}
-use Rattle.runs.specs.Positions.{Stretch, stretch, extended, stretchesAt}
-use Rattle.tank.specs.Rules.{View}
+use Rattle.runs.specs.Positions.{sumBelow, starts, stretchCount, Stretch, stretch, extended, stretchesAt}
+use Rattle.runs.proofs.SumLaws.{sum-next}
+use Rattle.tank.specs.Rules.{View, alike, runsHeld}
 use Rattle.lists.specs.Lists.{stretchesOver, Maximal, Tiles, TilesOver}
 
 pub not-lt : {p q : ℕ} → (p < q → ⊥) → q ≤ p
@@ -114,3 +116,24 @@ stretches-tile a b v = tiles _ _ (λ p. same-length (v .at p) (v .at (suc p))) a
 
 pub stretches-only : (a b : ℕ) (v : View) (xs : List Stretch) → TilesOver a b v xs → xs ≡ stretchesOver a b v
 stretches-only a b v xs h = only-one _ _ a b xs (stretchesOver a b v) h (stretches-tile a b v)
+
+-- ---- the runs that a tank holds are the maximal stretches of the whole of it
+extended-more : (a : Bool) (p c : ℕ) (xs : List Stretch) → 0 < length xs → length (extended a p c xs) ≡ length xs + cond a 0 1
+unfolding extended
+extended-more a p c [] h = absurd (omega arith)
+extended-more true p c (x ∷ xs) h = omega arith
+extended-more false p c (x ∷ xs) h = omega arith
+
+stretches-counted : (equal : ℕ → Bool) (count : ℕ → ℕ) (n : ℕ) → length (stretchesAt equal count 0 n) ≡ stretchCount equal n
+unfolding stretchesAt sumBelow starts
+stretches-counted equal count zero = refl
+stretches-counted equal count (suc zero) = refl
+stretches-counted equal count (suc (suc p)) =
+    let e : suc p - 1 ≡ p = omega arith in
+    let ih = stretches-counted equal count (suc p) in
+    simp (le-leb 0 (suc p) (omega arith))
+    (rw e (extended-more (equal p) (suc p) (count (suc p)) (stretchesAt equal count 0 (suc p)) (omega (arith, ih, sum-next (starts equal) 0 (suc p) (omega arith)))
+    ∙ ap (λ (x : ℕ). x + cond (equal p) 0 1) ih))
+
+pub runs-listed : (v : View) → runsHeld v ≡ length (stretchesOver 0 (v .length) v)
+runs-listed v = sym (stretches-counted (alike (v .at)) (λ p. length (v .at p)) (v .length))

@@ -7,7 +7,7 @@ use lib.Dec.{ltb, leb, eqb}
 use lib.ListN.{length}
 use Rattle.runs.specs.Positions.{Stretch, stretchesAt, asNumbers}
 use Rattle.lists.specs.declared.Listed.{Listed}
-use Rattle.tank.specs.Rules.{View, alike}
+use Rattle.tank.specs.Rules.{View, alike, askedRange, first, whenAccepted}
 
 -- ---- What maximal stretches are
 -- x is the last maximal stretch of a .. b, clipped to it: neighbouring positions with equal sets and as many marks each, which begin where
@@ -46,15 +46,15 @@ wholeList v = asNumbers 1 (stretchesOver 0 (v .length) v)
 
 -- 4: range end over the length; an empty range is refused nothing, wherever it lies
 unfoldable pub rangeRefusal : ℕ → ℕ → View → ℕ
-rangeRefusal a b v = cond (leb b a) 0 (cond (ltb (v .length) b) 4 0)
+rangeRefusal a b v = askedRange a b 0 v
 
 -- 11 where no lower number is given and the list is longer than the caller's buffer or list of `room` places
 unfoldable pub listRefusal : ℕ → ℕ → ℕ → ℕ
-listRefusal lower room needed = cond (eqb lower 0) (cond (ltb room needed) 11 0) lower
+listRefusal lower room needed = first lower (cond (ltb room needed) 11 0)
 
 -- what is handed over beside a number: the list, and nothing beside a refusal
 abbrev pub unlessRefused : {A : Type 0} → ℕ → List A → List A
-unlessRefused number xs = cond (eqb number 0) xs []
+unlessRefused number xs = whenAccepted number xs []
 
 -- a number, and how many places the list fills, or would fill; 0 beside a refusal
 abbrev pub filledBeside : {A : Type 0} → ℕ → List A → Listed

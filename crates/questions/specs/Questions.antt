@@ -21,7 +21,7 @@ use Rattle.questions.specs.declared.Shown.{Shown}
 use Rattle.questions.specs.declared.Shown.the-variants as shown
 use Rattle.questions.specs.declared.Told.{Told}
 use Rattle.questions.specs.declared.Told.the-variants as told
-use Rattle.tank.specs.Rules.{View, forInsert}
+use Rattle.tank.specs.Rules.{View, forInsert, askedRange}
 
 -- ---- Answers: for each case its number, 0 or a refusal's, and what stands beside it
 -- yes or no; refused: the number, with neither beside it
@@ -86,7 +86,7 @@ styleForInsert pos j v = askedOf (insertRefusal pos v) (rankOf (forInsert pos v)
 -- ---- The two yes/no questions over a .. b
 -- an empty range is refused nothing; 4: range end over the length; 6: the value asked for is NaN
 unfoldable pub yesNoRefusal : ℕ → ℕ → Bool → View → ℕ
-yesNoRefusal a b noNumber v = cond (leb b a) 0 (cond (ltb (v .length) b) 4 (cond noNumber 6 0))
+yesNoRefusal a b noNumber v = askedRange a b (cond noNumber 6 0) v
 
 -- no for an empty range, and for an untouched tank
 unfoldable pub yesNo : ℕ → ℕ → Bool → View → Bool

@@ -174,15 +174,28 @@ refusal e v =
     (cond (clashes e v) 7
     (cond (full e v) 8 0)))))
 
+-- ---- A call's number, and what stands beside it
+-- what is given where the number is 0, and what stands for it beside a refusal
+abbrev pub whenAccepted : {A : Type 0} → ℕ → A → A → A
+whenAccepted number given refused = cond (eqb number 0) given refused
+
+-- the first number, or the second where the first is 0
+abbrev pub first : ℕ → ℕ → ℕ
+first n m = whenAccepted n m n
+
 -- the tank after a call: a refused one leaves it as it was
 abbrev pub afterCall : Edit → View → View
-afterCall e v = cond (eqb (refusal e v) 0) (after e v) v
+afterCall e v = whenAccepted (refusal e v) (after e v) v
 
--- ---- What stands beside the number
 -- an insertion's set; refused: the empty one
 abbrev pub insertedSet : ℕ → ℕ → View → List Mark
-insertedSet pos len v = cond (eqb (refusal (inserting pos len) v) 0) (forInsert pos v) []
+insertedSet pos len v = whenAccepted (refusal (inserting pos len) v) (forInsert pos v) []
 
 -- a removal's first position; refused: 0
 abbrev pub removedFirst : Identity → ℕ → View → ℕ
-removedFirst id last v = cond (eqb (refusal (removing id last) v) 0) (backFrom id last v) 0
+removedFirst id last v = whenAccepted (refusal (removing id last) v) (backFrom id last v) 0
+
+-- ---- A range that is asked about
+-- an empty one is refused nothing; 4: range end over the length; then what else the question is refused by
+abbrev pub askedRange : ℕ → ℕ → ℕ → View → ℕ
+askedRange a b later v = cond (leb b a) 0 (cond (ltb (v .length) b) 4 later)

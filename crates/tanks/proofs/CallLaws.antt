@@ -6,12 +6,12 @@ use native.Mathlib.Omega.{arith}
 use lib.Dec.{eqb}
 use borrow.Author.Tests.{eqb-true, le-leb, lt-leb, ne-eqb}
 use Rattle.tank.specs.declared.Tank.{Tank}
-use Rattle.tank.specs.Rules.{View, freshView, runsHeld, Edit, after, refusal, afterCall}
+use Rattle.tank.specs.Rules.{View, freshView, runsHeld, Edit, after, refusal, afterCall, first}
 use Rattle.tank.specs.State.{view, Called}
 use Rattle.tank.proofs.Unique.{runs-held}
 use Rattle.tanks.specs.declared.Tanks.{Tanks}
 use Rattle.tanks.specs.Settings.{judgement}
-use Rattle.tanks.specs.House.{House, tankAt, held, first, refusalAt, withTank, afterAt}
+use Rattle.tanks.specs.House.{House, tankAt, held, refusalAt, withTank, afterAt}
 use Rattle.tanks.specs.Pool.{runsIn, tankOf, meaning, Sound}
 use Rattle.tanks.specs.Contracts.{CalledAt}
 use Rattle.tanks.proofs.SettingLaws.{first-zero, TakenOut}

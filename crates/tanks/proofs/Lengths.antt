@@ -8,12 +8,12 @@ use native.Mathlib.Omega.{arith}
 use lib.Dec.{eqb}
 use borrow.Author.Tests.{eqb-true, eqb-false, eq-eqb}
 use lib.ListN.{length, length-set, getD-replicate}
-use Rattle.tank.specs.Rules.{View, freshLength, freshView, runsHeld, Edit, annotating, inserting, deleting, removing, afterInsert, afterDelete, afterRemove, stripped, after, refusal}
+use Rattle.tank.specs.Rules.{View, freshLength, freshView, runsHeld, Edit, annotating, inserting, deleting, removing, afterInsert, afterDelete, afterRemove, stripped, after, refusal, first}
 use Rattle.tank.specs.Lengths.{gained, lost, annotates}
 use Rattle.tank.proofs.Sequences as own
 use Rattle.tanks.specs.declared.Setting.{Setting}
 use Rattle.tanks.specs.Settings.{accepted, judgement}
-use Rattle.tanks.specs.House.{House, tankAt, held, opening, first, refusalAt, withTank, afterAt, Call, afterAll, reached, sumOn, FirstOn, houseThen}
+use Rattle.tanks.specs.House.{House, tankAt, held, opening, refusalAt, withTank, afterAt, Call, afterAll, reached, sumOn, FirstOn, houseThen}
 use Rattle.tanks.proofs.CallLaws.{refusal-in}
 use Rattle.tanks.proofs.Theorems.{with-same, others-stay, reached-kept}
 

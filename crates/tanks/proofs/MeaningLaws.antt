@@ -10,13 +10,13 @@ use borrow.Author.Tests.{eqb-true, eqb-false, eq-eqb, ne-eqb}
 use lib.ListN.{length, getD, set, length-set, List·getD-eq-default}
 use lib.Seq.{getD-set-same, getD-set-other, ext-getD}
 use Rattle.tank.specs.declared.Tank.{Tank}
-use Rattle.tank.specs.Rules.{View, freshView, runsHeld}
+use Rattle.tank.specs.Rules.{View, freshView, runsHeld, first}
 use Rattle.tank.specs.State.{view, Formed}
 use Rattle.tank.proofs.Unique.{runs-held}
 use Rattle.tanks.specs.declared.Head.{Head}
 use Rattle.tanks.specs.declared.Tanks.{Tanks}
 use Rattle.tanks.specs.Settings.{limitOf, claims, heldAfter, judgement}
-use Rattle.tanks.specs.House.{held, first, withTank}
+use Rattle.tanks.specs.House.{held, withTank}
 use Rattle.tanks.specs.Pool.{noHead, runsIn, runsBelow, tankIn, tankOf, headOf, tableIn, meaning, Sound}
 use Rattle.tanks.proofs.Put.{puts}
 use Rattle.tanks.proofs.PutLaws.{put-length, put-blank, put-same, put-other}

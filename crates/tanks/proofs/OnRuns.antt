@@ -16,14 +16,14 @@ use Rattle.styles.proofs.UnionLaws.{pick-none}
 use Rattle.runs.specs.Runs.{Run, run, total, Other, Canon}
 use Rattle.runs.specs.Gather.{gather}
 use Rattle.runs.proofs.Laws.{at-last, at-past}
-use Rattle.tank.specs.Rules.{View, freshLength, freshView, runsHeld, Edit, after, refusal}
+use Rattle.tank.specs.Rules.{View, freshLength, freshView, runsHeld, Edit, after, refusal, first}
 use Rattle.tank.specs.State.{viewOf}
 use Rattle.tank.proofs.Counted.{counted}
 use Rattle.tank.proofs.OnRuns.{known, numberOn, runsAfter, touchedAfter, canon-after, refusal-on, call-on}
 use Rattle.tank.proofs.ViewLaws.{view-ext}
 use Rattle.tanks.specs.declared.Setting.{Setting}
 use Rattle.tanks.specs.Settings.{accepted, judgement}
-use Rattle.tanks.specs.House.{House, tankAt, held, opening, noTank, first, refusalAt, withTank, afterAt, Call, afterAll}
+use Rattle.tanks.specs.House.{House, tankAt, held, opening, noTank, refusalAt, withTank, afterAt, Call, afterAll}
 use Rattle.tanks.proofs.CallLaws.{first-when}
 use Rattle.tanks.proofs.SettingLaws.{both, first-zero}
 
@@ -92,6 +92,14 @@ unfolding step
 steps st ms w [] = w
 steps st ms w (c ∷ cs) = steps st ms (step st ms w (c .tank) (c .edit)) cs
 
+-- an edit that a tank's own rules allow, tried and not made
+unfoldable pub tried : List Mark → Way → ℕ → Edit → Way
+unfolding may
+tried ms w t e = record {
+  clear = w .clear && (may ms e (keptAfter ms e (keptAt (w .kept) t)) && eqb (numberOn ms e (keptAt (w .kept) t .touched) (keptAt (w .kept) t .runs)) 0);
+  kept = w .kept;
+}
+
 -- ---- in joined form, with no set beyond the table
 pub record Fit (ms : List Mark) (k : Kept) : Type 0 where
   pub canon : Canon (k .runs)
@@ -116,6 +124,11 @@ map-set {B = B} f x (y ∷ l) (suc t) = ap (λ (m : List B). f y ∷ m) (map-set
 own-zero : (b : Bool) (n m : ℕ) → cond b 1 (first n m) ≡ 0 → n ≡ 0
 own-zero true n m h = absurd (omega arith)
 own-zero false n m h = first-zero n m h
+
+pub tried-clear : (ms : List Mark) (w : Way) (t : ℕ) (e : Edit) → tried ms w t e .clear ≡ true
+    → (w .clear ≡ true) × ((may ms e (keptAfter ms e (keptAt (w .kept) t)) && eqb (numberOn ms e (keptAt (w .kept) t .touched) (keptAt (w .kept) t .runs)) 0) ≡ true)
+unfolding tried
+tried-clear ms w t e m = both (w .clear) _ m
 
 module _ (ms : List Mark) (sorted : Sorted ms) where
   fresh-is : freshView ≡ viewOn ms fresh
@@ -192,6 +205,14 @@ module _ (ms : List Mark) (sorted : Sorted ms) where
             ∙ ap (cond (noTank t) 1)
             (first-when _ _ _ (λ z. ap (judgement st (heldOn ks) t) (ap runsHeld (edit-on e k (f t) is-known z) ∙ held-in new new-fit)))
 
+        own-by : numberOn ms e (keptAt ks t .touched) (keptAt ks t .runs) ≡ 0
+            → (refusal e (tankAt h t) ≡ 0) × (runsHeld (after e (tankAt h t)) ≡ length (new .runs))
+        own-by z =
+            let k = keptAt ks t in (
+              ap (refusal e) (tank-on t) ∙ refusal-on ms sorted e (k .touched) (k .runs) (f t .canon) ∙ z,
+              ap (λ v. runsHeld (after e v)) (tank-on t) ∙ ap runsHeld (edit-on e k (f t) is-known z) ∙ held-in new new-fit,
+            )
+
         pub after-fit : AllFit ms (allAfter st ms ks t e)
         unfolding allAfter numberAt
         after-fit = go (eqb (numberAt st ms ks t e) 0)
@@ -213,6 +234,14 @@ module _ (ms : List Mark) (sorted : Sorted ms) where
                 let m = moved (eqb-true (numberAt st ms ks t e) 0 z) in
                 λ i. record { settings = st; tanks = (ap (set (map (viewOn ms) ks) t) m ∙ map-set (viewOn ms) new ks t) i }
             go false z = refl
+
+      -- what the rules say of an edit that was tried
+      pub own-on : (t : ℕ) (e : Edit) → AllFit ms ks
+          → (may ms e (keptAfter ms e (keptAt ks t)) && eqb (numberOn ms e (keptAt ks t .touched) (keptAt ks t .runs)) 0) ≡ true
+          → (refusal e (tankAt h t) ≡ 0) × (runsHeld (after e (tankAt h t)) ≡ length (keptAfter ms e (keptAt ks t) .runs))
+      own-on t e f ok =
+          let b = both (may ms e (keptAfter ms e (keptAt ks t))) _ ok in
+          own-by t e f (b .0) (eqb-true (numberOn ms e (keptAt ks t .touched) (keptAt ks t .runs)) 0 (b .1))
 
     -- ---- calls one after another
     pub step-clear : (w : Way) (t : ℕ) (e : Edit) → step st ms w t e .clear ≡ true

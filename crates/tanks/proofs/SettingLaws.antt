@@ -14,7 +14,7 @@ use Rattle.tanks.specs.declared.Head.{Head}
 use Rattle.tanks.specs.declared.Tanks.{Tanks}
 use Rattle.runs.specs.Positions.{sumBelow}
 use Rattle.runs.proofs.SumLaws.{sum-same, sum-least, sum-bound}
-use Rattle.tanks.specs.House.{first}
+use Rattle.tank.specs.Rules.{first}
 use Rattle.tanks.specs.Pool.{tankIn, runsIn, runsBelow, tankOf, Sound}
 use Rattle.tanks.specs.Settings.{noSetting, shareOf, limitOf, keepsRule, allKeepRule, shares, accepted, claim, claims, heldAfter, judgement}
 use Rattle.tank.specs.declared.Tank.{Tank}

@@ -16,7 +16,7 @@ use Rattle.tanks.specs.declared.Spots.{Spots}
 use Rattle.tanks.specs.declared.Table.{Table}
 use Rattle.tanks.specs.declared.Tanks.{Tanks}
 use Rattle.tanks.specs.Settings.{judgement}
-use Rattle.tanks.specs.House.{first}
+use Rattle.tank.specs.Rules.{first}
 use Rattle.tanks.specs.Pool.{noRun, runsIn, headOf, tableIn, spotsOf, Sound}
 use Rattle.tanks.proofs.Put.{runOf, runFrom, puts}
 use Rattle.tanks.proofs.LaidLaws.{laid, laid-out, laid-more, laid-back, laid-cong, below-next, below-later}

@@ -8,7 +8,7 @@ use Rattle.styles.specs.declared.Identity.{Identity}
 use Rattle.styles.specs.declared.Mark.{Mark}
 use Rattle.styles.specs.Answers.{stylesOf}
 use Rattle.tank.specs.declared.Tank.{Tank}
-use Rattle.tank.specs.Rules.{Edit, annotating, inserting, deleting, removing, insertedSet, removedFirst}
+use Rattle.tank.specs.Rules.{Edit, annotating, inserting, deleting, removing, insertedSet, removedFirst, whenAccepted}
 use Rattle.tank.specs.State as state
 use Rattle.tanks.specs.declared.Setting.{Setting}
 use Rattle.tanks.specs.declared.Head.{Head}
@@ -38,7 +38,7 @@ pub record CalledAt (s : Tanks) (t : ℕ) (e : Edit) (number : ℕ) (next : Tank
 
 -- document 01's number and value for each case of an answer: 0 and a value, or a refusal's number with nothing beside it
 abbrev pub refusedOrGiven : {A R : Type 0} → (ℕ → R) → (A → R) → ℕ → A → R
-refusedOrGiven refused given number value = cond (eqb number 0) (given value) (refused number)
+refusedOrGiven refused given number value = whenAccepted number (given value) (refused number)
 
 -- a count, as an answer
 abbrev pub counts : ℕ → ℕ → Count

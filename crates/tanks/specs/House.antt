@@ -7,7 +7,7 @@ use lib.Dec.{leb, eqb}
 use lib.ListN.{getD, set, replicate}
 use Rattle.styles.specs.declared.Identity.{Identity}
 use Rattle.styles.specs.declared.Mark.{Mark}
-use Rattle.tank.specs.Rules.{View, freshView, runsHeld, Edit, inserting, removing, after, refusal, forInsert, backFrom}
+use Rattle.tank.specs.Rules.{View, freshView, runsHeld, Edit, inserting, removing, after, refusal, forInsert, backFrom, first, whenAccepted}
 use Rattle.tank.specs.Lengths.{annotates}
 use Rattle.tanks.specs.declared.Setting.{Setting}
 use Rattle.tanks.specs.Settings.{limitOf, accepted, claims, heldAfter, judgement}
@@ -51,10 +51,6 @@ noTank t = leb 8 t
 abbrev pub askNumber : ℕ → ℕ
 askNumber t = cond (noTank t) 1 0
 
--- the first number, or the second where the first is 0
-abbrev pub first : ℕ → ℕ → ℕ
-first n m = cond (eqb n 0) m n
-
 -- an edit's number, the lowest that applies, 0 for none: 1, then the tank's own 3 to 8, then 9 and 10 by the runs that it would hold
 unfoldable pub refusalAt : House → ℕ → Edit → ℕ
 refusalAt h t e =
@@ -69,15 +65,15 @@ withTank h t v = record { settings = h .settings; tanks = set (h .tanks) t v }
 
 -- the house after a call: a refused one leaves it as it was
 unfoldable pub afterAt : House → ℕ → Edit → House
-afterAt h t e = cond (eqb (refusalAt h t e) 0) (withTank h t (after e (tankAt h t))) h
+afterAt h t e = whenAccepted (refusalAt h t e) (withTank h t (after e (tankAt h t))) h
 
 -- the answer of an insert: the set that the new positions carry; refused: the empty one
 unfoldable pub insertedSetAt : House → ℕ → ℕ → ℕ → List Mark
-insertedSetAt h t pos len = cond (eqb (refusalAt h t (inserting pos len)) 0) (forInsert pos (tankAt h t)) []
+insertedSetAt h t pos len = whenAccepted (refusalAt h t (inserting pos len)) (forInsert pos (tankAt h t)) []
 
 -- the answer of a removal: the first position of the stretch, or last + 1; refused: 0
 unfoldable pub removedFirstAt : House → ℕ → Identity → ℕ → ℕ
-removedFirstAt h t id last = cond (eqb (refusalAt h t (removing id last)) 0) (backFrom id last (tankAt h t)) 0
+removedFirstAt h t id last = whenAccepted (refusalAt h t (removing id last)) (backFrom id last (tankAt h t)) 0
 
 -- ---- Calls one after another, refused ones among them
 -- an edit, and the tank that it is for

@@ -4,7 +4,7 @@ ghost use mathlib.Core.Bool.{cond};
 ghost use Prim.Native.Nat.{_<_, max};
 ghost use lib.Dec.{eqb};
 ghost use Rattle.tanks.specs.Settings.{keepsRule, accepted, claims, heldAfter, judgement};
-ghost use Rattle.tanks.specs.House.{first};
+ghost use Rattle.tank.specs.Rules.{first};
 ghost use Rattle.tanks.specs.Pool.{runsIn};
 ghost use Rattle.tanks.specs.Contracts.{Judged, Small};
 use super::Head;

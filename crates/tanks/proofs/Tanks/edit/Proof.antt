@@ -4,7 +4,7 @@ use native.Mathlib.Omega.{arith}
 use Prim.Native.Nat.{_-_, _≤_}
 use mathlib.Core.Path.{_≡_, refl, sym, ap, _∙_}
 use Rattle.tanks.specs.Settings.{judgement}
-use Rattle.tanks.specs.House.{first}
+use Rattle.tank.specs.Rules.{first}
 use Rattle.tanks.specs.Pool.{runsIn, tankOf}
 use Rattle.tanks.proofs.LaidLaws.{laid}
 use Rattle.tanks.proofs.Put.{runFrom}
