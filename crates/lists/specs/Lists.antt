@@ -3,7 +3,7 @@ use Prim.Native.Nat.{ℕ, suc, _-_, _≤_, _<_}
 use mathlib.Core.Path.{_≡_}
 use mathlib.Core.Bool.{Bool, true, false, cond}
 use mathlib.Core.List.{List, [], _∷_}
-use lib.Dec.{ltb, leb, eqb}
+use lib.Dec.{ltb}
 use lib.ListN.{length}
 use Rattle.runs.specs.Positions.{Stretch, stretchesAt, asNumbers}
 use Rattle.lists.specs.declared.Listed.{Listed}

@@ -9,7 +9,7 @@ use native.Mathlib.Numerals.{add-one}
 use lib.ListN.{length, getD, set, replicate, length-append, length-set, getD-replicate, length-replicate, List·getD-append, List·getD-eq-default}
 use lib.Seq.{getD-append-add, getD-set-same, getD-set-other, set-comm, ext-getD}
 use Rattle.runs.specs.Positions.{sumBelow}
-use Rattle.runs.proofs.SumLaws.{sum-same, sum-next}
+use Rattle.runs.proofs.SumLaws.{sum-same}
 use Rattle.tanks.specs.declared.Head.{Head}
 use Rattle.tanks.specs.Pool.{noHead, runsIn, runsBelow}
 
@@ -94,9 +94,6 @@ module _ {A : Type 0} where
 
 -- ---- where tanks begin
 -- tank u lies below tank v
-pub below-next : (hs : List Head) (u v : ℕ) → u < v → runsBelow hs u + runsIn hs u ≤ runsBelow hs v
-below-next hs u v h = sum-next (runsIn hs) u v h
-
 pub below-same : (hs : List Head) (t : ℕ) (h : Head) (u : ℕ) → u ≤ t → runsBelow (set hs t h) u ≡ runsBelow hs u
 below-same hs t h u l =
     sum-same (runsIn (set hs t h)) (runsIn hs) u (λ v k. ap (λ (x : Head). x .runs) (getD-set-other hs t v h noHead (λ e. omega arith)))

@@ -15,7 +15,7 @@ use Rattle.tanks.specs.declared.Setting.{Setting}
 use Rattle.tanks.specs.Settings.{accepted, judgement}
 use Rattle.tanks.specs.House.{House, tankAt, held, opening, refusalAt, withTank, afterAt, Call, afterAll, reached, sumOn, FirstOn, houseThen}
 use Rattle.tanks.proofs.CallLaws.{refusal-in}
-use Rattle.tanks.proofs.Theorems.{with-same, others-stay, reached-kept}
+use Rattle.tanks.proofs.Theorems.{with-same, others-stay, reached-kept, after-by}
 
 -- ---- the calls on tank t
 -- neither 9 nor 10 applies: the edit would leave the tank within its limit, and the sum within 512
@@ -51,12 +51,7 @@ accepted-own h t e t8 = ap (λ (n : ℕ). eqb n 0) (refusal-in h t e t8) ∙ fir
 
 -- no call changes how many tanks there are
 count-stays : (h : House) (t : ℕ) (e : Edit) → length (afterAt h t e .tanks) ≡ length (h .tanks)
-unfolding afterAt
-count-stays h t e = go (eqb (refusalAt h t e) 0)
-  where
-    go : (b : Bool) → length (cond b (withTank h t (after e (tankAt h t))) h .tanks) ≡ length (h .tanks)
-    go true = length-set (h .tanks) t (after e (tankAt h t))
-    go false = refl
+count-stays h t e = after-by (λ g. length (g .tanks) ≡ length (h .tanks)) h t e refl (λ _ _. length-set (h .tanks) t (after e (tankAt h t)))
 
 module _ (h : House) (t : ℕ) (e : Edit) (t8 : t < 8) (eight : length (h .tanks) ≡ 8) where
   -- what a call on tank t leaves of it

@@ -1,12 +1,11 @@
 -- What a state means, tank by tank; and what a tank put back does to the meaning, and that the state stays sound.
 use Prim.Native.Nat.{ℕ, zero, suc, _≤_, _<_}
 use mathlib.Core.Path.{_≡_, refl, sym, ap, _∙_, subst}
-use mathlib.Core.Bool.{Bool, true, false, cond}
-use mathlib.Core.Logic.{_≢_}
+use mathlib.Core.Bool.{cond}
 use mathlib.Core.List.{List}
 use native.Mathlib.Omega.{arith}
 use lib.Dec.{eqb}
-use borrow.Author.Tests.{eqb-true, eqb-false, eq-eqb, ne-eqb}
+use borrow.Author.Tests.{ne-eqb}
 use lib.ListN.{length, getD, set, length-set, List·getD-eq-default}
 use lib.Seq.{getD-set-same, getD-set-other, ext-getD}
 use Rattle.tank.specs.declared.Tank.{Tank}
@@ -15,20 +14,12 @@ use Rattle.tank.specs.State.{view, Formed}
 use Rattle.tank.proofs.Unique.{runs-held}
 use Rattle.tanks.specs.declared.Head.{Head}
 use Rattle.tanks.specs.declared.Tanks.{Tanks}
-use Rattle.tanks.specs.Settings.{limitOf, claims, heldAfter, judgement}
+use Rattle.tanks.specs.Settings.{claims, heldAfter, judgement}
 use Rattle.tanks.specs.House.{held, withTank}
 use Rattle.tanks.specs.Pool.{noHead, runsIn, runsBelow, tankIn, tankOf, headOf, tableIn, meaning, Sound}
 use Rattle.tanks.proofs.Put.{puts}
 use Rattle.tanks.proofs.PutLaws.{put-length, put-blank, put-same, put-other}
-use Rattle.tanks.proofs.SettingLaws.{claims-cong, runs-claims, judge-within, judge-sum, second-zero}
-
--- what holds at t and at every other place holds everywhere
-pub at-each : (P : ℕ → Type 0) (t u : ℕ) → P t → (u ≢ t → P u) → P u
-at-each P t u same other = go (eqb u t) refl
-  where
-    go : (b : Bool) → eqb u t ≡ b → P u
-    go true e = subst P (sym (eqb-true u t e)) same
-    go false e = other (eqb-false u t e)
+use Rattle.tanks.proofs.SettingLaws.{claims-cong, runs-claims, second-zero, at-each, held-set, judged-limits, judged-sum}
 
 -- ---- the eight views
 pub tank-at : (s : Tanks) (u : ℕ) (d : View) → u < 8 → getD (meaning s .tanks) u d ≡ view (tankOf s u)
@@ -76,22 +67,14 @@ module _ (s : Tanks) (t : ℕ) (x : Tank) (ok : Sound s) (t8 : t < 8) (formed : 
 
   runs-next : (u : ℕ) → runsIn next u ≡ heldAfter (runsIn (s .heads)) t (x .runs) u
   unfolding next
-  runs-next u =
-      at-each (λ v. runsIn (set (s .heads) t (headOf x)) v ≡ heldAfter (runsIn (s .heads)) t (x .runs) v) t u
-      (rw (eq-eqb t t refl) (ap (λ (h : Head). h .runs) (getD-set-same (s .heads) t (headOf x) noHead (omega (arith, ok .heads-8)))))
-      (λ ne. rw (ne-eqb u t ne) (ap (λ (h : Head). h .runs) (getD-set-other (s .heads) t u (headOf x) noHead ne)))
+  runs-next u = held-set (λ (h : Head). h .runs) noHead (headOf x) (s .heads) t (omega (arith, ok .heads-8)) u
 
-  sum-next : claims (s .settings) (runsIn next) 8 ≤ 512
-  sum-next =
-      omega (
-        arith,
-        judge-sum (s .settings) (runsIn (s .heads)) t (x .runs) judged,
-        claims-cong (s .settings) (runsIn next) (heldAfter (runsIn (s .heads)) t (x .runs)) 8 (λ u _. runs-next u),
-      )
+  claims-next : claims (s .settings) (runsIn next) 8 ≤ 512
+  claims-next = judged-sum (s .settings) (runsIn (s .heads)) (runsIn next) t (x .runs) runs-next judged
 
   pub room : runsBelow (set (s .heads) t (headOf x)) 8 ≤ 512
   unfolding next
-  room = omega (arith, sum-next, runs-claims (s .settings) (runsIn next) 8)
+  room = omega (arith, claims-next, runs-claims (s .settings) (runsIn next) 8)
 
   pub put-sound : Sound (puts s t x)
   unfolding puts next
@@ -101,11 +84,8 @@ module _ (s : Tanks) (t : ℕ) (x : Tank) (ok : Sound s) (t8 : t < 8) (formed : 
     tables-8 = length-set (s .tables) t (tableIn x) ∙ ok .tables-8;
     pool-512 = put-length s t x ok t8 formed room;
     rule = ok .rule;
-    limits = λ u h. rw (runs-next u)
-        (at-each (λ v. heldAfter (runsIn (s .heads)) t (x .runs) v ≤ limitOf (s .settings) v) t u
-        (rw (eq-eqb t t refl) (judge-within (s .settings) (runsIn (s .heads)) t (x .runs) judged))
-        (λ ne. rw (ne-eqb u t ne) (ok .limits u h)));
-    sum = sum-next;
+    limits = judged-limits (s .settings) (runsIn (s .heads)) (runsIn next) t (x .runs) runs-next judged (ok .limits);
+    sum = claims-next;
     each = λ u h.
         at-each (λ v. Formed (tankOf (puts s t x) v)) t u
         (subst Formed (sym (put-same s t x ok t8 formed room)) formed)

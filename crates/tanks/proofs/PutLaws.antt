@@ -1,6 +1,6 @@
 -- What `puts` does to the tanks: tank t becomes x, and every other tank stays.
 use Prim.Native.Nat.{ℕ, _+_, _-_, _≤_, _<_, max}
-use mathlib.Core.Path.{_≡_, sym, ap, _∙_}
+use mathlib.Core.Path.{_≡_, refl, sym, ap, _∙_}
 use mathlib.Core.Logic.{_≢_}
 use mathlib.Core.List.{List, map}
 use native.Mathlib.Omega.{arith}
@@ -8,6 +8,7 @@ use borrow.Author.Tests.{lt-ltb, le-ltb}
 use native.Mathlib.Decide.{decLt}
 use lib.ListN.{length, getD, set, List·getD-eq-default}
 use lib.Seq.{getD-set-same, getD-set-other, ext-getD}
+use Rattle.runs.proofs.SumLaws.{sum-next}
 use Rattle.tanks.specs.declared.Head.{Head}
 use Rattle.tanks.specs.declared.Run.{Run}
 use Rattle.tank.specs.declared.Tank.{Tank}
@@ -18,8 +19,8 @@ use Rattle.tank.specs.State.{Formed}
 use Rattle.tanks.specs.Pool.{noRun, noHead, noTable, runsIn, runsBelow, ownRuns, zeroFilled, tankIn, tankOf, headOf, tableIn, Sound}
 use Rattle.tanks.proofs.Put.{runOf, runFrom, puts}
 use Rattle.tanks.proofs.SettingLaws.{sound-held, sound-place}
-use Rattle.tanks.proofs.LaidLaws.{laid, length-laid, laid-out, laid-in, below-next, below-same, below-later}
-use Rattle.tanks.proofs.SliceLaws.{length-zero-filled, zero-filled-at, lens-at, sets-at, own-at, length-own, length-own-map}
+use Rattle.tanks.proofs.LaidLaws.{laid, length-laid, laid-out, laid-in, below-same, below-later}
+use Rattle.tanks.proofs.SliceLaws.{length-zero-filled, zero-filled-at, array-at, own-at, length-own, length-own-map}
 
 -- two tanks with equal fields are equal
 pub tank-eq : (x y : Tank) → x .touched ≡ y .touched → x .length ≡ y .length → x .runs ≡ y .runs → x .marks ≡ y .marks → x .lens ≡ y .lens → x .sets ≡ y .sets → x .table ≡ y .table → x ≡ y
@@ -76,11 +77,11 @@ module _ (s : Tanks) (t : ℕ) (x : Tank) (ok : Sound s) (t8 : t < 8) (formed : 
 
   all-before : at + n + left ≡ runsBelow (s .heads) 8
   unfolding at n left
-  all-before = omega (arith, below-next (s .heads) t 8 t8)
+  all-before = omega (arith, sum-next (runsIn (s .heads)) t 8 t8)
 
   all-after : at + x .runs + left ≡ runsBelow (set (s .heads) t (headOf x)) 8
   unfolding at n left
-  all-after = omega (arith, below-later (s .heads) t (headOf x) 8 (omega (arith, h8)) t8, below-next (s .heads) t 8 t8)
+  all-after = omega (arith, below-later (s .heads) t (headOf x) 8 (omega (arith, h8)) t8, sum-next (runsIn (s .heads)) t 8 t8)
 
   most : at + n + left ≤ 512
   most = omega (arith, all-before, sound-held s ok)
@@ -115,10 +116,10 @@ module _ (s : Tanks) (t : ℕ) (x : Tank) (ok : Sound s) (t8 : t < 8) (formed : 
       elim (decLt u t) [
         | yes l ↦
             rw (below-same (s .heads) t (headOf x) u (omega arith))
-            (pool-low (s .pool) at n left x (ok .pool-512) most fits (runsBelow (s .heads) u + k) (omega (arith, below-next (s .heads) u t l)))
+            (pool-low (s .pool) at n left x (ok .pool-512) most fits (runsBelow (s .heads) u + k) (omega (arith, sum-next (runsIn (s .heads)) u t l)))
         | no l ↦
-            let f : runsBelow (s .heads) t + runsIn (s .heads) t ≤ runsBelow (s .heads) u = below-next (s .heads) t u (omega arith) in
-            let m : runsBelow (s .heads) u + runsIn (s .heads) u ≤ runsBelow (s .heads) 8 = below-next (s .heads) u 8 u8 in
+            let f : runsBelow (s .heads) t + runsIn (s .heads) t ≤ runsBelow (s .heads) u = sum-next (runsIn (s .heads)) t u (omega arith) in
+            let m : runsBelow (s .heads) u + runsIn (s .heads) u ≤ runsBelow (s .heads) 8 = sum-next (runsIn (s .heads)) u 8 u8 in
             let j : runsBelow (set (s .heads) t (headOf x)) u + k ≡ runsBelow (s .heads) t + x .runs + (runsBelow (s .heads) u + k - (runsBelow (s .heads) t + runsIn (s .heads) t)) =
             omega (arith, below-later (s .heads) t (headOf x) u (omega (arith, h8)) (omega arith)) in
             let i : runsBelow (s .heads) t + runsIn (s .heads) t + (runsBelow (s .heads) u + k - (runsBelow (s .heads) t + runsIn (s .heads) t)) ≡ runsBelow (s .heads) u + k = omega arith in
@@ -130,7 +131,7 @@ module _ (s : Tanks) (t : ℕ) (x : Tank) (ok : Sound s) (t8 : t < 8) (formed : 
   -- every tank's runs stand within the pool
   put-inside : (u : ℕ) → u < 8 → runsBelow (puts s t x .heads) u + runsIn (puts s t x .heads) u ≤ length (puts s t x .pool)
   unfolding puts
-  put-inside u h = omega (arith, put-length, room, below-next (set (s .heads) t (headOf x)) u 8 h)
+  put-inside u h = omega (arith, put-length, room, sum-next (runsIn (set (s .heads) t (headOf x))) u 8 h)
 
   -- an array of x is its part below the runs, and zeros
   array : (ns xs : List ℕ) → length ns ≡ x .runs → length xs ≡ 514 → ((k : ℕ) → k < x .runs → getD (zeroFilled ns) k 0 ≡ getD xs k 0) → ((k : ℕ) → x .runs ≤ k → getD xs k 0 ≡ 0)
@@ -154,9 +155,9 @@ module _ (s : Tanks) (t : ℕ) (x : Tank) (ok : Sound s) (t8 : t < 8) (formed : 
       r
       (ap (λ (h : Head). h .marks) head-same)
       (array (map (λ (r : Run). r .len) (ownRuns heads pool t)) (x .lens) (length-own-map heads pool t (put-inside t t8) (λ (r : Run). r .len) ∙ r) (formed .laid .lens-514)
-      (λ k h. lens-at heads pool t k (omega (arith, r)) ∙ ap (λ (r : Run). r .len) (put-run k h)) (λ k h. formed .laid .spare k h .0))
+      (λ k h. array-at heads pool t (λ r. r .len) refl k (omega (arith, r)) ∙ ap (λ (r : Run). r .len) (put-run k h)) (λ k h. formed .laid .spare k h .0))
       (array (map (λ (r : Run). r .set) (ownRuns heads pool t)) (x .sets) (length-own-map heads pool t (put-inside t t8) (λ (r : Run). r .set) ∙ r) (formed .laid .sets-514)
-      (λ k h. sets-at heads pool t k (omega (arith, r)) ∙ ap (λ (r : Run). r .set) (put-run k h)) (λ k h. formed .laid .spare k h .1))
+      (λ k h. array-at heads pool t (λ r. r .set) refl k (omega (arith, r)) ∙ ap (λ (r : Run). r .set) (put-run k h)) (λ k h. formed .laid .spare k h .1))
       (ap (λ (m : Table). m .marks) (getD-set-same (s .tables) t (tableIn x) noTable (omega (arith, ok .tables-8))))
 
   own-other : (u : ℕ) → u ≢ t → u < 8 → ownRuns (puts s t x .heads) (puts s t x .pool) u ≡ ownRuns (s .heads) (s .pool) u

@@ -1,26 +1,27 @@
 -- The laws of the settings' rule and of the judgement.
 use Prim.Native.Nat.{ℕ, zero, suc, _+_, _≤_, _<_, max}
-use mathlib.Core.Path.{_≡_, refl, ap}
+use mathlib.Core.Path.{_≡_, refl, ap, sym, subst}
 use mathlib.Core.Bool.{Bool, true, false, cond, _&&_}
 use mathlib.Core.List.{List}
 use native.Mathlib.Omega.{arith}
 use native.Mathlib.Decide.{decLt, decLe}
 use native.Mathlib.Numerals.{add-one}
 use lib.Dec.{leb, eqb}
-use borrow.Author.Tests.{leb-true, eqb-true, le-leb, lt-ltb, le-ltb}
-use lib.ListN.{getD}
+use borrow.Author.Tests.{leb-true, eqb-true, le-leb, lt-ltb, le-ltb, eqb-false, eq-eqb, ne-eqb}
+use lib.ListN.{getD, length, set}
+use mathlib.Core.Logic.{_≢_}
+use lib.Seq.{getD-set-same, getD-set-other}
 use Rattle.tanks.specs.declared.Setting.{Setting}
 use Rattle.tanks.specs.declared.Head.{Head}
 use Rattle.tanks.specs.declared.Tanks.{Tanks}
 use Rattle.runs.specs.Positions.{sumBelow}
-use Rattle.runs.proofs.SumLaws.{sum-same, sum-least, sum-bound}
+use Rattle.runs.proofs.SumLaws.{sum-same, sum-least, sum-bound, sum-next}
 use Rattle.tank.specs.Rules.{first}
 use Rattle.tanks.specs.Pool.{tankIn, runsIn, runsBelow, tankOf, Sound}
 use Rattle.tanks.specs.Settings.{noSetting, shareOf, limitOf, keepsRule, allKeepRule, shares, accepted, claim, claims, heldAfter, judgement}
 use Rattle.tank.specs.declared.Tank.{Tank}
 use Rattle.tank.specs.State as state
 use Rattle.tanks.specs.Contracts.{Judged, Small}
-use Rattle.tanks.proofs.LaidLaws.{below-next}
 
 pub both : (a b : Bool) → a && b ≡ true → (a ≡ true) × (b ≡ true)
 both true b h = (refl, h)
@@ -114,7 +115,7 @@ module _ (s : Tanks) (ok : Sound s) where
   sound-held = omega (arith, ok .sum, runs-claims (s .settings) (runsIn (s .heads)) 8)
 
   pub sound-place : (t : ℕ) → t < 8 → runsBelow (s .heads) t + runsIn (s .heads) t ≤ 512
-  sound-place t h = omega (arith, sound-held, below-next (s .heads) t 8 h)
+  sound-place t h = omega (arith, sound-held, sum-next (runsIn (s .heads)) t 8 h)
 
   few : (t : ℕ) → t < 8 → tankOf s t .runs ≤ 512
   unfolding tankOf tankIn
@@ -179,3 +180,31 @@ module _ (n m : ℕ) (z : first n m ≡ 0) where
 
   pub second-zero : m ≡ 0
   second-zero = let e : first 0 m ≡ 0 = rw first-zero at z in e
+
+-- ---- one tank comes to hold another number of runs
+-- what holds at t and at every other place holds everywhere
+pub at-each : (P : ℕ → Type 0) (t u : ℕ) → P t → (u ≢ t → P u) → P u
+at-each P t u same other = go (eqb u t) refl
+  where
+    go : (b : Bool) → eqb u t ≡ b → P u
+    go true e = subst P (sym (eqb-true u t e)) same
+    go false e = other (eqb-false u t e)
+
+pub held-set : {A : Type 0} (f : A → ℕ) (d x : A) (l : List A) (t : ℕ) → t < length l → (u : ℕ)
+    → f (getD (set l t x) u d) ≡ heldAfter (λ v. f (getD l v d)) t (f x) u
+held-set f d x l t h u =
+    at-each (λ v. f (getD (set l t x) v d) ≡ heldAfter (λ w. f (getD l w d)) t (f x) v) t u
+    (rw (eq-eqb t t refl) (ap f (getD-set-same l t x d h)))
+    (λ ne. rw (ne-eqb u t ne) (ap f (getD-set-other l t u x d ne)))
+
+-- where the judgement is 0, the limits and the sum are kept
+module _ (st : List Setting) (held next : ℕ → ℕ) (t n : ℕ) (is : (u : ℕ) → next u ≡ heldAfter held t n u) (judged : judgement st held t n ≡ 0) where
+  pub judged-limits : ((u : ℕ) → u < 8 → held u ≤ limitOf st u) → (u : ℕ) → u < 8 → next u ≤ limitOf st u
+  judged-limits limits u h =
+      rw (is u)
+      (at-each (λ v. heldAfter held t n v ≤ limitOf st v) t u
+      (rw (eq-eqb t t refl) (judge-within st held t n judged))
+      (λ ne. rw (ne-eqb u t ne) (limits u h)))
+
+  pub judged-sum : claims st next 8 ≤ 512
+  judged-sum = omega (arith, judge-sum st held t n judged, claims-cong st next (heldAfter held t n) 8 (λ u _. is u))

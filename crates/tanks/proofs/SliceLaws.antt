@@ -33,12 +33,9 @@ module _ (hs : List Head) (pool : List Run) (t : ℕ) where
   map-at : (f : Run → ℕ) (k : ℕ) → k < runsIn hs t → getD (map f (ownRuns hs pool t)) k (f noRun) ≡ f (getD pool (runsBelow hs t + k) noRun)
   map-at f k h = List·getD-map f (ownRuns hs pool t) k noRun ∙ ap f (own-at k h)
 
-  -- a tank's arrays
-  pub lens-at : (k : ℕ) → k < runsIn hs t → getD (zeroFilled (map (λ r. r .len) (ownRuns hs pool t))) k 0 ≡ getD pool (runsBelow hs t + k) noRun .len
-  lens-at k h = zero-filled-at (map (λ r. r .len) (ownRuns hs pool t)) k ∙ map-at (λ r. r .len) k h
-
-  pub sets-at : (k : ℕ) → k < runsIn hs t → getD (zeroFilled (map (λ r. r .set) (ownRuns hs pool t))) k 0 ≡ getD pool (runsBelow hs t + k) noRun .set
-  sets-at k h = zero-filled-at (map (λ r. r .set) (ownRuns hs pool t)) k ∙ map-at (λ r. r .set) k h
+  -- a tank's arrays, of lengths and of sets
+  pub array-at : (f : Run → ℕ) → f noRun ≡ 0 → (k : ℕ) → k < runsIn hs t → getD (zeroFilled (map f (ownRuns hs pool t))) k 0 ≡ f (getD pool (runsBelow hs t + k) noRun)
+  array-at f e k h = zero-filled-at (map f (ownRuns hs pool t)) k ∙ ap (getD (map f (ownRuns hs pool t)) k) (sym e) ∙ map-at f k h
 
   -- of runs that all stand in the pool
   module _ (inside : runsBelow hs t + runsIn hs t ≤ length pool) where

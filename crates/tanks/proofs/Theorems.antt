@@ -20,8 +20,8 @@ use Rattle.tanks.specs.declared.Tanks.{Tanks}
 use Rattle.tanks.specs.Settings.{shareOf, limitOf, accepted, claim, claims, heldAfter, judgement}
 use Rattle.tanks.specs.House.{House, tankAt, held, smallest, opening, refusalAt, withTank, afterAt, insertedSetAt, removedFirstAt, Call, afterAll, reached, Ten}
 use Rattle.tanks.specs.Pool.{runsIn, meaning, Sound, freshly}
-use Rattle.tanks.proofs.SettingLaws.{cond-le, accepted-at, claims-cong, runs-claims, judge-9, judge-10, judge-0, judge-within, judge-sum, first-zero, second-zero}
-use Rattle.tanks.proofs.MeaningLaws.{at-each, held-is, tanks-length}
+use Rattle.tanks.proofs.SettingLaws.{cond-le, accepted-at, claims-cong, runs-claims, judge-9, judge-10, judge-0, second-zero, at-each, held-set, judged-limits, judged-sum}
+use Rattle.tanks.proofs.MeaningLaws.{held-is, tanks-length}
 use Rattle.tanks.proofs.CallLaws.{refusal-in, refusal-past, after-refused, after-done}
 use Rattle.tanks.proofs.OpeningLaws.{opens, opens-2}
 
@@ -42,22 +42,17 @@ kept-sound s ok = record {
   sum = omega (arith, ok .sum, claims-cong (s .settings) (held (meaning s)) (runsIn (s .heads)) 8 (held-is s ok));
 }
 
--- a call is refused, or the tank's own rules and the judgement let it pass
-data Outcome (h : House) (t : ℕ) (e : Edit) : Type 0 where
-  refused : 0 < refusalAt h t e → Outcome h t e
-  done : t < 8 → refusal e (tankAt h t) ≡ 0 → judgement (h .settings) (held h) t (runsHeld (after e (tankAt h t))) ≡ 0 → refusalAt h t e ≡ 0 → Outcome h t e
-
-outcome : (h : House) (t : ℕ) (e : Edit) → Outcome h t e
-outcome h t e =
+-- what holds of the house before a call, and of the one that an accepted call makes, holds of the house after it
+pub after-by : (P : House → Type 0) (h : House) (t : ℕ) (e : Edit) → P h
+    → (t < 8 → judgement (h .settings) (held h) t (runsHeld (after e (tankAt h t))) ≡ 0 → P (withTank h t (after e (tankAt h t)))) → P (afterAt h t e)
+after-by P h t e before made =
     elim (decLt 0 (refusalAt h t e)) [
-      | yes p ↦ refused p
+      | yes p ↦ subst P (sym (after-refused h t e p)) before
       | no p ↦
           let z : refusalAt h t e ≡ 0 = omega arith in
           elim (decLt t 8) [
             | no l ↦ absurd (omega (arith, refusal-past h t e (omega arith)))
-            | yes l ↦
-                let f = sym (refusal-in h t e l) ∙ z in
-                done l (first-zero (refusal e (tankAt h t)) _ f) (second-zero (refusal e (tankAt h t)) _ f) z
+            | yes l ↦ subst P (sym (after-done h t e z)) (made l (second-zero (refusal e (tankAt h t)) _ (sym (refusal-in h t e l) ∙ z)))
           ]
     ]
 
@@ -69,33 +64,19 @@ module _ (h : House) (t : ℕ) (v : View) (eight : length (h .tanks) ≡ 8) (t8 
   with-other u ne = getD-set-other (h .tanks) t u v freshView ne
 
   held-with : (u : ℕ) → held (withTank h t v) u ≡ heldAfter (held h) t (runsHeld v) u
-  held-with u =
-      at-each (λ w. held (withTank h t v) w ≡ heldAfter (held h) t (runsHeld v) w) t u
-      (rw (eq-eqb t t refl) (ap runsHeld with-same))
-      (λ ne. rw (ne-eqb u t ne) (ap runsHeld (with-other u ne)))
+  held-with u = held-set runsHeld freshView v (h .tanks) t (omega arith) u
 
 kept-with : (h : House) (t : ℕ) (v : View) → Kept h → t < 8 → judgement (h .settings) (held h) t (runsHeld v) ≡ 0 → Kept (withTank h t v)
 kept-with h t v kept t8 j = record {
   rule = kept .rule;
   eight = length-set (h .tanks) t v ∙ kept .eight;
-  limits = λ u l. rw (held-with h t v (kept .eight) t8 u)
-      (at-each (λ w. heldAfter (held h) t (runsHeld v) w ≤ limitOf (h .settings) w) t u
-      (rw (eq-eqb t t refl) (judge-within (h .settings) (held h) t (runsHeld v) j))
-      (λ ne. rw (ne-eqb u t ne) (kept .limits u l)));
-  sum = omega (
-    arith,
-    judge-sum (h .settings) (held h) t (runsHeld v) j,
-    claims-cong (h .settings) (held (withTank h t v)) (heldAfter (held h) t (runsHeld v)) 8 (λ u _. held-with h t v (kept .eight) t8 u),
-  );
+  limits = judged-limits (h .settings) (held h) (held (withTank h t v)) t (runsHeld v) (held-with h t v (kept .eight) t8) j (kept .limits);
+  sum = judged-sum (h .settings) (held h) (held (withTank h t v)) t (runsHeld v) (held-with h t v (kept .eight) t8) j;
 }
 
 -- a call keeps it, accepted or refused
 pub kept-call : (h : House) (t : ℕ) (e : Edit) → Kept h → Kept (afterAt h t e)
-kept-call h t e kept = go (outcome h t e)
-  where
-    go : Outcome h t e → Kept (afterAt h t e)
-    go (refused p) = rw (after-refused h t e p) kept
-    go (done t8 own j z) = rw (after-done h t e z) (kept-with h t (after e (tankAt h t)) kept t8 j)
+kept-call h t e kept = after-by Kept h t e kept (λ t8 j. kept-with h t (after e (tankAt h t)) kept t8 j)
 
 pub kept-all : (h : House) (cs : List Call) → Kept h → Kept (afterAll h cs)
 unfolding afterAll
@@ -112,11 +93,7 @@ kept-open st l = go (accepted st) refl
 
 -- ---- no call changes the settings
 pub settings-stay : (h : House) (t : ℕ) (e : Edit) → afterAt h t e .settings ≡ h .settings
-settings-stay h t e = go (outcome h t e)
-  where
-    go : Outcome h t e → afterAt h t e .settings ≡ h .settings
-    go (refused p) = rw (after-refused h t e p)
-    go (done t8 own j z) = rw (after-done h t e z)
+settings-stay h t e = after-by (λ g. g .settings ≡ h .settings) h t e refl (λ _ _. refl)
 
 settings-all : (h : House) (cs : List Call) → afterAll h cs .settings ≡ h .settings
 unfolding afterAll
@@ -129,11 +106,8 @@ settings-open st e = rw e
 
 -- ---- a call on one tank changes no other: no view, so no length
 pub others-stay : (h : House) (t : ℕ) (e : Edit) (u : ℕ) → u ≢ t → tankAt (afterAt h t e) u ≡ tankAt h u
-others-stay h t e u ne = go (outcome h t e)
-  where
-    go : Outcome h t e → tankAt (afterAt h t e) u ≡ tankAt h u
-    go (refused p) = rw (after-refused h t e p)
-    go (done t8 own j z) = rw (after-done h t e z) (getD-set-other (h .tanks) t u (after e (tankAt h t)) freshView ne)
+others-stay h t e u ne =
+    after-by (λ g. tankAt g u ≡ tankAt h u) h t e refl (λ _ _. getD-set-other (h .tanks) t u (after e (tankAt h t)) freshView ne)
 
 -- ---- refusal 10 comes exactly when no earlier one applies and the sum would pass 512
 pub ten-then : (h : House) (t : ℕ) (e : Edit) → Ten h t e → refusalAt h t e ≡ 10

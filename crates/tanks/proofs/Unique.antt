@@ -1,6 +1,6 @@
 -- One meaning, one state.
 use Prim.Native.Nat.{ℕ, zero, suc, _+_, _-_, _<_}
-use mathlib.Core.Path.{_≡_, sym, ap, _∙_}
+use mathlib.Core.Path.{_≡_, refl, sym, ap, _∙_}
 use mathlib.Core.List.{List}
 use native.Mathlib.Omega.{arith}
 use native.Mathlib.Decide.{decLt}
@@ -25,7 +25,7 @@ use Rattle.tanks.specs.declared.Done.{Done}
 use Rattle.tanks.specs.House.{House, insertedSetAt, removedFirstAt}
 use Rattle.tanks.specs.Pool.{noHead, noRun, noTable, runsIn, runsBelow, tankIn, tankOf, meaning, Sound}
 use Rattle.tanks.specs.Contracts.{Opens, CalledAt, DoneAt, Taken}
-use Rattle.tanks.proofs.SliceLaws.{lens-at, sets-at}
+use Rattle.tanks.proofs.SliceLaws.{array-at}
 use Rattle.tanks.proofs.MeaningLaws.{tank-at}
 use Rattle.tanks.proofs.CallLaws.{after-refused}
 
@@ -74,8 +74,8 @@ module _ (a b : Tanks) (sa : Sound a) (sb : Sound b) (same : (u : ℕ) → u < 8
   run-same u h j g =
       let r : runsIn (a .heads) u ≡ runsIn (b .heads) u = ap (λ (x : List Head). runsIn x u) heads-same in
       run-eq (getD (a .pool) (runsBelow (a .heads) u + j) noRun) (getD (b .pool) (runsBelow (b .heads) u + j) noRun)
-      (sym (lens-at (a .heads) (a .pool) u j g) ∙ ap (λ (x : Tank). getD (x .lens) j 0) (same u h) ∙ lens-at (b .heads) (b .pool) u j (omega arith))
-      (sym (sets-at (a .heads) (a .pool) u j g) ∙ ap (λ (x : Tank). getD (x .sets) j 0) (same u h) ∙ sets-at (b .heads) (b .pool) u j (omega arith))
+      (sym (array-at (a .heads) (a .pool) u (λ r. r .len) refl j g) ∙ ap (λ (x : Tank). getD (x .lens) j 0) (same u h) ∙ array-at (b .heads) (b .pool) u (λ r. r .len) refl j (omega arith))
+      (sym (array-at (a .heads) (a .pool) u (λ r. r .set) refl j g) ∙ ap (λ (x : Tank). getD (x .sets) j 0) (same u h) ∙ array-at (b .heads) (b .pool) u (λ r. r .set) refl j (omega arith))
 
   pool-same : a .pool ≡ b .pool
   pool-same =

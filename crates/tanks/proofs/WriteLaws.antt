@@ -10,6 +10,7 @@ use borrow.Author.Tests.{lt-ltb, le-ltb, ltb-true, ltb-false}
 use lib.ListN.{length, getD, set}
 use Rattle.tank.specs.declared.Tank.{Tank}
 use Rattle.tank.specs.State.{Formed}
+use Rattle.runs.proofs.SumLaws.{sum-next}
 use Rattle.tanks.specs.declared.Head.{Head}
 use Rattle.tanks.specs.declared.Run.{Run}
 use Rattle.tanks.specs.declared.Spots.{Spots}
@@ -19,7 +20,7 @@ use Rattle.tanks.specs.Settings.{judgement}
 use Rattle.tank.specs.Rules.{first}
 use Rattle.tanks.specs.Pool.{noRun, runsIn, headOf, tableIn, spotsOf, Sound}
 use Rattle.tanks.proofs.Put.{runOf, runFrom, puts}
-use Rattle.tanks.proofs.LaidLaws.{laid, laid-out, laid-more, laid-back, laid-cong, below-next, below-later}
+use Rattle.tanks.proofs.LaidLaws.{laid, laid-out, laid-more, laid-back, laid-cong, below-later}
 use Rattle.tanks.proofs.SettingLaws.{sound-held, second-zero}
 use Rattle.tanks.proofs.MeaningLaws.{room}
 
@@ -120,7 +121,7 @@ module _ (s : Tanks) (t number : ℕ) (x : Tank) (ok : Sound s) (t8 : t < 8) (fo
       (
       let r = room s t x ok t8 formed (second-zero number _ z) in
       let l = below-later (s .heads) t (headOf x) 8 (omega (arith, ok .heads-8)) t8 in
-      let b = below-next (s .heads) t 8 t8 in
+      let b = sum-next (runsIn (s .heads)) t 8 t8 in
       let h = sound-held s ok in
       record {
         same = refl;

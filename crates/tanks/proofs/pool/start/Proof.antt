@@ -4,9 +4,8 @@ use native.Mathlib.Omega.{arith}
 use Prim.Native.Nat.{_-_, _≤_}
 use mathlib.Core.Path.{_≡_, refl}
 use Rattle.runs.specs.Positions.{sumBelow}
-use Rattle.runs.proofs.SumLaws.{sum-more}
+use Rattle.runs.proofs.SumLaws.{sum-more, sum-next}
 use Rattle.tanks.specs.Pool.{runsIn, runsBelow}
-use Rattle.tanks.proofs.LaidLaws.{below-next}
 use Rattle.tanks.proofs.pool.start.Statement.{statement}
 use Rattle.tanks.proofs.pool.start.Tie as tie
 use Rattle.tanks.proofs.pool.start.Reads as reads
@@ -29,7 +28,7 @@ element-copy-out-at : tie.Need-element-copy-out-at Inv-loop μ-loop
 element-copy-out-at c = search needs
 
 add-at : tie.Need-add-at Inv-loop μ-loop
-add-at c = omega (arith, below-next (c .before .before .args .t1) (c .before .loop .u) 8 (omega arith))
+add-at c = omega (arith, sum-next (runsIn (c .before .before .args .t1)) (c .before .loop .u) 8 (omega arith))
 
 add-u : tie.Need-add-u Inv-loop μ-loop
 add-u c = search needs

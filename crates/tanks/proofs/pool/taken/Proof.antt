@@ -4,9 +4,10 @@ use native.Mathlib.Omega.{arith}
 use Prim.Native.Nat.{_+_, _-_, _≤_}
 use mathlib.Core.Path.{_≡_, refl, _∙_}
 use lib.ListN.{length, getD, replicate}
+use Rattle.runs.proofs.SumLaws.{sum-next}
 use Rattle.tanks.specs.declared.Run.{Run}
 use Rattle.tanks.specs.Pool.{noRun, runsIn, runsBelow, tankIn}
-use Rattle.tanks.proofs.LaidLaws.{laid, laid-more-front, below-next}
+use Rattle.tanks.proofs.LaidLaws.{laid, laid-more-front}
 use Rattle.tanks.proofs.SliceLaws.{own-laid}
 use Rattle.tanks.proofs.PutLaws.{tank-eq}
 use Rattle.tanks.proofs.pool.taken.Statement.{statement}
@@ -38,7 +39,7 @@ loop-holds : tie.Need-loop-holds Inv-loop μ-loop
 unfolding laid
 loop-holds c =
     let a = c .before .before .before in
-    (omega arith, omega (arith, c .before .before .start .ensures, below-next (a .args .t1) (a .args .t) 8 (a .pre .0), a .pre .1), refl, refl)
+    (omega arith, omega (arith, c .before .before .start .ensures, sum-next (runsIn (a .args .t1)) (a .args .t) 8 (a .pre .0), a .pre .1), refl, refl)
 
 add-r : tie.Need-add-r Inv-loop μ-loop
 add-r c = search needs
@@ -81,7 +82,7 @@ returns c =
     let e : l .i ≡ runsIn hs t = omega arith in
     let s = c .before .before .before .before .start .ensures in
     let long : length pool ≡ 512 = a .good .1 .0 .1 .0 .1 in
-    let inside : runsBelow hs t + runsIn hs t ≤ length pool = omega (arith, below-next hs t 8 (a .pre .0), a .pre .1, long) in
+    let inside : runsBelow hs t + runsIn hs t ≤ length pool = omega (arith, sum-next (runsIn hs) t 8 (a .pre .0), a .pre .1, long) in
     let few : runsIn hs t ≤ 514 = omega (arith, inside, long) in
     tank-eq _ (tankIn hs pool (a .args .table) t) refl refl refl refl
     (l .inv .2 ∙ (λ j. laid (replicate 514 0) 0 (λ k. getD pool (s j + k) noRun .len) (e j)) ∙ own-laid hs pool t inside (λ (r : Run). r .len) few)
