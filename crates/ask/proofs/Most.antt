@@ -18,7 +18,7 @@ use Rattle.tanks.proofs.SettingLaws.{accepted-at}
 use Rattle.tanks.proofs.MeaningLaws.{tank-at}
 use Rattle.lists.specs.Lists.{rangeList, wholeList, listRefusal}
 use Rattle.lists.specs.Anchors.{anchors, anchorsNumber}
-use Rattle.lists.proofs.Most.{range-most, whole-most, anchors-most}
+use Rattle.lists.proofs.Most.{list-most, anchors-most}
 
 -- ---- the runs of one tank
 module _ (st : List Setting) (f : ℕ → ℕ) where
@@ -46,11 +46,11 @@ module _ (s : Tanks) (ok : Sound s) (t : ℕ) (h : t < 8) where
 
   pub most-range : (a b : ℕ) → b ≤ tankAt (meaning s) t .length → length (rangeList a b (tankAt (meaning s) t)) ≤ 1515
   unfolding tankOf tankIn view
-  most-range a b g = omega (arith, ap (λ (v : View). length (rangeList a b v)) is-view, range-most (ok .each t h .laid) a b (omega (arith, ap (λ (v : View). v .length) is-view)), runs-505)
+  most-range a b g = omega (arith, ap (λ (v : View). length (rangeList a b v)) is-view, list-most (ok .each t h .laid) 0 a b (omega (arith, ap (λ (v : View). v .length) is-view)), runs-505)
 
   pub most-whole : length (wholeList (tankAt (meaning s) t)) ≤ 1515
   unfolding tankOf tankIn
-  most-whole = omega (arith, ap (λ (v : View). length (wholeList v)) is-view, whole-most (ok .each t h .laid), runs-505)
+  most-whole = omega (arith, ap (λ (v : View). length (wholeList v)) is-view, list-most (ok .each t h .laid) 1 0 (tankOf s t .length) (omega arith), runs-505)
 
   pub most-anchors : length (anchors (tankAt (meaning s) t)) ≤ 32384
   unfolding tankOf tankIn

@@ -22,26 +22,6 @@ use styles::Value;
 use tank::Tank;
 use tanks::Tanks;
 
-// No such tank: no set.
-fn no_set() -> SetAsked
-    ensures { λ r. ⌜ r ≡ setOf 1 [] ⌝ }
-{
-    SetAsked {
-        number: 1,
-        styles: styles::table::no_marks(),
-    }
-}
-
-fn not_shared() -> Shared
-    ensures { λ r. ⌜ r ≡ sharedOf 1 false [] ⌝ }
-{
-    Shared {
-        number: 1,
-        agree: false,
-        styles: styles::table::no_marks(),
-    }
-}
-
 // The value shown for a key at a position.
 pub fn value_at(s: Tanks, tank: u64, pos: u64, key: u16) -> Shown
     requires { ⌜ Sound s ⌝ }
@@ -59,7 +39,7 @@ pub fn styles_at(s: Tanks, tank: u64, pos: u64) -> SetAsked
     ensures { λ r. ⌜ r ≡ marksAsked (meaning s) tank pos ⌝ }
 {
     if 8 <= tank {
-        return no_set();
+        return questions::no_set(1);
     }
     questions::styles_at(s.take(tank as usize), pos)
 }
@@ -81,7 +61,7 @@ pub fn get_styles_for_insert(s: Tanks, tank: u64, pos: u64) -> SetAsked
     ensures { λ r. ⌜ r ≡ inheritAsked (meaning s) tank pos ⌝ }
 {
     if 8 <= tank {
-        return no_set();
+        return questions::no_set(1);
     }
     questions::get_styles_for_insert(s.take(tank as usize), pos)
 }
@@ -132,7 +112,7 @@ pub fn get_styles_of_range(s: Tanks, tank: u64, start: u64, end: u64) -> Shared
     ensures { λ r. ⌜ r ≡ sameAsked (meaning s) tank start end ⌝ }
 {
     if 8 <= tank {
-        return not_shared();
+        return questions::not_shared(1);
     }
     questions::get_styles_of_range(s.take(tank as usize), start, end)
 }

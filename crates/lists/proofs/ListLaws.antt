@@ -17,7 +17,7 @@ use Rattle.tank.specs.declared.Tank.{Tank}
 use Rattle.lists.specs.declared.Listed.{Listed}
 use Rattle.tank.specs.Rules.{View}
 use Rattle.tank.specs.State.{runsOf, tableOf, view, Laid}
-use Rattle.lists.specs.Lists.{stretchesOver, rangeList, wholeList, rangeRefusal, listRefusal, unlessRefused, filledBeside, rangeNeeded}
+use Rattle.lists.specs.Lists.{stretchesOver, listOver, rangeList, rangeRefusal, listRefusal, unlessRefused, filledBeside, rangeNeeded}
 use Rattle.tank.proofs.Counted.{at-inside}
 use Rattle.tank.proofs.Shape.{can-look}
 use Rattle.tank.proofs.Unique.{inside-table}
@@ -34,28 +34,20 @@ module _ {t : Tank} (f : Laid t) where
       (at-inside (runsOf t) _ (suc p) (inside-table f))))
       (λ p x y. sym (pick-length (tableOf t) (setAt (runsOf t) p) (at-inside (runsOf t) _ p (inside-table f))))
 
-  pub range-is : (a b : ℕ) → listed 0 a b (t .lens) (t .sets) (t .runs) ≡ rangeList a b (view t)
-  unfolding rangeList
-  range-is a b = ap (asNumbers 0) (over-is a b)
+  module _ (least a b : ℕ) where
+    pub list-is : listed least a b (t .lens) (t .sets) (t .runs) ≡ listOver least a b (view t)
+    unfolding listOver
+    list-is = ap (asNumbers least) (over-is a b)
 
-  pub whole-is : listed 1 0 (t .length) (t .lens) (t .sets) (t .runs) ≡ wholeList (view t)
-  unfolding wholeList view
-  whole-is = ap (asNumbers 1) (over-is 0 (t .length))
-
-  -- what writing the lists asks: room for what is needed
-  pub can-range : (a b : ℕ) (out : List ℕ) → b ≤ t .length → length (rangeList a b (view t)) ≤ length out
-      → CanList 0 a b (t .lens) (t .sets) (t .runs) out
-  can-range a b out h g =
-      record { scan = record { look = can-look f; reach = omega (arith, f .sum) }; joined = f .canon; room = omega (arith, ap length (range-is a b)) }
-
-  pub can-whole : (out : List ℕ) → length (wholeList (view t)) ≤ length out → CanList 1 0 (t .length) (t .lens) (t .sets) (t .runs) out
-  can-whole out g =
-      record { scan = record { look = can-look f; reach = omega (arith, f .sum) }; joined = f .canon; room = omega (arith, ap length whole-is) }
+    -- what writing the list asks: room for what is needed
+    pub can-list : (out : List ℕ) → b ≤ t .length → length (listOver least a b (view t)) ≤ length out → CanList least a b (t .lens) (t .sets) (t .runs) out
+    can-list out h g =
+        record { scan = record { look = can-look f; reach = omega (arith, f .sum) }; joined = f .canon; room = omega (arith, ap length list-is) }
 
 -- ---- the refusals of a range
 module _ (a b : ℕ) (v : View) where
   pub empty-list : b ≤ a → rangeList a b v ≡ []
-  unfolding rangeList asNumbers
+  unfolding listOver asNumbers
   empty-list h = ap (asNumbers 0) (at-none _ _ a b h)
 
   refusal-empty : b ≤ a → rangeRefusal a b v ≡ 0

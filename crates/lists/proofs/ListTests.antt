@@ -9,7 +9,7 @@ use Rattle.styles.specs.Order.{stands, numbers}
 use Rattle.runs.specs.Positions.{extended, stretchesAt, asNumbers}
 use Rattle.richtext.specs.declared.AnchorType.the-variants.{Start, End}
 use Rattle.tank.specs.Rules.{View, afterAnnotate}
-use Rattle.lists.specs.Lists.{rangeList, wholeList, rangeRefusal, rangeNeeded}
+use Rattle.lists.specs.Lists.{listOver, rangeList, wholeList, rangeRefusal, rangeNeeded}
 use Rattle.lists.specs.Anchors.{marksBefore, marksBehind, anchorOf, anchorsOf, boundary, boundaries, anchors}
 
 abbrev A : Mark
@@ -29,25 +29,25 @@ case-5 = afterAnnotate 4 7 C case-2
 
 -- ---- stretches
 whole-5 : wholeList case-5 ≡ 2 ∷ 4 ∷ 1 ∷ 4 ∷ 5 ∷ 2 ∷ 5 ∷ 7 ∷ 1 ∷ []
-unfolding wholeList asNumbers stretchesAt extended afterAnnotate sameMarks insertMark stands numbers
+unfolding listOver asNumbers stretchesAt extended afterAnnotate sameMarks insertMark stands numbers
 whole-5 = refl
 
 -- clipped, unmarked ones included
 range-5 : rangeList 1 5 case-5 ≡ 1 ∷ 2 ∷ 0 ∷ 2 ∷ 4 ∷ 1 ∷ 4 ∷ 5 ∷ 2 ∷ []
-unfolding rangeList asNumbers stretchesAt extended afterAnnotate sameMarks insertMark stands numbers
+unfolding listOver asNumbers stretchesAt extended afterAnnotate sameMarks insertMark stands numbers
 range-5 = refl
 
 inside-5 : rangeList 3 4 case-5 ≡ 3 ∷ 4 ∷ 1 ∷ []
-unfolding rangeList asNumbers stretchesAt extended afterAnnotate sameMarks insertMark stands numbers
+unfolding listOver asNumbers stretchesAt extended afterAnnotate sameMarks insertMark stands numbers
 inside-5 = refl
 
 untouched : rangeList 3 9 bare ≡ 3 ∷ 9 ∷ 0 ∷ []
-unfolding rangeList asNumbers stretchesAt extended sameMarks
+unfolding listOver asNumbers stretchesAt extended sameMarks
 untouched = refl
 
 -- an empty range past the length lists nothing and is not refused; one that is not empty gives 4
 empty : rangeNeeded 50 40 case-5 ≡ record { number = 0; count = 0 }
-unfolding rangeRefusal rangeList asNumbers stretchesAt
+unfolding rangeRefusal listOver asNumbers stretchesAt
 empty = refl
 
 over : rangeNeeded 5 11 case-5 ≡ record { number = 4; count = 0 }
@@ -55,7 +55,7 @@ unfolding rangeRefusal afterAnnotate
 over = refl
 
 needed : rangeNeeded 1 5 case-5 ≡ record { number = 0; count = 9 }
-unfolding rangeRefusal rangeList asNumbers stretchesAt extended afterAnnotate sameMarks insertMark stands numbers
+unfolding rangeRefusal listOver asNumbers stretchesAt extended afterAnnotate sameMarks insertMark stands numbers
 needed = refl
 
 -- ---- anchors

@@ -15,9 +15,9 @@ use Rattle.tank.specs.State.{tableOf, view, Laid}
 use Rattle.tank.proofs.Unique.{table-length}
 use Rattle.lists.specs.declared.anchors.AnchorCursor.{AnchorCursor}
 use Rattle.richtext.specs.declared.AnchorType.the-variants.{Start, End}
-use Rattle.lists.specs.Lists.{rangeList, wholeList}
+use Rattle.lists.specs.Lists.{listOver}
 use Rattle.lists.specs.Anchors.{anchors, anchorsOf, lackingBits, leftAt, laterThan, rest, Stands, Follows}
-use Rattle.lists.proofs.ListLaws.{range-is, whole-is}
+use Rattle.lists.proofs.ListLaws.{list-is}
 use Rattle.lists.proofs.AnchorLaws.{lack-step}
 use Rattle.lists.proofs.CursorLaws.{first-is, follows, none-later, length-anchors}
 
@@ -81,20 +81,11 @@ anchors-most {t} f =
 
 -- ---- stretches
 module _ {t : Tank} (f : Laid t) where
-  pub range-most : (a b : ℕ) → b ≤ t .length → length (rangeList a b (view t)) ≤ 3 * t .runs
-  range-most a b h =
+  pub list-most : (least a b : ℕ) → b ≤ t .length → length (listOver least a b (view t)) ≤ 3 * t .runs
+  list-most least a b h =
       omega (
         arith,
-        ap length (range-is f a b),
-        ap length (listed-is 0 a b (t .lens) (t .sets) (t .runs) (f .canon) (omega (arith, f .sum))),
-        clipped-most 0 a b (t .lens) (t .sets) (t .runs),
-      )
-
-  pub whole-most : length (wholeList (view t)) ≤ 3 * t .runs
-  whole-most =
-      omega (
-        arith,
-        ap length (whole-is f),
-        ap length (listed-is 1 0 (t .length) (t .lens) (t .sets) (t .runs) (f .canon) (omega (arith, f .sum))),
-        clipped-most 1 0 (t .length) (t .lens) (t .sets) (t .runs),
+        ap length (list-is f least a b),
+        ap length (listed-is least a b (t .lens) (t .sets) (t .runs) (f .canon) (omega (arith, f .sum))),
+        clipped-most least a b (t .lens) (t .sets) (t .runs),
       )

@@ -36,13 +36,17 @@ TilesOver a b v = Tiles (alike (v .at)) (λ p. length (v .at p)) a b
 abbrev pub stretchesOver : ℕ → ℕ → View → List Stretch
 stretchesOver a b v = stretchesAt (alike (v .at)) (λ p. length (v .at p)) a b
 
--- the stretches over a .. b, unmarked ones included: start, end, count of marks of each in order
-unfoldable pub rangeList : ℕ → ℕ → View → List ℕ
-rangeList a b v = asNumbers 0 (stretchesOver a b v)
+-- their numbers: start, end, count of marks of each in order; those with fewer marks than `least` are left out
+unfoldable pub listOver : ℕ → ℕ → ℕ → View → List ℕ
+listOver least a b v = asNumbers least (stretchesOver a b v)
+
+-- the stretches over a .. b, unmarked ones included
+abbrev pub rangeList : ℕ → ℕ → View → List ℕ
+rangeList a b v = listOver 0 a b v
 
 -- the whole tank's stretches, in the same shape, unmarked ones left out
-unfoldable pub wholeList : View → List ℕ
-wholeList v = asNumbers 1 (stretchesOver 0 (v .length) v)
+abbrev pub wholeList : View → List ℕ
+wholeList v = listOver 1 0 (v .length) v
 
 -- 4: range end over the length; an empty range is refused nothing, wherever it lies
 unfoldable pub rangeRefusal : ℕ → ℕ → View → ℕ

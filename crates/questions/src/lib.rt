@@ -86,7 +86,7 @@ fn found(m: Ranked) -> Asked
 }
 
 // The empty set, beside a number.
-fn no_set(number: u64) -> SetAsked
+pub fn no_set(number: u64) -> SetAsked
     ensures { λ r. ⌜ r ≡ setOf number [] ⌝ }
 {
     SetAsked {
@@ -96,7 +96,7 @@ fn no_set(number: u64) -> SetAsked
 }
 
 // No set that all positions share, beside a number.
-fn not_shared(number: u64) -> Shared
+pub fn not_shared(number: u64) -> Shared
     ensures { λ r. ⌜ r ≡ sharedOf number false [] ⌝ }
 {
     Shared {

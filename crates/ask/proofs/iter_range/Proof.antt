@@ -6,8 +6,6 @@ use Rattle.tanks.specs.Pool.{meaning}
 use Rattle.ask.proofs.AskLaws.{asked-part, asked-count}
 use Rattle.ask.proofs.iter_range.Statement.{statement}
 use Rattle.ask.proofs.iter_range.Tie as tie
-use Rattle.ask.proofs.iter_range.Reads as reads
-use Rattle.ask.proofs.iter_range.Lts as lts
 
 returns : tie.Need-returns
 returns c =

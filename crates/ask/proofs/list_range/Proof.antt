@@ -8,8 +8,6 @@ use Rattle.ask.specs.Asks.{noList}
 use Rattle.ask.proofs.AskLaws.{past, inside}
 use Rattle.ask.proofs.list_range.Statement.{statement}
 use Rattle.ask.proofs.list_range.Tie as tie
-use Rattle.ask.proofs.list_range.Reads as reads
-use Rattle.ask.proofs.list_range.Lts as lts
 
 returns : tie.Need-returns
 returns c =

@@ -2,8 +2,6 @@
 use borrow.Author.Tests.{le-leb, lt-leb}
 use Rattle.ask.proofs.missing.Statement.{statement}
 use Rattle.ask.proofs.missing.Tie as tie
-use Rattle.ask.proofs.missing.Reads as reads
-use Rattle.ask.proofs.missing.Lts as lts
 
 returns : tie.Need-returns
 returns c = rw (le-leb 8 (c .before .args .tank) (c .if1 .taken))

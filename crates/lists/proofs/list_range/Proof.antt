@@ -3,7 +3,7 @@ use native.Mathlib.Omega.{arith}
 use borrow.Author.Needs.{needs}
 use Rattle.tank.specs.State.{view}
 use Rattle.lists.specs.Lists.{rangeList, rangeRefusal}
-use Rattle.lists.proofs.ListLaws.{needed-some, handed-none, handed-short, handed-full, range-is, can-range}
+use Rattle.lists.proofs.ListLaws.{needed-some, handed-none, handed-short, handed-full, list-is, can-list}
 use Rattle.lists.proofs.list_range.Statement.{statement}
 use Rattle.lists.proofs.list_range.Tie as tie
 use Rattle.lists.proofs.list_range.Reads as reads
@@ -35,7 +35,7 @@ returns-3 c =
     let v = view (s .args .t) in
     let n = needed-some (s .args .start) (s .args .end) v (a .result) (a .ensures) (d .if1 .left) in
     handed-full (rangeRefusal (s .args .start) (s .args .end) v) (rangeList (s .args .start) (s .args .end) v) _ (s .args .out .now) _ _ (n .0)
-    (range-is (s .pre .formed .laid) (s .args .start) (s .args .end)) (omega (arith, n .2, e .if2 .left)) (w .ensures .0) (w .ensures .1)
+    (list-is (s .pre .formed .laid) 0 (s .args .start) (s .args .end)) (omega (arith, n .2, e .if2 .left)) (w .ensures .0) (w .ensures .1)
 
 list-range-requires : tie.Need-list-range-requires
 unfolding view
@@ -43,7 +43,7 @@ list-range-requires c κs =
     let s = c .before .before .before .before .before .before .before .before .before .before .before in
     let a = c .before .before .before .before .before .before .before .before .before .stretches-needed in
     let n = needed-some (s .args .start) (s .args .end) (view (s .args .t)) (a .result) (a .ensures) (c .before .before .before .before .before .before .before .if1 .left) in
-    can-range (s .pre .formed .laid) (s .args .start) (s .args .end) (s .args .out .now) (n .1) (omega (arith, n .2))
+    can-list (s .pre .formed .laid) 0 (s .args .start) (s .args .end) (s .args .out .now) (n .1) (omega (arith, n .2))
 
 pub list-range-spec : {M : Type 1} → statement M
 list-range-spec =

@@ -4,7 +4,7 @@ use native.Mathlib.Omega.{arith}
 use borrow.Author.Needs.{needs}
 use lib.ListN.{length}
 use Rattle.tank.specs.State.{view}
-use Rattle.lists.proofs.ListLaws.{needed-empty, needed-over, needed-is, range-is}
+use Rattle.lists.proofs.ListLaws.{needed-empty, needed-over, needed-is, list-is}
 use Rattle.lists.proofs.stretches_needed.Statement.{statement}
 use Rattle.lists.proofs.stretches_needed.Tie as tie
 use Rattle.lists.proofs.stretches_needed.Reads as reads
@@ -30,7 +30,7 @@ unfolding view
 returns-3 c =
     let s = c .before .before .before .before .before .before .before .before in
     needed-is (s .args .start) (s .args .end) (view (s .args .t)) _ (omega arith) (omega arith)
-    (c .need-range .ensures ∙ ap length (range-is (s .pre .formed .laid) (s .args .start) (s .args .end)))
+    (c .need-range .ensures ∙ ap length (list-is (s .pre .formed .laid) 0 (s .args .start) (s .args .end)))
 
 pub stretches-needed-spec : {M : Type 1} → statement M
 stretches-needed-spec =

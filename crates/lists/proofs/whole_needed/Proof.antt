@@ -3,7 +3,8 @@ use native.Mathlib.Omega.{arith}
 use mathlib.Core.Path.{ap, _∙_}
 use borrow.Author.Needs.{needs}
 use lib.ListN.{length}
-use Rattle.lists.proofs.ListLaws.{whole-is}
+use Rattle.tank.specs.State.{view}
+use Rattle.lists.proofs.ListLaws.{list-is}
 use Rattle.lists.proofs.whole_needed.Statement.{statement}
 use Rattle.lists.proofs.whole_needed.Tie as tie
 use Rattle.lists.proofs.whole_needed.Reads as reads
@@ -15,7 +16,8 @@ need-marked-requires c κs =
     (search needs, f .canon, omega (arith, f .sum))
 
 returns : tie.Need-returns
-returns c = c .need-marked .ensures ∙ ap length (whole-is (c .before .before .before .before .before .pre .formed .laid))
+unfolding view
+returns c = c .need-marked .ensures ∙ ap length (list-is (c .before .before .before .before .before .pre .formed .laid) 1 0 (c .before .before .before .before .before .args .t .length))
 
 pub whole-needed-spec : {M : Type 1} → statement M
 whole-needed-spec = tie.close (tie.spec (λ c. search needs) (λ c. search needs) need-marked-requires returns)
