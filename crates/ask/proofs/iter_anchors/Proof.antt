@@ -36,6 +36,7 @@ use denote.Triple.Clauses.{ensured, lasts, Lasts}
 use denote.Triple.Spec.{Meets, tripleOf}
 use denote.Triple.Table.{entered, cited}
 use denote.Triple.Walked.{says, needs, Stays, gave-slice, stay-none, walkOf, goes-gave-slice, goes-none, Walks, ends-at, walked, walk-meets}
+use denote.Exit.{yes as is-kept}
 use Rattle.tank.specs.declared.Tank.{Tank}
 use Rattle.tanks.specs.declared.Tanks.{Tanks}
 use Rattle.lists.specs.declared.Listed.{Listed}
@@ -54,13 +55,17 @@ use Rattle.lists.proofs.Listed.Laws as R′
 use Rattle.lists.proofs.anchors.Anchor as T
 use Rattle.ask.proofs.own as found
 use Rattle.ask.proofs.own.Symbol as found-def
+use Rattle.ask.proofs.own.Symbol.{name as #found}
 use Rattle.ask.proofs.own.Met as found-thm
 use Rattle.ask.proofs.missing as missing
 use Rattle.ask.proofs.missing.Symbol as missing-def
+use Rattle.ask.proofs.missing.Symbol.{name as #missing}
 use Rattle.ask.proofs.missing.Met as missing-thm
 use Rattle.lists.proofs.anchors.iter_anchors as list
 use Rattle.lists.proofs.anchors.iter_anchors.Symbol as list-def
+use Rattle.lists.proofs.anchors.iter_anchors.Symbol.{name as #list}
 use Rattle.lists.proofs.anchors.iter_anchors.Met as list-thm
+use Rattle.ask.proofs.iter_anchors.Key.{name as #iter-anchors}
 use Rattle.ask.proofs.iter_anchors as iter-anchors
 use Rattle.ask.proofs.iter_anchors.Statement as stated
 use Rattle.ask.proofs.iter_anchors.Code as code
