@@ -49,7 +49,7 @@ module _ (s : Tanks) (ok : Sound s) (t : ℕ) (h : t < 8) where
   most-range a b g = omega (arith, ap (λ (v : View). length (rangeList a b v)) is-view, list-most (ok .each t h .laid) 0 a b (omega (arith, ap (λ (v : View). v .length) is-view)), runs-505)
 
   pub most-whole : length (wholeList (tankAt (meaning s) t)) ≤ 1515
-  unfolding tankOf tankIn
+  unfolding tankOf tankIn view
   most-whole = omega (arith, ap (λ (v : View). length (wholeList v)) is-view, list-most (ok .each t h .laid) 1 0 (tankOf s t .length) (omega arith), runs-505)
 
   pub most-anchors : length (anchors (tankAt (meaning s) t)) ≤ 32384
