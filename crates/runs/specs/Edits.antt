@@ -1,5 +1,5 @@
--- The edits of a run list, by position: what becomes of the positions, and that the result is their joined list.
-use Prim.Native.Nat.{ℕ, _+_, _-_, _≤_, _<_, _^_}
+-- Pushes, copies and edits of a run list, by position: what becomes of the positions, and that the result is their joined list.
+use Prim.Native.Nat.{ℕ, _+_, _-_, _≤_, _<_, _^_, min}
 use mathlib.Core.Path.{_≡_}
 use mathlib.Core.Bool.{cond, _&&_}
 use mathlib.Core.List.{List}
@@ -13,7 +13,11 @@ pub record Joined (n : ℕ) (at : ℕ → ℕ) (rs : List Run) : Type 0 where
   pub all : total rs ≡ n
   pub sets : (p : ℕ) → p < n → setAt rs p ≡ at p
 
--- ---- The sets at positions after an edit, from those before it
+-- ---- The sets at positions after a push, a copy or an edit, from those before it
+-- the first n positions as `at` has them, and behind them those of `more`
+unfoldable pub followedAt : ℕ → (ℕ → ℕ) → (ℕ → ℕ) → ℕ → ℕ
+followedAt n at more p = cond (ltb p n) (at p) (more (p - n))
+
 -- the sets of the positions a .. b changed by f
 unfoldable pub alteredAt : ℕ → ℕ → (ℕ → ℕ) → (ℕ → ℕ) → ℕ → ℕ
 alteredAt a b f at p = cond (leb a p && ltb p b) (f (at p)) (at p)
@@ -25,6 +29,29 @@ deletedAt a b at p = cond (ltb p a) (at p) (at (p + (b - a)))
 -- l positions with the set s put in before position pos
 unfoldable pub insertedAt : ℕ → ℕ → ℕ → (ℕ → ℕ) → ℕ → ℕ
 insertedAt pos l s at p = cond (ltb p pos) (at p) (cond (ltb p (pos + l)) s (at (p - l)))
+
+-- ---- What calls ask
+-- what a push onto n runs asks: two lists of one length, joined runs, room for the joined list of the result, and a sum that fits
+pub record CanPush (lens sets : List ℕ) (n l s : ℕ) : Type 0 where
+  pub even : length sets ≡ length lens
+  pub count : n ≤ length lens
+  pub joined : Canon (runs lens sets n)
+  pub room : (out : List Run)
+      → Joined (total (runs lens sets n) + l) (followedAt (total (runs lens sets n)) (setAt (runs lens sets n)) (λ q. s)) out
+      → length out ≤ length lens
+  pub sum : total (runs lens sets n) + l < 2 ^ 63
+
+-- what a copy of m runs onto n runs asks: the same, and a source whose sum fits
+pub record CanCopy (f : ℕ → ℕ) (olens osets : List ℕ) (n : ℕ) (lens sets : List ℕ) (m from to : ℕ) : Type 0 where
+  pub even : length osets ≡ length olens
+  pub lens-m : m ≤ length lens
+  pub sets-m : m ≤ length sets
+  pub source : total (runs lens sets m) < 2 ^ 63
+  pub joined : Canon (runs olens osets n)
+  pub room : (out : List Run)
+      → Joined (total (runs olens osets n) + (min to (total (runs lens sets m)) - from)) (followedAt (total (runs olens osets n)) (setAt (runs olens osets n)) (λ q. f (setAt (runs lens sets m) (from + q)))) out
+      → length out ≤ length olens
+  pub sum : total (runs olens osets n) + (min to (total (runs lens sets m)) - from) < 2 ^ 63
 
 -- what an edit of m runs asks that leaves n positions with these sets: room for their joined list, and a sum that fits
 pub record CanEdit (n : ℕ) (at : ℕ → ℕ) (olens osets lens sets : List ℕ) (m all : ℕ) : Type 0 where
