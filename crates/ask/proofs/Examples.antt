@@ -9,8 +9,8 @@ use Rattle.styles.specs.declared.Mark.{Mark}
 use Rattle.styles.specs.Order.{numbers, stands}
 use Rattle.styles.specs.Marks.{Above, Sorted, member, placeOf, only, sameContent, hasKey, winner}
 use Rattle.styles.specs.Bits.{pick, withBit}
-use Rattle.runs.specs.Runs.{total, setAt, copyRuns, pushRun, joinRun, changing}
-use Rattle.runs.proofs.Copies.{altered, deleted, inserted}
+use Rattle.runs.specs.Runs.{total, setAt, changing}
+use Rattle.runs.proofs.Copies.{joinRun, pushRun, copyRuns, altered, deleted, inserted}
 use Rattle.runs.specs.Gather.{gather}
 use Rattle.runs.specs.Positions.{anyAt, stretchTo}
 use Rattle.runs.specs.Scan.{commonAt}

@@ -1,14 +1,16 @@
 -- The places behind the runs stay as they were, so that all of what a push, a copy and an edit hand back is determined.
-use Prim.Native.Nat.{ℕ, zero, suc, _+_, _-_, _≤_, _<_}
+use Prim.Native.Nat.{ℕ, zero, suc, _+_, _-_, _≤_, _<_, min}
 use mathlib.Core.Path.{_≡_, refl, sym, ap, _∙_}
 use mathlib.Core.List.{List}
 use native.Mathlib.Omega.{arith}
 use native.Mathlib.Decide.{decLt}
 use lib.ListN.{length, getD, set, drop}
 use lib.Seq.{ext-getD, drop-set-lt, drop-drop, getD-drop}
-use Rattle.runs.specs.Runs.{Run, run, runs, pushRun, copyRuns, SameBehind, Spare}
+use Rattle.runs.specs.Runs.{Run, run, runs, total, setAt, Canon, SameBehind, Spare}
+use Rattle.runs.specs.Edits.{Joined}
+use Rattle.runs.specs.Positions.{followedAt}
 use Rattle.runs.proofs.Laws.{length-runs, push-longer}
-use Rattle.runs.proofs.EditLaws.{copy-longer}
+use Rattle.runs.proofs.EditLaws.{copy-longer, one-joined, pushed-is, copied-is}
 
 -- ---- nothing stored, and the stores of a push
 pub behind-none : (lens sets : List ℕ) (n : ℕ) → SameBehind n lens sets lens sets
@@ -21,14 +23,17 @@ pub behind-new : (lens sets : List ℕ) (n l s : ℕ) → SameBehind (n + 1) len
 behind-new lens sets n l s = record { lens-stay = drop-set-lt (n + 1) lens n l (omega arith); sets-stay = drop-set-lt (n + 1) sets n s (omega arith) }
 
 -- ---- one call after another: the count never falls
-pub count-push : (lens sets lens′ sets′ : List ℕ) (n m l s : ℕ) → runs lens′ sets′ m ≡ pushRun (runs lens sets n) l s → n ≤ m
-count-push lens sets lens′ sets′ n m l s e =
-    omega (arith, ap length e, length-runs lens sets n, length-runs lens′ sets′ m, push-longer (runs lens sets n) l s)
+pub count-push : (lens sets lens′ sets′ : List ℕ) (n m l s : ℕ) → Canon (runs lens sets n)
+    → Joined (total (runs lens sets n) + l) (followedAt (total (runs lens sets n)) (setAt (runs lens sets n)) (λ q. s)) (runs lens′ sets′ m) → n ≤ m
+count-push lens sets lens′ sets′ n m l s c j =
+    omega (arith, ap length (pushed-is (runs lens sets n) l s c j), length-runs lens sets n, length-runs lens′ sets′ m, push-longer (runs lens sets n) l s)
 
 pub count-copy : (f : ℕ → ℕ) (lens sets lens′ sets′ : List ℕ) (n m from to : ℕ) (rs : List Run)
-    → runs lens′ sets′ m ≡ copyRuns f (runs lens sets n) from to rs → n ≤ m
-count-copy f lens sets lens′ sets′ n m from to rs e =
-    omega (arith, ap length e, length-runs lens sets n, length-runs lens′ sets′ m, copy-longer f (runs lens sets n) from to rs)
+    → Canon (runs lens sets n)
+    → Joined (total (runs lens sets n) + (min to (total rs) - from)) (followedAt (total (runs lens sets n)) (setAt (runs lens sets n)) (λ q. f (setAt rs (from + q)))) (runs lens′ sets′ m)
+    → n ≤ m
+count-copy f lens sets lens′ sets′ n m from to rs c j =
+    omega (arith, ap length (copied-is f (runs lens sets n) from to rs c j), length-runs lens sets n, length-runs lens′ sets′ m, copy-longer f (runs lens sets n) from to rs)
 
 drop-on : (n m : ℕ) (xs ys : List ℕ) → n ≤ m → drop n ys ≡ drop n xs → drop m ys ≡ drop m xs
 drop-on n m xs ys h e =
@@ -74,17 +79,18 @@ entries lens sets lens′ sets′ (suc n) e i h =
           rw g (ap (λ (x : Run). x .len) r, ap (λ (x : Run). x .set) r)
     ]
 
--- ---- two results with the same runs, of a call that was lent `lens` and `sets`, are one: the count, and both lists whole
-module _ (lens sets lens′ sets′ lens″ sets″ : List ℕ) (n m : ℕ) (rs : List Run)
-    (a : runs lens′ sets′ n ≡ rs) (b : runs lens″ sets″ m ≡ rs)
+-- ---- two results of a push, a copy or an edit that was lent `lens` and `sets`, and that leaves `all` positions with the sets of `at`, are one:
+-- the count, and both lists whole
+module _ (lens sets lens′ sets′ lens″ sets″ : List ℕ) (n m all : ℕ) (at : ℕ → ℕ)
+    (a : Joined all at (runs lens′ sets′ n)) (b : Joined all at (runs lens″ sets″ m))
     (p : SameBehind n lens sets lens′ sets′) (q : SameBehind m lens sets lens″ sets″) where
   pub one-count : n ≡ m
-  one-count = sym (length-runs lens′ sets′ n) ∙ ap length (a ∙ sym b) ∙ length-runs lens″ sets″ m
+  one-count = sym (length-runs lens′ sets′ n) ∙ ap length (one-joined a b) ∙ length-runs lens″ sets″ m
 
   same-entry : (i : ℕ) → (getD lens′ i 0 ≡ getD lens″ i 0) × (getD sets′ i 0 ≡ getD sets″ i 0)
   same-entry i =
       elim (decLt i n) [
-        | yes h ↦ entries lens′ sets′ lens″ sets″ n (a ∙ sym b ∙ ap (runs lens″ sets″) (sym one-count)) i h
+        | yes h ↦ entries lens′ sets′ lens″ sets″ n (one-joined a b ∙ ap (runs lens″ sets″) (sym one-count)) i h
         | no h ↦
             let k : m ≤ i = omega (arith, one-count) in (
               drop-at n i lens lens′ (omega arith) (p .lens-stay) ∙ sym (drop-at m i lens lens″ k (q .lens-stay)),
@@ -98,3 +104,8 @@ module _ (lens sets lens′ sets′ lens″ sets″ : List ℕ) (n m : ℕ) (rs 
 
   pub one-sets : length sets′ ≡ length sets → length sets″ ≡ length sets → sets′ ≡ sets″
   one-sets l k = ext-getD 0 sets′ sets″ (l ∙ sym k) (λ i _. same-entry i .1)
+
+-- ---- two counts of the runs that a copy or an edit would leave are one, since there is a list that it leaves (`alone-joined`, `altered-joined` ..)
+pub one-length : {n : ℕ} {at : ℕ → ℕ} {rs : List Run} → Joined n at rs → (r r′ : ℕ)
+    → ((out : List Run) → Joined n at out → r ≡ length out) → ((out : List Run) → Joined n at out → r′ ≡ length out) → r ≡ r′
+one-length {rs = rs} j r r′ a b = a rs j ∙ sym (b rs j)

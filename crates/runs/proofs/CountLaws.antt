@@ -5,8 +5,8 @@ use mathlib.Core.List.{List, [], _∷_}
 use native.Mathlib.Omega.{arith}
 use native.Mathlib.Decide.{decLe, ℕ-discrete}
 use lib.ListN.{length}
-use Rattle.runs.specs.Runs.{Run, run, total, pushRun, clip, copyRuns, adding}
-use Rattle.runs.proofs.Copies.{part, altered, deleted, inserted}
+use Rattle.runs.specs.Runs.{Run, run, total}
+use Rattle.runs.proofs.Copies.{pushRun, clip, copyRuns, adding, part, altered, deleted, inserted}
 use Rattle.runs.proofs.Laws.{push-none, push-join, push-new, push-by, length-push, length-copy}
 
 -- 1 where there is one at least, else 0

@@ -1,5 +1,5 @@
--- The laws of edits: how many positions one leaves, the set at each, and the form; so that it leaves the joined list of them.
-use Prim.Native.Nat.{ℕ, _+_, _-_, _≤_, _<_, min}
+-- The laws of pushes, copies and edits: how many positions one leaves, the set at each, and the form; so that it leaves the joined list of them.
+use Prim.Native.Nat.{ℕ, _+_, _-_, _≤_, _<_, _^_, min}
 use mathlib.Core.Path.{_≡_, sym, ap, _∙_}
 use mathlib.Core.Bool.{cond, _&&_}
 use mathlib.Core.List.{List, [], _∷_}
@@ -10,11 +10,11 @@ use lib.ListN.{length}
 use lib.Bits.{bitOr, bitAnd, or-zero-r, and-zero-r}
 use native.Mathlib.Nat.{sub-zero}
 use borrow.Author.Tests.{lt-ltb, le-ltb, le-leb, lt-leb}
-use Rattle.runs.specs.Runs.{Run, total, setAt, Canon, pushRun, clip, copyRuns, changing, adding, runs, CanCopy, CanPush}
-use Rattle.runs.specs.Edits.{Joined, CanEdit}
-use Rattle.runs.specs.Positions.{alteredAt, deletedAt, insertedAt}
-use Rattle.runs.proofs.Copies.{part, altered, deleted, inserted, Room}
-use Rattle.runs.proofs.Laws.{unique, at-past, total-push, push-before, push-at, canon-push, push-longer, total-copy, copy-before, copy-at, canon-copy, length-runs}
+use Rattle.runs.specs.Runs.{Run, total, setAt, Canon, changing, runs}
+use Rattle.runs.specs.Edits.{Joined, CanPush, CanCopy, CanEdit}
+use Rattle.runs.specs.Positions.{followedAt, alteredAt, deletedAt, insertedAt}
+use Rattle.runs.proofs.Copies.{pushRun, clip, copyRuns, adding, part, altered, deleted, inserted, Room}
+use Rattle.runs.proofs.Laws.{unique, at-past, total-push, push-before, push-at, canon-push, push-longer, total-copy, copy-before, copy-at, canon-copy, push-room}
 
 pub add-is : (bits s : ℕ) → adding bits s ≡ bitOr s bits
 unfolding changing
@@ -32,43 +32,6 @@ unfolding copyRuns
 copy-longer f base from to [] = omega arith
 copy-longer f base from to (r ∷ rs) =
     omega (arith, copy-longer f base from to rs, push-longer (copyRuns f base from to rs) (clip from to (total rs) (r .len)) (f (r .set)))
-
--- base is no longer than out, and holds no more
-pub record Inside (base out : List Run) : Type 0 where
-  pub longer : length base ≤ length out
-  pub holds : total base ≤ total out
-
-pub inside-self : (out : List Run) → Inside out out
-inside-self out = omega arith
-
-pub inside-copy : (f : ℕ → ℕ) {base out : List Run} (from to : ℕ) (rs : List Run) → Inside (copyRuns f base from to rs) out → Inside base out
-inside-copy f {base} from to rs h = omega (arith, copy-longer f base from to rs, total-copy f base from to rs)
-
-pub inside-push : {base out : List Run} (l s : ℕ) → Inside (pushRun base l s) out → Inside base out
-inside-push {base} l s h = omega (arith, push-longer base l s, total-push base l s)
-
--- what an edit asks is enough for each of its copies and pushes
-module _ {out : List Run} {olens₀ osets₀ lens sets : List ℕ} {m all : ℕ} (can : Room out olens₀ osets₀ lens sets m all)
-    (olens osets : List ℕ) (n : ℕ) (l : length olens ≡ length olens₀) (l′ : length osets ≡ length osets₀) (base : List Run) (e : runs olens osets n ≡ base) where
-  pub can-copy : (f : ℕ → ℕ) (from to : ℕ) → Inside (copyRuns f base from to (runs lens sets m)) out → CanCopy f olens osets n lens sets m from to
-  can-copy f from to h =
-      record {
-        even = omega arith;
-        lens-m = can .lens-m;
-        sets-m = can .sets-m;
-        source = omega arith;
-        room = rw e (omega arith);
-        sum = rw e (omega arith);
-      }
-
-  pub can-push : (k s : ℕ) → Inside (pushRun base k s) out → CanPush olens osets n k s
-  can-push k s h =
-      record {
-        even = omega arith;
-        count = omega (arith, push-longer base k s, ap length e, length-runs olens osets n);
-        room = rw e (omega arith);
-        sum = rw e (omega (arith, total-push base k s));
-      }
 
 -- position r of the source stands at position q of the copy
 pub copy-to : (f : ℕ → ℕ) (base : List Run) (from to : ℕ) (rs : List Run) (q r : ℕ) → q + from ≡ total base + r → from ≤ r → r < to → r < total rs
@@ -96,6 +59,111 @@ at-copy f base from to rs p =
           ]
     ]
 
+-- ---- the joined list of positions and sets
+pub one-joined : {n : ℕ} {at : ℕ → ℕ} {xs ys : List Run} → Joined n at xs → Joined n at ys → xs ≡ ys
+one-joined {n} {at} {xs} {ys} j k =
+    unique xs ys (j .canon) (k .canon) (j .all ∙ sym (k .all))
+    (λ p.
+    elim (decLt p n) [
+      | yes h ↦ j .sets p h ∙ sym (k .sets p h)
+      | no h ↦ at-past xs p (omega (arith, j .all)) ∙ sym (at-past ys p (omega (arith, k .all)))
+    ])
+
+pub joined-is : {n : ℕ} {at : ℕ → ℕ} {xs ys : List Run} → Joined n at ys → xs ≡ ys → Joined n at xs
+joined-is j e = rw e j
+
+-- what a push and a copy make is the joined list of the positions that were there, and those that are put behind them
+pub pushed-joined : (rs : List Run) (l s : ℕ) → Canon rs → Joined (total rs + l) (followedAt (total rs) (setAt rs) (λ q. s)) (pushRun rs l s)
+pushed-joined rs l s c =
+    record {
+      canon = canon-push rs l s c;
+      all = total-push rs l s;
+      sets = λ p h.
+          elim (decLt p (total rs)) [
+            | yes k ↦ simp (lt-ltb p (total rs) k) (push-before rs l s p k)
+            | no k ↦ simp (le-ltb p (total rs) (omega arith)) (push-at rs l s p (omega arith) h)
+          ];
+    }
+
+pub pushed-is : (rs : List Run) (l s : ℕ) {out : List Run} → Canon rs → Joined (total rs + l) (followedAt (total rs) (setAt rs) (λ q. s)) out → out ≡ pushRun rs l s
+pushed-is rs l s c j = one-joined j (pushed-joined rs l s c)
+
+module _ (f : ℕ → ℕ) (base : List Run) (from to : ℕ) (rs : List Run) (c : Canon base) where
+  pub copied-joined : Joined (total base + (min to (total rs) - from)) (followedAt (total base) (setAt base) (λ q. f (setAt rs (from + q)))) (copyRuns f base from to rs)
+  copied-joined =
+      record {
+        canon = canon-copy f base from to rs c;
+        all = total-copy f base from to rs;
+        sets = λ p h.
+            elim (decLt p (total base)) [
+              | yes k ↦ simp (lt-ltb p (total base) k) (copy-before f base from to rs p k)
+              | no k ↦
+                  simp (le-ltb p (total base) (omega arith))
+                  (copy-to f base from to rs p (from + (p - total base)) (omega arith) (omega arith) (omega arith) (omega arith))
+            ];
+      }
+
+  pub copied-is : {out : List Run} → Joined (total base + (min to (total rs) - from)) (followedAt (total base) (setAt base) (λ q. f (setAt rs (from + q)))) out
+      → out ≡ copyRuns f base from to rs
+  copied-is j = one-joined j copied-joined
+
+-- a copy onto nothing is that of the positions from .. to alone
+pub alone-joined : (f : ℕ → ℕ) (from to : ℕ) (rs : List Run) → Joined (min to (total rs) - from) (λ p. f (setAt rs (from + p))) (copyRuns f [] from to rs)
+unfolding total Canon
+alone-joined f from to rs =
+    record {
+      canon = canon-copy f [] from to rs tt;
+      all = omega (arith, total-copy f [] from to rs);
+      sets = λ p h. copy-to f [] from to rs p (from + p) (omega arith) (omega arith) (omega arith) (omega arith);
+    }
+
+-- base is no longer than out, and holds no more
+pub record Inside (base out : List Run) : Type 0 where
+  pub longer : length base ≤ length out
+  pub holds : total base ≤ total out
+
+pub inside-self : (out : List Run) → Inside out out
+inside-self out = omega arith
+
+pub inside-copy : (f : ℕ → ℕ) {base out : List Run} (from to : ℕ) (rs : List Run) → Inside (copyRuns f base from to rs) out → Inside base out
+inside-copy f {base} from to rs h = omega (arith, copy-longer f base from to rs, total-copy f base from to rs)
+
+pub inside-push : {base out : List Run} (l s : ℕ) → Inside (pushRun base l s) out → Inside base out
+inside-push {base} l s h = omega (arith, push-longer base l s, total-push base l s)
+
+-- where there is room for what a push makes, there is for whichever list is the joined one
+pub push-can : {lens sets : List ℕ} {n : ℕ} (l s : ℕ) → length sets ≡ length lens → Canon (runs lens sets n)
+    → length (pushRun (runs lens sets n) l s) ≤ length lens → total (pushRun (runs lens sets n) l s) < 2 ^ 63 → CanPush lens sets n l s
+push-can {lens} {sets} {n} l s even c room sum =
+    record {
+      even = even;
+      count = push-room lens sets n l s room;
+      joined = c;
+      room = λ out j. omega (arith, room, ap length (pushed-is (runs lens sets n) l s c j));
+      sum = omega (arith, sum, total-push (runs lens sets n) l s);
+    }
+
+-- what an edit asks is enough for each of its copies and pushes
+module _ {out : List Run} {olens₀ osets₀ lens sets : List ℕ} {m all : ℕ} (can : Room out olens₀ osets₀ lens sets m all)
+    (olens osets : List ℕ) (n : ℕ) (l : length olens ≡ length olens₀) (l′ : length osets ≡ length osets₀)
+    (c : Canon (runs olens osets n)) (base : List Run) (e : runs olens osets n ≡ base) where
+  pub can-copy : (f : ℕ → ℕ) (from to : ℕ) → Inside (copyRuns f base from to (runs lens sets m)) out → CanCopy f olens osets n lens sets m from to
+  can-copy f from to h =
+      let g : copyRuns f (runs olens osets n) from to (runs lens sets m) ≡ copyRuns f base from to (runs lens sets m) = rw e in
+      record {
+        even = omega arith;
+        lens-m = can .lens-m;
+        sets-m = can .sets-m;
+        source = omega arith;
+        joined = c;
+        room = λ x j. omega (arith, ap length g, ap length (copied-is f (runs olens osets n) from to (runs lens sets m) c j));
+        sum = omega (arith, ap total g, total-copy f (runs olens osets n) from to (runs lens sets m));
+      }
+
+  pub can-push : (k s : ℕ) → Inside (pushRun base k s) out → CanPush olens osets n k s
+  can-push k s h = push-can k s (omega arith) c (rw e (omega arith)) (rw e (omega arith))
+
+-- ---- the edits: how many positions, the set at each, the form
 pub part-to : (base : List Run) (from to : ℕ) (rs : List Run) (q r : ℕ) → q + from ≡ total base + r → from ≤ r → r < to → r < total rs
     → setAt (part base from to rs) q ≡ setAt rs r
 part-to base from to rs q r e l g h = copy-to (adding 0) base from to rs q r e l g h ∙ add-none (setAt rs r)
@@ -259,19 +327,7 @@ unfolding inserted Canon
 canon-inserted rs pos l s =
     canon-copy (adding 0) (pushRun (part [] 0 pos rs) l s) pos (total rs) rs (canon-push (part [] 0 pos rs) l s (canon-copy (adding 0) [] 0 pos rs tt))
 
--- ---- the joined list of positions and sets
-pub one-joined : {n : ℕ} {at : ℕ → ℕ} {xs ys : List Run} → Joined n at xs → Joined n at ys → xs ≡ ys
-one-joined {n} {at} {xs} {ys} j k =
-    unique xs ys (j .canon) (k .canon) (j .all ∙ sym (k .all))
-    (λ p.
-    elim (decLt p n) [
-      | yes h ↦ j .sets p h ∙ sym (k .sets p h)
-      | no h ↦ at-past xs p (omega (arith, j .all)) ∙ sym (at-past ys p (omega (arith, k .all)))
-    ])
-
-pub joined-is : {n : ℕ} {at : ℕ → ℕ} {xs ys : List Run} → Joined n at ys → xs ≡ ys → Joined n at xs
-joined-is j e = rw e j
-
+-- ---- so each leaves the joined list
 -- where there is room for the joined list, there is for a result that is that list
 pub room-of : {n : ℕ} {at : ℕ → ℕ} {olens osets lens sets : List ℕ} {m all : ℕ} {out : List Run}
     → CanEdit n at olens osets lens sets m all → Joined n at out → Room out olens osets lens sets m all

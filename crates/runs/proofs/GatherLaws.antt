@@ -7,8 +7,8 @@ use native.Mathlib.Numerals.{add-one}
 use native.Mathlib.Decide.{decLt, ℕ-discrete}
 use lib.Bits.{bitAnd, bitOr}
 use lib.ListN.{getD}
-use Rattle.runs.specs.Runs.{Run, runs, total, setAt, Canon, adding}
-use Rattle.runs.proofs.Copies.{altered, deleted, inserted}
+use Rattle.runs.specs.Runs.{Run, runs, total, setAt, Canon}
+use Rattle.runs.proofs.Copies.{adding, altered, deleted, inserted}
 use Rattle.runs.specs.Gather.{gather}
 use Rattle.styles.proofs.Digits.{digit, or-digit, digit-none, digits-ext, within-digit, digit-within}
 use Rattle.runs.proofs.Laws.{at-in, at-last}

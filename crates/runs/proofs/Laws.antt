@@ -1,4 +1,4 @@
--- The laws of `specs/Runs.antt`.
+-- The laws of run lists, and of pushes onto them and copies as the code makes them (Copies).
 use Prim.Native.Nat.{ℕ, zero, suc, _+_, _-_, _≤_, _<_, min}
 use mathlib.Core.Path.{_≡_, refl, sym, ap, _∙_, subst}
 use mathlib.Core.List.{List, [], _∷_}
@@ -9,7 +9,8 @@ use lib.ListN.{length, getD, set}
 use lib.Seq.{getD-set-same, getD-set-other}
 use borrow.Author.Tests.{lt-ltb, le-ltb, eq-eqb, ne-eqb}
 use Rattle.runs.specs.Positions.{sumBelow}
-use Rattle.runs.specs.Runs.{Run, run, runs, total, setAt, Other, Canon, joinRun, pushRun, clip, copyRuns, sums, Found}
+use Rattle.runs.specs.Runs.{Run, run, runs, total, setAt, Other, Canon, sums, Found}
+use Rattle.runs.proofs.Copies.{joinRun, pushRun, clip, copyRuns}
 use Rattle.runs.proofs.SumLaws.{sum-more, sum-up}
 
 -- ---- the three forms of a push

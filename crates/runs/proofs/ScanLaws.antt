@@ -10,9 +10,10 @@ use lib.Dec.{ltb, leb, eqb}
 use lib.Bits.{bitAnd, and-zero-r}
 use lib.ListN.{length, getD}
 use borrow.Author.Tests.{ltb-true, lt-ltb, le-ltb, le-leb, lt-leb, eq-eqb, ne-eqb, not-false}
-use Rattle.runs.specs.Runs.{Run, runs, total, setAt, sums, clip}
+use Rattle.runs.specs.Runs.{Run, runs, total, setAt, sums}
 use Rattle.runs.specs.Positions.{anyAt, allAt, stretchTo}
 use Rattle.runs.specs.Scan.{meets, commonAt, CanLook}
+use Rattle.runs.proofs.Copies.{clip}
 use Rattle.runs.proofs.Laws.{total-sums, found-set, at-past}
 
 -- ---- tests

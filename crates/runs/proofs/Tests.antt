@@ -1,5 +1,5 @@
 -- The definitions at small tanks, by computation. The last run stands first.
-use Prim.Native.Nat.{ℕ, zero, suc, _≤_, _<_}
+use Prim.Native.Nat.{ℕ, zero, suc, _+_, _≤_, _<_}
 use mathlib.Core.Path.{_≡_, refl}
 use mathlib.Core.Bool.{true, false}
 use mathlib.Core.List.{List, [], _∷_}
@@ -8,9 +8,9 @@ use lib.Count.{ones, onesIn}
 use lib.ListN.{getD}
 use Rattle.styles.specs.Bits.{openBit, topIn}
 use Rattle.runs.specs.declared.scan.Test.the-variants.{Meets, Misses, Hides, Differs}
-use Rattle.runs.specs.Runs.{Run, run, runs, total, setAt, Other, Canon, pushRun, joinRun, clip, copyRuns, changing, adding, sums, Found, SameBehind, Spare}
-use Rattle.runs.specs.Positions.{alteredAt, deletedAt, insertedAt}
-use Rattle.runs.proofs.Copies.{part, altered, deleted, inserted}
+use Rattle.runs.specs.Runs.{Run, run, runs, total, setAt, Other, Canon, changing, sums, Found, SameBehind, Spare}
+use Rattle.runs.specs.Positions.{followedAt, alteredAt, deletedAt, insertedAt}
+use Rattle.runs.proofs.Copies.{joinRun, pushRun, clip, copyRuns, adding, part, altered, deleted, inserted}
 use Rattle.runs.specs.Gather.{gather, Renumbered}
 use Rattle.runs.specs.Positions.{sumBelow, anyAt, allAt, stretchTo, starts, stretchCount, stretch, extended, stretchesAt, asNumbers}
 use Rattle.runs.specs.Scan.{meets, shows, passes, commonAt}
@@ -122,7 +122,12 @@ joined : deleted (run 4 1 ∷ run 3 2 ∷ run 5 1 ∷ []) 5 8 ≡ run 9 1 ∷ []
 unfolding deleted changing copyRuns
 joined = refl
 
--- by position: bit 0 on 8 .. 12, the positions 5 .. 8 gone, four put in at 10
+-- by position: behind the first 12 those with set 9, or those from 8 on
+sets-behind : (followedAt 12 (setAt t) (λ q. 9) 11 ≡ 2) × (followedAt 12 (setAt t) (λ q. 9) 12 ≡ 9) × (followedAt 12 (setAt t) (λ q. setAt t (8 + q)) 13 ≡ 0)
+unfolding t setAt
+sets-behind = (refl, refl, refl)
+
+-- bit 0 on 8 .. 12, the positions 5 .. 8 gone, four put in at 10
 sets-after : (alteredAt 8 12 (adding 1) (setAt t) 7 ≡ 0) × (alteredAt 8 12 (adding 1) (setAt t) 8 ≡ 1) × (alteredAt 8 12 (adding 1) (setAt t) 12 ≡ 2)
     × (deletedAt 5 8 (setAt t) 6 ≡ 0) × (deletedAt 5 8 (setAt t) 7 ≡ 2) × (insertedAt 10 4 9 (setAt t) 13 ≡ 9) × (insertedAt 10 4 9 (setAt t) 14 ≡ 2)
 unfolding t changing setAt

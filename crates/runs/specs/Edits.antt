@@ -1,8 +1,9 @@
--- An edit of a run list leaves the joined list of its positions: what stands at each of them is said in Positions.
-use Prim.Native.Nat.{ℕ, _≤_, _<_, _^_}
+-- A push, a copy and an edit of a run list leave the joined list of their positions: what stands at each of those is said in Positions.
+use Prim.Native.Nat.{ℕ, _+_, _-_, _≤_, _<_, _^_, min}
 use mathlib.Core.Path.{_≡_}
 use mathlib.Core.List.{List}
 use lib.ListN.{length}
+use Rattle.runs.specs.Positions.{followedAt}
 use Rattle.runs.specs.Runs.{Run, runs, total, setAt, Canon}
 
 -- the joined list of n positions with the set `at p` at each position p: there is no other (`one-joined`, proofs/EditLaws)
@@ -10,6 +11,29 @@ pub record Joined (n : ℕ) (at : ℕ → ℕ) (rs : List Run) : Type 0 where
   pub canon : Canon rs
   pub all : total rs ≡ n
   pub sets : (p : ℕ) → p < n → setAt rs p ≡ at p
+
+-- ---- What calls ask
+-- what a push onto n runs asks: two lists of one length, joined runs, room for the joined list of the result, and a sum that fits
+pub record CanPush (lens sets : List ℕ) (n l s : ℕ) : Type 0 where
+  pub even : length sets ≡ length lens
+  pub count : n ≤ length lens
+  pub joined : Canon (runs lens sets n)
+  pub room : (out : List Run)
+      → Joined (total (runs lens sets n) + l) (followedAt (total (runs lens sets n)) (setAt (runs lens sets n)) (λ q. s)) out
+      → length out ≤ length lens
+  pub sum : total (runs lens sets n) + l < 2 ^ 63
+
+-- what a copy of m runs onto n runs asks: the same, and a source whose sum fits
+pub record CanCopy (f : ℕ → ℕ) (olens osets : List ℕ) (n : ℕ) (lens sets : List ℕ) (m from to : ℕ) : Type 0 where
+  pub even : length osets ≡ length olens
+  pub lens-m : m ≤ length lens
+  pub sets-m : m ≤ length sets
+  pub source : total (runs lens sets m) < 2 ^ 63
+  pub joined : Canon (runs olens osets n)
+  pub room : (out : List Run)
+      → Joined (total (runs olens osets n) + (min to (total (runs lens sets m)) - from)) (followedAt (total (runs olens osets n)) (setAt (runs olens osets n)) (λ q. f (setAt (runs lens sets m) (from + q)))) out
+      → length out ≤ length olens
+  pub sum : total (runs olens osets n) + (min to (total (runs lens sets m)) - from) < 2 ^ 63
 
 -- what an edit of m runs asks that leaves n positions with these sets: room for their joined list, and a sum that fits
 pub record CanEdit (n : ℕ) (at : ℕ → ℕ) (olens osets lens sets : List ℕ) (m all : ℕ) : Type 0 where

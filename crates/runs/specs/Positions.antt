@@ -27,6 +27,10 @@ deletedAt a b at p = cond (ltb p a) (at p) (at (p + (b - a)))
 abbrev pub insertedAt : {A : Type 0} → ℕ → ℕ → A → (ℕ → A) → ℕ → A
 insertedAt pos l x at p = cond (ltb p pos) (at p) (cond (ltb p (pos + l)) x (at (p - l)))
 
+-- the first n as they were, and behind them those of `more`
+abbrev pub followedAt : {A : Type 0} → ℕ → (ℕ → A) → (ℕ → A) → ℕ → A
+followedAt n at more p = cond (ltb p n) (at p) (more (p - n))
+
 -- ---- A test over a range
 -- some position of from .. to passes the test
 unfoldable pub anyAt : (ℕ → Bool) → ℕ → ℕ → Bool

@@ -2,11 +2,11 @@
 
 ghost use mathlib.Core.Path.{_≡_};
 ghost use mathlib.Core.List.{List, []};
-ghost use Prim.Native.Nat.{_+_, _-_, _<_, _≤_, _^_};
+ghost use Prim.Native.Nat.{_+_, _-_, _<_, _≤_, _^_, min};
 ghost use lib.ListN.{length};
-ghost use Rattle.runs.specs.Runs.{Run, runs, total, setAt, pushRun, copyRuns, changing};
+ghost use Rattle.runs.specs.Runs.{Run, runs, total, setAt, Canon, changing};
 ghost use Rattle.runs.specs.Edits.{Joined};
-ghost use Rattle.runs.specs.Positions.{alteredAt, deletedAt, insertedAt};
+ghost use Rattle.runs.specs.Positions.{followedAt, alteredAt, deletedAt, insertedAt};
 ghost use Rattle.runs.specs.Count.{tallyOf, CanTally};
 use super::change;
 use super::clip;
@@ -27,7 +27,7 @@ fn nothing() -> Tally
 fn more(t: Tally, len: u64, set: u64) -> Tally
     requires { ⌜ t .count + 1 < 2 ^ 64 ⌝ }
     ensures { λ r. ⌜ r .count ≤ t .count + 1 ⌝ }
-    ensures { λ r. ⌜ ((rs : List Run) → t ≡ tallyOf rs → r ≡ tallyOf (pushRun rs len set)) ⌝ }
+    ensures { λ r. ⌜ ((rs out : List Run) → Canon rs → t ≡ tallyOf rs → Joined (total rs + len) (followedAt (total rs) (setAt rs) (λ q. set)) out → r ≡ tallyOf out) ⌝ }
 {
     if len == 0 {
         return t;
@@ -60,7 +60,7 @@ fn count_part(
 ) -> Tally
     requires { ⌜ CanTally (now lens) (now sets) m ⌝ }
     requires { ⌜ t .count + m < 2 ^ 64 ⌝ }
-    ensures { λ r. ⌜ ((base : List Run) → t ≡ tallyOf base → r ≡ tallyOf (copyRuns (changing bits drop) base from to (runs (now (lens .entry)) (now (sets .entry)) m))) ⌝ }
+    ensures { λ r. ⌜ ((rs out : List Run) → Canon rs → t ≡ tallyOf rs → Joined (total rs + (min to (total (runs (now (lens .entry)) (now (sets .entry)) m)) - from)) (followedAt (total rs) (setAt rs) (λ q. changing bits drop (setAt (runs (now (lens .entry)) (now (sets .entry)) m) (from + q)))) out → r ≡ tallyOf out) ⌝ }
 {
     let mut u = t;
     let mut k = 0;
@@ -86,7 +86,7 @@ pub fn count_copy(
     drop: u64,
 ) -> usize
     requires { ⌜ CanTally (now lens) (now sets) m ⌝ }
-    ensures { λ r. ⌜ r ≡ length (copyRuns (changing bits drop) [] from to (runs (now (lens .entry)) (now (sets .entry)) m)) ⌝ }
+    ensures { λ r. ⌜ ((out : List Run) → Joined (min to (total (runs (now (lens .entry)) (now (sets .entry)) m)) - from) (λ p. changing bits drop (setAt (runs (now (lens .entry)) (now (sets .entry)) m) (from + p))) out → r ≡ length out) ⌝ }
 {
     let t = count_part(nothing(), lens, sets, m, from, to, bits, drop);
     t.count

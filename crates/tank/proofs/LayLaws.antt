@@ -1,5 +1,5 @@
 -- A mark of the table laid on a range: what the tank then means.
-use Prim.Native.Nat.{ℕ, _≤_, _<_, _^_}
+use Prim.Native.Nat.{ℕ, _<_, _^_}
 use mathlib.Core.Path.{_≡_, sym, ap, _∙_}
 use mathlib.Core.Bool.{true}
 use mathlib.Core.List.{List}
@@ -12,10 +12,10 @@ use Rattle.styles.specs.Marks.{Sorted, insertMark, blank}
 use Rattle.styles.specs.Bits.{pick, withBit}
 use Rattle.styles.proofs.BitLaws.{with-is}
 use Rattle.styles.proofs.PickLaws.{pick-with}
-use Rattle.runs.specs.Runs.{runs, total, setAt, adding, Spare}
+use Rattle.runs.specs.Runs.{runs, setAt, Spare}
 use Rattle.runs.specs.Edits.{Joined}
 use Rattle.runs.specs.Positions.{alteredAt}
-use Rattle.runs.proofs.Copies.{altered}
+use Rattle.runs.proofs.Copies.{adding, altered}
 use Rattle.runs.specs.Gather.{gather}
 use Rattle.runs.proofs.EditLaws.{add-is}
 use Rattle.runs.proofs.GatherLaws.{gather-altered}

@@ -13,8 +13,8 @@ use Rattle.styles.specs.Order.{idOf}
 use Rattle.styles.specs.Marks.{Sorted, member, placeOf, insertMark, removeMark}
 use Rattle.styles.specs.Bits.{pick, withBit}
 use Rattle.styles.specs.Values.{valueNan}
-use Rattle.runs.specs.Runs.{Run, total, Canon, adding, changing}
-use Rattle.runs.proofs.Copies.{altered, deleted, inserted}
+use Rattle.runs.specs.Runs.{Run, total, Canon, changing}
+use Rattle.runs.proofs.Copies.{adding, altered, deleted, inserted}
 use Rattle.runs.specs.Gather.{gather}
 use Rattle.runs.specs.Scan.{commonAt}
 use Rattle.runs.proofs.EditLaws.{canon-altered, canon-deleted, canon-inserted}

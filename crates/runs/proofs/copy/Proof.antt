@@ -1,12 +1,16 @@
--- `runs::copy` meets its contract. The invariant: the output's runs are the copy of the source's first k runs.
-use Prim.Native.Nat.{ℕ, _+_, _-_, _≤_, _<_, _^_}
+-- `runs::copy` meets its contract. The invariant: the output's runs are the copy of the source's first k runs, and a copy is the joined list (`copied-joined`).
+use Prim.Native.Nat.{ℕ, _+_, _-_, _≤_, _<_, _^_, min}
 use mathlib.Core.Path.{_≡_, refl, sym, ap, _∙_}
 use mathlib.Core.List.{List}
 use native.Mathlib.Omega.{arith}
 use borrow.Author.Needs.{needs}
 use lib.ListN.{length, getD}
-use Rattle.runs.specs.Runs.{runs, total, pushRun, copyRuns, changing, clip, SameBehind, CanPush, CanCopy}
-use Rattle.runs.proofs.Laws.{total-more, total-mono, copy-more, copy-grows, copy-holds, total-push, push-room}
+use Rattle.runs.specs.Runs.{Run, runs, total, setAt, Canon, changing, SameBehind}
+use Rattle.runs.specs.Edits.{Joined, CanPush, CanCopy}
+use Rattle.runs.specs.Positions.{followedAt}
+use Rattle.runs.proofs.Copies.{pushRun, clip, copyRuns}
+use Rattle.runs.proofs.Laws.{total-more, total-mono, canon-copy, copy-more, copy-grows, copy-holds}
+use Rattle.runs.proofs.EditLaws.{joined-is, pushed-is, copied-joined, push-can}
 use Rattle.runs.proofs.BehindLaws.{behind-none, count-push, behind-on}
 use Rattle.runs.proofs.copy.Statement.{statement}
 use Rattle.runs.proofs.copy.Tie as tie
@@ -25,6 +29,9 @@ module _ {olens₀ osets₀ : List ℕ} {n : ℕ} {lens sets : List ℕ} {m from
   turn-end : start + getD lens k 0 < 2 ^ 63
   turn-end = omega (arith, total-more lens sets k, total-mono lens sets (k + 1) m (omega arith))
 
+  turn-canon : Canon (runs olens osets at)
+  turn-canon = rw (inv .done) (canon-copy (changing bits drop) (runs olens₀ osets₀ n) from to (runs lens sets k) (can .joined))
+
   -- the push that the turn makes gives the copy of one run more
   turn-push : pushRun (runs olens osets at) (clip from to start (getD lens k 0)) (changing bits drop (getD sets k 0))
       ≡ copyRuns (changing bits drop) (runs olens₀ osets₀ n) from to (runs lens sets (k + 1))
@@ -32,35 +39,35 @@ module _ {olens₀ osets₀ : List ℕ} {n : ℕ} {lens sets : List ℕ} {m from
 
   turn-can : CanPush olens osets at (clip from to start (getD lens k 0)) (changing bits drop (getD sets k 0))
   turn-can =
-      let room : length (pushRun (runs olens osets at) (clip from to start (getD lens k 0)) (changing bits drop (getD sets k 0))) ≤ length olens =
-      rw turn-push (omega (arith, copy-grows lens sets (changing bits drop) (runs olens₀ osets₀ n) from to (k + 1) m (omega arith)))
-      in
-      record {
-        even = omega arith;
-        count = push-room olens osets at _ _ room;
-        room = room;
-        sum =
-            omega (
-              arith,
-              total-push (runs olens osets at) (clip from to start (getD lens k 0)) (changing bits drop (getD sets k 0)),
-              ap total turn-push,
-              copy-holds lens sets (changing bits drop) (runs olens₀ osets₀ n) from to (k + 1) m (omega arith),
-            );
-      }
+      let made = copied-joined (changing bits drop) (runs olens₀ osets₀ n) from to (runs lens sets m) (can .joined) in
+      push-can (clip from to start (getD lens k 0)) (changing bits drop (getD sets k 0)) (omega arith) turn-canon
+      (rw turn-push (omega (arith, can .room _ made, copy-grows lens sets (changing bits drop) (runs olens₀ osets₀ n) from to (k + 1) m (omega arith))))
+      (rw turn-push (omega (arith, made .all, copy-holds lens sets (changing bits drop) (runs olens₀ osets₀ n) from to (k + 1) m (omega arith))))
 
   turn : (olens′ osets′ : List ℕ) (at′ : ℕ)
-      → runs olens′ osets′ at′ ≡ pushRun (runs olens osets at) (clip from to start (getD lens k 0)) (changing bits drop (getD sets k 0))
+      → Joined (total (runs olens osets at) + clip from to start (getD lens k 0))
+      (followedAt (total (runs olens osets at)) (setAt (runs olens osets at)) (λ q. changing bits drop (getD sets k 0))) (runs olens′ osets′ at′)
       → length olens′ ≡ length olens → length osets′ ≡ length osets → SameBehind at′ olens osets olens′ osets′
       → Copied olens₀ osets₀ n lens sets m from to bits drop olens′ osets′ (k + 1) (start + getD lens k 0) at′
-  turn olens′ osets′ at′ e l l′ b =
+  turn olens′ osets′ at′ j l l′ b =
+      let e = pushed-is (runs olens osets at) (clip from to start (getD lens k 0)) (changing bits drop (getD sets k 0)) turn-canon j in
       record {
         within = omega arith;
         begun = omega (arith, total-more lens sets k);
         done = e ∙ turn-push;
         kept = omega arith;
         kept′ = omega arith;
-        behind = behind-on at at′ (count-push olens osets olens′ osets′ at at′ _ _ e) (inv .behind) b;
+        behind = behind-on at at′ (count-push olens osets olens′ osets′ at at′ _ _ turn-canon j) (inv .behind) b;
       }
+
+-- after the last turn the copy is whole
+whole : {olens₀ osets₀ : List ℕ} {n : ℕ} {lens sets : List ℕ} {m from to bits drop : ℕ} {olens osets : List ℕ} {k start at : ℕ}
+    → CanCopy (changing bits drop) olens₀ osets₀ n lens sets m from to → Copied olens₀ osets₀ n lens sets m from to bits drop olens osets k start at → k ≡ m
+    → Joined (total (runs olens₀ osets₀ n) + (min to (total (runs lens sets m)) - from))
+    (followedAt (total (runs olens₀ osets₀ n)) (setAt (runs olens₀ osets₀ n)) (λ q. changing bits drop (setAt (runs lens sets m) (from + q)))) (runs olens osets at)
+whole {olens₀} {osets₀} {n} {lens} {sets} {m} {from} {to} {bits} {drop} can inv e =
+    let copy : ℕ → List Run = λ i. copyRuns (changing bits drop) (runs olens₀ osets₀ n) from to (runs lens sets i) in
+    joined-is (copied-joined (changing bits drop) (runs olens₀ osets₀ n) from to (runs lens sets m) (can .joined)) (inv .done ∙ ap copy e)
 
 abbrev Inv-loop : tie.InvT-loop
 Inv-loop olens₀ osets₀ n lens sets m from to bits drop k₀ start₀ at₀ olens osets k start at =
@@ -100,8 +107,8 @@ loop-again c =
 
 returns : tie.Need-returns Inv-loop μ-loop
 returns c =
-    let e : c .before .loop .k ≡ c .before .before .before .before .before .before .args .m = omega arith in
-    (rw (← e) (c .before .loop .inv .done), c .before .loop .inv .behind)
+    let s = c .before .before .before .before .before .before in
+    (whole (s .pre) (c .before .loop .inv) (omega arith), c .before .loop .inv .behind)
 
 pub copy-spec : {M : Type 1} → statement M
 copy-spec =

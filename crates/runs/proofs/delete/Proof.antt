@@ -2,9 +2,9 @@
 use mathlib.Core.Path.{_≡_, refl}
 use mathlib.Core.List.{[]}
 use borrow.Author.Needs.{needs}
-use Rattle.runs.specs.Runs.{runs, adding}
-use Rattle.runs.proofs.Copies.{part, deleted}
-use Rattle.runs.proofs.EditLaws.{inside-self, inside-copy, can-copy, room-of, deleted-joined, joined-is}
+use Rattle.runs.specs.Runs.{runs, Canon}
+use Rattle.runs.proofs.Copies.{adding, part, deleted}
+use Rattle.runs.proofs.EditLaws.{inside-self, inside-copy, can-copy, room-of, copied-is, deleted-joined, joined-is}
 use Rattle.runs.proofs.BehindLaws.{count-copy, behind-on}
 use Rattle.runs.proofs.delete.Statement.{statement}
 use Rattle.runs.proofs.delete.Tie as tie
@@ -13,24 +13,24 @@ use Rattle.runs.proofs.delete.Lts as lts
 use Rattle.runs.proofs.copy.Reads as copy-reads
 
 copy-requires : tie.Need-copy-requires
-unfolding runs deleted
+unfolding runs deleted Canon
 copy-requires c κs =
     let s = c .before .before .before .before .before .before in
-    can-copy (room-of (s .pre .2) (deleted-joined _ _ (s .pre .2 .all-is) (s .args .a) (s .args .b) (s .pre .0) (s .pre .1))) (s .args .olens .now) (s .args .osets .now) 0 refl refl [] refl (adding 0) 0 (s .args .a)
+    can-copy (room-of (s .pre .2) (deleted-joined _ _ (s .pre .2 .all-is) (s .args .a) (s .args .b) (s .pre .0) (s .pre .1))) (s .args .olens .now) (s .args .osets .now) 0 refl refl tt [] refl (adding 0) 0 (s .args .a)
     (inside-copy (adding 0) (s .args .b) _ _ (inside-self _))
 
 -- after the first copy
 first : (c : tie.After-copy) → let s = c .before .before .before .before .before .before .before in
     runs (c .copy .last .0) (c .copy .last .1 .0) (c .copy .result) ≡ part [] 0 (s .args .a) (runs (s .args .lens .now) (s .args .sets .now) (s .args .m))
-unfolding runs
-first c = c .copy .ensures .0
+unfolding runs Canon
+first c = copied-is (adding 0) [] _ _ _ tt (c .copy .ensures .0)
 
 copy-requires-2 : tie.Need-copy-requires-2
 unfolding deleted
 copy-requires-2 c κs =
     let x = c .before .before .before .before .before .before in
     let s = x .before .before .before .before .before .before .before in
-    can-copy (room-of (s .pre .2) (deleted-joined _ _ (s .pre .2 .all-is) (s .args .a) (s .args .b) (s .pre .0) (s .pre .1))) (x .copy .last .0) (x .copy .last .1 .0) (x .copy .result) (x .copy .kept .0) (x .copy .kept .1 .0) _ (first x) (adding 0) (s .args .b) (s .args .all)
+    can-copy (room-of (s .pre .2) (deleted-joined _ _ (s .pre .2 .all-is) (s .args .a) (s .args .b) (s .pre .0) (s .pre .1))) (x .copy .last .0) (x .copy .last .1 .0) (x .copy .result) (x .copy .kept .0) (x .copy .kept .1 .0) (x .copy .ensures .0 .canon) _ (first x) (adding 0) (s .args .b) (s .args .all)
     (rw (s .pre .2 .all-is) (inside-self _))
 
 same-length : tie.Need-same-length
@@ -45,8 +45,8 @@ returns c =
     let y = c .before .before .before .before in
     let x = y .before .before .before .before .before .before .before in
     let s = x .before .before .before .before .before .before .before in
-    let k = count-copy _ _ _ _ _ _ _ _ _ _ (y .copy2 .ensures .0) in
-    (joined-is (deleted-joined _ _ (s .pre .2 .all-is) (s .args .a) (s .args .b) (s .pre .0) (s .pre .1)) (rw (first x, s .pre .2 .all-is) at (y .copy2 .ensures .0)), behind-on _ _ k (x .copy .ensures .1) (y .copy2 .ensures .1))
+    let k = count-copy (adding 0) _ _ _ _ _ _ _ _ _ (x .copy .ensures .0 .canon) (y .copy2 .ensures .0) in
+    (joined-is (deleted-joined _ _ (s .pre .2 .all-is) (s .args .a) (s .args .b) (s .pre .0) (s .pre .1)) (rw (first x, s .pre .2 .all-is) at (copied-is (adding 0) _ _ _ _ (x .copy .ensures .0 .canon) (y .copy2 .ensures .0))), behind-on _ _ k (x .copy .ensures .1) (y .copy2 .ensures .1))
 
 pub delete-spec : {M : Type 1} → statement M
 delete-spec = tie.close (tie.spec copy-requires copy-requires-2 same-length same-length-2 returns)

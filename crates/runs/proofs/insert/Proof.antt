@@ -2,9 +2,9 @@
 use mathlib.Core.Path.{_≡_, refl, _∙_}
 use mathlib.Core.List.{[]}
 use borrow.Author.Needs.{needs}
-use Rattle.runs.specs.Runs.{runs, adding, pushRun}
-use Rattle.runs.proofs.Copies.{part, inserted}
-use Rattle.runs.proofs.EditLaws.{inside-self, inside-copy, inside-push, can-copy, can-push, room-of, inserted-joined, joined-is}
+use Rattle.runs.specs.Runs.{runs, Canon}
+use Rattle.runs.proofs.Copies.{pushRun, adding, part, inserted}
+use Rattle.runs.proofs.EditLaws.{inside-self, inside-copy, inside-push, can-copy, can-push, room-of, pushed-is, copied-is, inserted-joined, joined-is}
 use Rattle.runs.proofs.BehindLaws.{count-push, count-copy, behind-on}
 use Rattle.runs.proofs.insert.Statement.{statement}
 use Rattle.runs.proofs.insert.Tie as tie
@@ -14,29 +14,31 @@ use Rattle.runs.proofs.copy.Reads as copy-reads
 use Rattle.runs.proofs.push.Reads as push-reads
 
 copy-requires : tie.Need-copy-requires
-unfolding runs inserted
+unfolding runs inserted Canon
 copy-requires c κs =
     let s = c .before .before .before .before .before .before in
-    can-copy (room-of (s .pre .1) (inserted-joined _ _ (s .pre .1 .all-is) (s .args .pos) (s .args .len) (s .args .set) (s .pre .0))) (s .args .olens .now) (s .args .osets .now) 0 refl refl [] refl (adding 0) 0 (s .args .pos)
+    can-copy (room-of (s .pre .1) (inserted-joined _ _ (s .pre .1 .all-is) (s .args .pos) (s .args .len) (s .args .set) (s .pre .0))) (s .args .olens .now) (s .args .osets .now) 0 refl refl tt [] refl (adding 0) 0 (s .args .pos)
     (inside-push (s .args .len) (s .args .set) (inside-copy (adding 0) (s .args .pos) _ _ (inside-self _)))
 
 -- after the first copy, and after the push
 first : (c : tie.After-copy) → let s = c .before .before .before .before .before .before .before in
     runs (c .copy .last .0) (c .copy .last .1 .0) (c .copy .result) ≡ part [] 0 (s .args .pos) (runs (s .args .lens .now) (s .args .sets .now) (s .args .m))
-unfolding runs
-first c = c .copy .ensures .0
+unfolding runs Canon
+first c = copied-is (adding 0) [] _ _ _ tt (c .copy .ensures .0)
 
 second : (c : tie.After-push) → let s = c .before .before .before .before .before .before .before .before .before .before .before .before .before .before in
     let rs = runs (s .args .lens .now) (s .args .sets .now) (s .args .m) in
     runs (c .push .last .0) (c .push .last .1 .0) (c .push .result) ≡ pushRun (part [] 0 (s .args .pos) rs) (s .args .len) (s .args .set)
-second c = rw (first (c .before .before .before .before .before .before .before)) at (c .push .ensures .0)
+second c =
+    let x = c .before .before .before .before .before .before .before in
+    rw (first x) at (pushed-is _ _ _ (x .copy .ensures .0 .canon) (c .push .ensures .0))
 
 push-requires : tie.Need-push-requires
 unfolding inserted
 push-requires c κs =
     let x = c .before .before .before .before .before .before in
     let s = x .before .before .before .before .before .before .before in
-    can-push (room-of (s .pre .1) (inserted-joined _ _ (s .pre .1 .all-is) (s .args .pos) (s .args .len) (s .args .set) (s .pre .0))) (x .copy .last .0) (x .copy .last .1 .0) (x .copy .result) (x .copy .kept .0) (x .copy .kept .1 .0) _ (first x)
+    can-push (room-of (s .pre .1) (inserted-joined _ _ (s .pre .1 .all-is) (s .args .pos) (s .args .len) (s .args .set) (s .pre .0))) (x .copy .last .0) (x .copy .last .1 .0) (x .copy .result) (x .copy .kept .0) (x .copy .kept .1 .0) (x .copy .ensures .0 .canon) _ (first x)
     (s .args .len) (s .args .set) (inside-copy (adding 0) (s .args .pos) _ _ (inside-self _))
 
 copy-requires-2 : tie.Need-copy-requires-2
@@ -46,7 +48,7 @@ copy-requires-2 c κs =
     let x = y .before .before .before .before .before .before .before in
     let s = x .before .before .before .before .before .before .before in
     can-copy (room-of (s .pre .1) (inserted-joined _ _ (s .pre .1 .all-is) (s .args .pos) (s .args .len) (s .args .set) (s .pre .0))) (y .push .last .0) (y .push .last .1 .0) (y .push .result) (y .push .kept .0 ∙ x .copy .kept .0) (y .push .kept .1 .0 ∙ x .copy .kept .1 .0)
-    _ (second y) (adding 0) (s .args .pos) (s .args .all) (rw (s .pre .1 .all-is) (inside-self _))
+    (y .push .ensures .0 .canon) _ (second y) (adding 0) (s .args .pos) (s .args .all) (rw (s .pre .1 .all-is) (inside-self _))
 
 same-length : tie.Need-same-length
 same-length c = search needs
@@ -61,9 +63,9 @@ returns c =
     let y = z .before .before .before .before .before .before .before in
     let s = y .before .before .before .before .before .before .before .before .before .before .before .before .before .before in
     let x = y .before .before .before .before .before .before .before in
-    let k = count-push _ _ _ _ _ _ _ _ (y .push .ensures .0) in
-    let l = count-copy _ _ _ _ _ _ _ _ _ _ (z .copy2 .ensures .0) in (
-      joined-is (inserted-joined _ _ (s .pre .1 .all-is) (s .args .pos) (s .args .len) (s .args .set) (s .pre .0)) (rw (second y, s .pre .1 .all-is) at (z .copy2 .ensures .0)),
+    let k = count-push _ _ _ _ _ _ _ _ (x .copy .ensures .0 .canon) (y .push .ensures .0) in
+    let l = count-copy (adding 0) _ _ _ _ _ _ _ _ _ (y .push .ensures .0 .canon) (z .copy2 .ensures .0) in (
+      joined-is (inserted-joined _ _ (s .pre .1 .all-is) (s .args .pos) (s .args .len) (s .args .set) (s .pre .0)) (rw (second y, s .pre .1 .all-is) at (copied-is (adding 0) _ _ _ _ (y .push .ensures .0 .canon) (z .copy2 .ensures .0))),
       behind-on _ _ l (behind-on _ _ k (x .copy .ensures .1) (y .push .ensures .1)) (z .copy2 .ensures .1),
     )
 

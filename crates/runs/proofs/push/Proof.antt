@@ -1,4 +1,4 @@
--- `runs::push` meets its contract. What is left to show stands in `Laws`: the stores of a push make the pure push.
+-- `runs::push` meets its contract: its stores make the pure push (`Laws`), which is the joined list (`pushed-joined`).
 use Prim.Native.Nat.{_<_}
 use mathlib.Core.Path.{sym}
 use mathlib.Core.Logic.{⊎-elim}
@@ -7,12 +7,13 @@ use borrow.Author.Needs.{needs}
 use lib.ListN.{length}
 use Rattle.runs.specs.Runs.{runs, Other}
 use Rattle.runs.proofs.Laws.{push-none, last-le, other-runs, new-room, store-join, store-new}
+use Rattle.runs.proofs.EditLaws.{joined-is, pushed-joined}
 use Rattle.runs.proofs.BehindLaws.{behind-none, behind-join, behind-new}
 use Rattle.runs.proofs.push.Statement.{statement}
 use Rattle.runs.proofs.push.Tie as tie
 
 returns : tie.Need-returns
-returns c = (sym (push-none _ _ _ (c .if1 .taken)), behind-none _ _ _)
+returns c = (joined-is (pushed-joined _ _ _ (c .before .pre .joined)) (sym (push-none _ _ _ (c .if1 .taken))), behind-none _ _ _)
 
 add-lens : tie.Need-add-lens
 add-lens c =
@@ -21,8 +22,10 @@ add-lens c =
 
 returns-2 : tie.Need-returns-2
 returns-2 c =
-    let a = c .before .before .before .before .before .args in (
-      store-join (a .lens .now) (a .sets .now) (a .n) (a .len) (a .set) (omega arith) (omega arith) (search needs) (c .before .if3 .taken),
+    let s = c .before .before .before .before .before in
+    let a = s .args in (
+      joined-is (pushed-joined _ _ _ (s .pre .joined))
+          (store-join (a .lens .now) (a .sets .now) (a .n) (a .len) (a .set) (omega arith) (omega arith) (search needs) (c .before .if3 .taken)),
       behind-join (a .lens .now) (a .sets .now) (a .n) _ _ (omega arith),
     )
 
@@ -35,12 +38,14 @@ other c =
 room : (c : tie.Joined2) → c .before .before .args .n < length (c .before .before .args .lens .now)
 room c =
     let s = c .before .before in
-    new-room (s .args .lens .now) (s .args .sets .now) (s .args .n) (s .args .len) (s .args .set) (s .pre .room) (c .before .if1 .left) (other c)
+    new-room (s .args .lens .now) (s .args .sets .now) (s .args .n) (s .args .len) (s .args .set) (s .pre .room _ (pushed-joined _ _ _ (s .pre .joined))) (c .before .if1 .left) (other c)
 
 returns-3 : tie.Need-returns-3
 returns-3 c =
-    let a = c .before .before .args in (
-      store-new (a .lens .now) (a .sets .now) (a .n) (a .len) (a .set) (room c) (omega (arith, room c)) (c .before .if1 .left) (other c),
+    let s = c .before .before in
+    let a = s .args in (
+      joined-is (pushed-joined _ _ _ (s .pre .joined))
+          (store-new (a .lens .now) (a .sets .now) (a .n) (a .len) (a .set) (room c) (omega (arith, room c)) (c .before .if1 .left) (other c)),
       behind-new (a .lens .now) (a .sets .now) (a .n) (a .len) (a .set),
     )
 

@@ -4,11 +4,12 @@ use mathlib.Core.List.{[]}
 use native.Mathlib.Omega.{arith}
 use lib.ListN.{length}
 use borrow.Author.Needs.{needs}
-use Rattle.runs.specs.Runs.{runs, copyRuns, changing, adding}
-use Rattle.runs.proofs.Copies.{part, altered}
+use Rattle.runs.specs.Runs.{runs, Canon, changing}
+use Rattle.runs.proofs.Copies.{copyRuns, adding, part, altered}
 use Rattle.runs.specs.Count.{tallyOf}
+use Rattle.runs.proofs.Laws.{canon-copy}
 use Rattle.runs.proofs.EditLaws.{one-joined, altered-joined}
-use Rattle.runs.proofs.TallyLaws.{count-is, copied-most}
+use Rattle.runs.proofs.TallyLaws.{count-is, tally-copied, copied-most}
 use Rattle.runs.proofs.count.count_alter.Statement.{statement}
 use Rattle.runs.proofs.count.count_alter.Tie as tie
 
@@ -18,13 +19,15 @@ count-part-requires c κs = (c .before .before .before .pre .0, omega (arith, co
 -- after the first part
 first : (c : tie.After-count-part) → let s = c .before .before .before .before in
     c .count-part .result ≡ tallyOf (part [] 0 (s .args .a) (runs (s .args .lens .now) (s .args .sets .now) (s .args .m)))
-first c = c .count-part .ensures [] (c .before .nothing .ensures)
+unfolding Canon
+first c = tally-copied (adding 0) [] _ _ _ tt (c .before .nothing .ensures) (c .count-part .ensures)
 
 -- after the second
 second : (c : tie.After-count-part2) → let s = c .before .before .before .before .before in
     let rs = runs (s .args .lens .now) (s .args .sets .now) (s .args .m) in
     c .count-part2 .result ≡ tallyOf (copyRuns (changing (s .args .bits) (s .args .drop)) (part [] 0 (s .args .a) rs) (s .args .a) (s .args .b) rs)
-second c = c .count-part2 .ensures _ (first (c .before))
+unfolding Canon
+second c = tally-copied (changing _ _) _ _ _ _ (canon-copy (adding 0) [] _ _ _ tt) (first (c .before)) (c .count-part2 .ensures)
 
 count-part-requires-2 : tie.Need-count-part-requires-2
 count-part-requires-2 c κs =
@@ -45,11 +48,11 @@ count-part-requires-3 c κs =
     )
 
 returns : tie.Need-returns
-unfolding altered
+unfolding altered Canon
 returns c =
     let s = c .before .before .before .before .before .before in
     λ out j.
-    (rw (← s .pre .1 .0) (count-is _ _ (c .count-part3 .ensures _ (second (c .before)))))
+    (rw (← s .pre .1 .0) (count-is _ _ (tally-copied (adding 0) _ _ _ _ (canon-copy (changing _ _) _ _ _ _ (canon-copy (adding 0) [] _ _ _ tt)) (second (c .before)) (c .count-part3 .ensures))))
     ∙ ap length (one-joined (altered-joined (runs (s .args .lens .now) (s .args .sets .now) (s .args .m)) (s .args .all) (s .pre .1 .0) (s .args .a) (s .args .b) (changing (s .args .bits) (s .args .drop)) (s .pre .1 .1) (s .pre .1 .2)) j)
 
 pub count-alter-spec : {M : Type 1} → statement M

@@ -4,11 +4,12 @@ use mathlib.Core.List.{[]}
 use native.Mathlib.Omega.{arith}
 use lib.ListN.{length}
 use borrow.Author.Needs.{needs}
-use Rattle.runs.specs.Runs.{runs, adding}
-use Rattle.runs.proofs.Copies.{part, deleted}
+use Rattle.runs.specs.Runs.{runs, Canon}
+use Rattle.runs.proofs.Copies.{adding, part, deleted}
 use Rattle.runs.specs.Count.{tallyOf}
+use Rattle.runs.proofs.Laws.{canon-copy}
 use Rattle.runs.proofs.EditLaws.{one-joined, deleted-joined}
-use Rattle.runs.proofs.TallyLaws.{count-is, copied-most}
+use Rattle.runs.proofs.TallyLaws.{count-is, tally-copied, copied-most}
 use Rattle.runs.proofs.count.count_delete.Statement.{statement}
 use Rattle.runs.proofs.count.count_delete.Tie as tie
 
@@ -18,7 +19,8 @@ count-part-requires c κs = (c .before .before .before .pre .0, omega (arith, co
 -- after the first part
 first : (c : tie.After-count-part) → let s = c .before .before .before .before in
     c .count-part .result ≡ tallyOf (part [] 0 (s .args .a) (runs (s .args .lens .now) (s .args .sets .now) (s .args .m)))
-first c = c .count-part .ensures [] (c .before .nothing .ensures)
+unfolding Canon
+first c = tally-copied (adding 0) [] _ _ _ tt (c .before .nothing .ensures) (c .count-part .ensures)
 
 count-part-requires-2 : tie.Need-count-part-requires-2
 count-part-requires-2 c κs =
@@ -26,11 +28,11 @@ count-part-requires-2 c κs =
     (s .pre .0, omega (arith, count-is _ _ (first c), copied-most (adding 0) [] 0 (s .args .a) (s .args .lens .now) (s .args .sets .now) (s .args .m)))
 
 returns : tie.Need-returns
-unfolding deleted
+unfolding deleted Canon
 returns c =
     let s = c .before .before .before .before .before in
     λ out j.
-    (rw (← s .pre .1 .0) (count-is _ _ (c .count-part2 .ensures _ (first (c .before)))))
+    (rw (← s .pre .1 .0) (count-is _ _ (tally-copied (adding 0) _ _ _ _ (canon-copy (adding 0) [] _ _ _ tt) (first (c .before)) (c .count-part2 .ensures))))
     ∙ ap length (one-joined (deleted-joined (runs (s .args .lens .now) (s .args .sets .now) (s .args .m)) (s .args .all) (s .pre .1 .0) (s .args .a) (s .args .b) (s .pre .1 .1) (s .pre .1 .2)) j)
 
 pub count-delete-spec : {M : Type 1} → statement M

@@ -4,12 +4,12 @@ use mathlib.Core.List.{[]}
 use native.Mathlib.Omega.{arith}
 use lib.ListN.{length}
 use borrow.Author.Needs.{needs}
-use Rattle.runs.specs.Runs.{runs, pushRun, adding}
-use Rattle.runs.proofs.Copies.{part, inserted}
+use Rattle.runs.specs.Runs.{runs, Canon}
+use Rattle.runs.proofs.Copies.{pushRun, adding, part, inserted}
 use Rattle.runs.specs.Count.{tallyOf}
-use Rattle.runs.proofs.Laws.{length-push}
+use Rattle.runs.proofs.Laws.{canon-push, length-push, canon-copy}
 use Rattle.runs.proofs.EditLaws.{one-joined, inserted-joined}
-use Rattle.runs.proofs.TallyLaws.{count-is, copied-most}
+use Rattle.runs.proofs.TallyLaws.{count-is, tally-pushed, tally-copied, copied-most}
 use Rattle.runs.proofs.count.count_insert.Statement.{statement}
 use Rattle.runs.proofs.count.count_insert.Tie as tie
 
@@ -19,12 +19,14 @@ count-part-requires c κs = (c .before .before .before .pre .0, omega (arith, co
 -- after the first part
 first : (c : tie.After-count-part) → let s = c .before .before .before .before in
     c .count-part .result ≡ tallyOf (part [] 0 (s .args .pos) (runs (s .args .lens .now) (s .args .sets .now) (s .args .m)))
-first c = c .count-part .ensures [] (c .before .nothing .ensures)
+unfolding Canon
+first c = tally-copied (adding 0) [] _ _ _ tt (c .before .nothing .ensures) (c .count-part .ensures)
 
 -- after the new positions
 second : (c : tie.After-more) → let s = c .before .before .before .before .before in
     c .more .result ≡ tallyOf (pushRun (part [] 0 (s .args .pos) (runs (s .args .lens .now) (s .args .sets .now) (s .args .m))) (s .args .len) (s .args .set))
-second c = c .more .ensures .1 _ (first (c .before))
+unfolding Canon
+second c = tally-pushed _ _ _ (canon-copy (adding 0) [] _ _ _ tt) (first (c .before)) (c .more .ensures .1)
 
 more-requires : tie.Need-more-requires
 more-requires c κs =
@@ -45,11 +47,11 @@ count-part-requires-2 c κs =
     )
 
 returns : tie.Need-returns
-unfolding inserted
+unfolding inserted Canon
 returns c =
     let s = c .before .before .before .before .before .before in
     λ out j.
-    (rw (← s .pre .1 .0) (count-is _ _ (c .count-part2 .ensures _ (second (c .before)))))
+    (rw (← s .pre .1 .0) (count-is _ _ (tally-copied (adding 0) _ _ _ _ (canon-push _ _ _ (canon-copy (adding 0) [] _ _ _ tt)) (second (c .before)) (c .count-part2 .ensures))))
     ∙ ap length (one-joined (inserted-joined (runs (s .args .lens .now) (s .args .sets .now) (s .args .m)) (s .args .all) (s .pre .1 .0) (s .args .pos) (s .args .len) (s .args .set) (s .pre .1 .1)) j)
 
 pub count-insert-spec : {M : Type 1} → statement M

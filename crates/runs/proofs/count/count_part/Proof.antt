@@ -1,14 +1,19 @@
 -- `count::count_part` meets its contract. The invariant: the tally is that of the copy of the first k runs.
-use Prim.Native.Nat.{ℕ, _+_, _-_, _≤_, _<_, _^_}
+use Prim.Native.Nat.{ℕ, _+_, _-_, _≤_, _<_, _^_, min}
 use mathlib.Core.Path.{_≡_, refl, sym, ap, _∙_}
 use mathlib.Core.List.{List}
 use native.Mathlib.Omega.{arith}
 use borrow.Author.Needs.{needs}
 use lib.ListN.{getD}
 use Rattle.runs.specs.declared.count.Tally.{Tally}
-use Rattle.runs.specs.Runs.{Run, runs, total, pushRun, copyRuns, changing, clip}
+use Rattle.runs.specs.Runs.{Run, runs, total, setAt, Canon, changing}
+use Rattle.runs.specs.Edits.{Joined}
+use Rattle.runs.specs.Positions.{followedAt}
 use Rattle.runs.specs.Count.{tallyOf, CanTally}
-use Rattle.runs.proofs.Laws.{total-more, total-mono, copy-more}
+use Rattle.runs.proofs.Copies.{clip, copyRuns}
+use Rattle.runs.proofs.Laws.{total-more, total-mono, canon-copy, copy-more}
+use Rattle.runs.proofs.EditLaws.{copied-is}
+use Rattle.runs.proofs.TallyLaws.{tally-pushed}
 use Rattle.runs.proofs.count.count_part.Statement.{statement}
 use Rattle.runs.proofs.count.count_part.Tie as tie
 use Rattle.runs.proofs.count.count_part.Reads as reads
@@ -21,7 +26,7 @@ record Tallied (t : Tally) (lens sets : List ℕ) (m from to bits drop : ℕ) (u
   within : k ≤ m
   begun : start ≡ total (runs lens sets k)
   most : u .count ≤ t .count + k
-  done : (base : List Run) → t ≡ tallyOf base → u ≡ tallyOf (copyRuns (changing bits drop) base from to (runs lens sets k))
+  done : (base : List Run) → Canon base → t ≡ tallyOf base → u ≡ tallyOf (copyRuns (changing bits drop) base from to (runs lens sets k))
 
 module _ {t : Tally} {lens sets : List ℕ} {m from to bits drop : ℕ} {u : Tally} {k start : ℕ}
     (can : CanTally lens sets m) (inv : Tallied t lens sets m from to bits drop u k start) (in-turn : k < m) where
@@ -29,17 +34,28 @@ module _ {t : Tally} {lens sets : List ℕ} {m from to bits drop : ℕ} {u : Tal
   turn-end = omega (arith, total-more lens sets k, total-mono lens sets (k + 1) m (omega arith))
 
   turn : (v : Tally) → v .count ≤ u .count + 1
-      → ((rs : List Run) → u ≡ tallyOf rs → v ≡ tallyOf (pushRun rs (clip from to start (getD lens k 0)) (changing bits drop (getD sets k 0))))
+      → ((rs out : List Run) → Canon rs → u ≡ tallyOf rs
+      → Joined (total rs + clip from to start (getD lens k 0)) (followedAt (total rs) (setAt rs) (λ q. changing bits drop (getD sets k 0))) out → v ≡ tallyOf out)
       → Tallied t lens sets m from to bits drop v (k + 1) (start + getD lens k 0)
   turn v h g =
       record {
         within = omega arith;
         begun = omega (arith, total-more lens sets k);
         most = omega arith;
-        done = λ base e.
-            g (copyRuns (changing bits drop) base from to (runs lens sets k)) (inv .done base e)
+        done = λ base c e.
+            tally-pushed (copyRuns (changing bits drop) base from to (runs lens sets k)) (clip from to start (getD lens k 0)) (changing bits drop (getD sets k 0))
+            (canon-copy (changing bits drop) base from to (runs lens sets k) c) (inv .done base c e) g
             ∙ ap tallyOf (rw (inv .begun) (sym (copy-more lens sets (changing bits drop) base from to k)));
       }
+
+-- after the last turn the copy is whole
+whole : {t : Tally} {lens sets : List ℕ} {m from to bits drop : ℕ} {u : Tally} {k start : ℕ}
+    → Tallied t lens sets m from to bits drop u k start → k ≡ m → (rs out : List Run) → Canon rs → t ≡ tallyOf rs
+    → Joined (total rs + (min to (total (runs lens sets m)) - from)) (followedAt (total rs) (setAt rs) (λ q. changing bits drop (setAt (runs lens sets m) (from + q)))) out
+    → u ≡ tallyOf out
+whole {lens = lens} {sets} {m} {from} {to} {bits} {drop} inv e rs out c d j =
+    let copy : ℕ → List Run = λ i. copyRuns (changing bits drop) rs from to (runs lens sets i) in
+    inv .done rs c d ∙ ap tallyOf (ap copy e ∙ sym (copied-is (changing bits drop) rs from to (runs lens sets m) c j))
 
 abbrev Inv-loop : tie.InvT-loop
 Inv-loop lens sets m from to bits drop u₀ k₀ start₀ u k start = Tallied u₀ lens sets m from to bits drop u k start
@@ -49,7 +65,7 @@ abbrev μ-loop : tie.MeasureT-loop
 
 loop-holds : tie.Need-loop-holds Inv-loop μ-loop
 unfolding runs total copyRuns
-loop-holds c = record { within = omega arith; begun = refl; most = omega arith; done = λ base e. e }
+loop-holds c = record { within = omega arith; begun = refl; most = omega arith; done = λ base c e. e }
 
 add-end : tie.Need-add-end Inv-loop μ-loop
 add-end c =
@@ -78,9 +94,7 @@ loop-again c =
     (rw (← handed g .0, ← handed g .1) (c .more .ensures .1))
 
 returns : tie.Need-returns Inv-loop μ-loop
-returns c =
-    let e : c .before .loop .k ≡ c .before .before .before .before .args .m = omega arith in
-    rw (← e) (c .before .loop .inv .done)
+returns c = whole (c .before .loop .inv) (omega arith)
 
 pub count-part-spec : {M : Type 1} → statement M
 count-part-spec =

@@ -8,9 +8,10 @@ use native.Mathlib.Omega.{arith}
 use borrow.Author.Needs.{needs}
 use lib.Dec.{ltb}
 use lib.ListN.{getD}
-use Rattle.runs.specs.Runs.{runs, total, setAt, clip}
+use Rattle.runs.specs.Runs.{runs, total, setAt}
 use Rattle.runs.specs.Positions.{stretchTo}
 use Rattle.runs.specs.Scan.{meets, passes, CanScan}
+use Rattle.runs.proofs.Copies.{clip}
 use Rattle.runs.proofs.Laws.{total-more, total-mono}
 use Rattle.runs.proofs.ScanLaws.{back-missed, back-over}
 use Rattle.runs.proofs.scan.back.Statement.{statement}

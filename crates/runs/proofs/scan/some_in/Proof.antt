@@ -9,9 +9,10 @@ use borrow.Author.Needs.{needs}
 use borrow.Author.Tests.{ltb-true, lt-ltb}
 use lib.Dec.{ltb}
 use lib.ListN.{getD}
-use Rattle.runs.specs.Runs.{runs, total, setAt, clip}
+use Rattle.runs.specs.Runs.{runs, total, setAt}
 use Rattle.runs.specs.Positions.{anyAt}
 use Rattle.runs.specs.Scan.{passes, CanScan}
+use Rattle.runs.proofs.Copies.{clip}
 use Rattle.runs.proofs.Laws.{total-more, total-mono}
 use Rattle.runs.proofs.ScanLaws.{any-yes, any-no, at-run, and-true, and-false}
 use Rattle.runs.proofs.scan.some_in.Statement.{statement}

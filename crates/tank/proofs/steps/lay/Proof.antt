@@ -7,7 +7,7 @@ use Rattle.styles.proofs.BitLaws.{with-bit-fits}
 use Rattle.runs.proofs.BehindLaws.{spare-behind}
 use Rattle.tank.proofs.Shape.{all-spare}
 use Rattle.tank.proofs.AlterLaws.{alter-can}
-use Rattle.runs.specs.Runs.{adding}
+use Rattle.runs.proofs.Copies.{adding}
 use Rattle.tank.proofs.LayLaws.{lay-done}
 use Rattle.tank.proofs.steps.lay.Statement.{statement}
 use Rattle.tank.proofs.steps.lay.Tie as tie
