@@ -16,7 +16,7 @@ use Rattle.styles.specs.Bits.{keepBit, pick}
 use Rattle.styles.proofs.OrderLaws.{same-self}
 use Rattle.styles.proofs.PickLaws.{pick-cons, above-pick, not-member, only-skip}
 use Rattle.styles.proofs.UnionLaws.{pick-none}
-use Rattle.runs.specs.Runs.{Run, runs, total, setAt, Other, Canon, Spare}
+use Rattle.runs.specs.Runs.{Run, runs, total, setAt, Other, Canon, Spare, lackingBits}
 use Rattle.runs.proofs.Laws.{at-past, total-more, total-mono}
 use Rattle.runs.proofs.ScanLaws.{at-run}
 use Rattle.tank.specs.declared.Tank.{Tank}
@@ -25,7 +25,7 @@ use Rattle.richtext.specs.declared.AnchorType.the-variants.{Start, End}
 use Rattle.tank.specs.Rules.{View}
 use Rattle.tank.specs.State.{runsOf, tableOf, viewOf, view, Laid}
 use Rattle.tank.proofs.Counted.{at-inside}
-use Rattle.lists.specs.Anchors.{lacking, marksBefore, marksBehind, anchorsOf, boundary, boundaries, lackingBits}
+use Rattle.lists.specs.Anchors.{lacking, marksBefore, marksBehind, anchorsOf, boundary, boundaries}
 
 -- ---- the marks that another set lacks, by bits
 lacking-keep : (b c d : ℕ) (m : Mark) (xs ys : List Mark) → b < 2 → c < 2 → d ≡ b - min b c → Above (idOf m) xs → Above (idOf m) ys

@@ -14,7 +14,7 @@ use Rattle.styles.specs.Bits.{pick, withoutBit}
 use Rattle.styles.proofs.BitLaws.{half-less}
 use Rattle.styles.proofs.CountLaws.{pick-length, pick-first, lowest-less, without-le}
 use Rattle.styles.proofs.UnionLaws.{pick-none}
-use Rattle.runs.specs.Runs.{runs, total}
+use Rattle.runs.specs.Runs.{runs, total, lackingBits}
 use Rattle.tank.specs.declared.Tank.{Tank}
 use Rattle.lists.specs.declared.anchors.Anchor.{Anchor}
 use Rattle.lists.specs.declared.anchors.AnchorCursor.{AnchorCursor}
@@ -22,7 +22,7 @@ use Rattle.richtext.specs.declared.AnchorType.{AnchorType}
 use Rattle.richtext.specs.declared.AnchorType.the-variants.{Start, End}
 use Rattle.lists.specs.declared.anchors.NextAnchor.the-variants.{NoMore, Found}
 use Rattle.tank.specs.State.{tableOf, view, Laid}
-use Rattle.lists.specs.Anchors.{anchorOf, anchorsOf, boundaries, anchors, lackingBits, leftAt, laterThan, rest, Stands, Steps, Follows, Settles}
+use Rattle.lists.specs.Anchors.{anchorOf, anchorsOf, boundaries, anchors, leftAt, laterThan, rest, Stands, Steps, Follows, Settles}
 use Rattle.tank.proofs.Unique.{table-length}
 use Rattle.lists.proofs.AnchorLaws.{set-in, run-some, next-at, run-fits, to-next, differs, at-first}
 

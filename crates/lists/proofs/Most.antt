@@ -16,7 +16,8 @@ use Rattle.tank.proofs.Unique.{table-length}
 use Rattle.lists.specs.declared.anchors.AnchorCursor.{AnchorCursor}
 use Rattle.richtext.specs.declared.AnchorType.the-variants.{Start, End}
 use Rattle.lists.specs.Lists.{listOver}
-use Rattle.lists.specs.Anchors.{anchors, anchorsOf, lackingBits, leftAt, laterThan, rest, Stands, Follows}
+use Rattle.lists.specs.Anchors.{anchors, anchorsOf, leftAt, laterThan, rest, Stands, Follows}
+use Rattle.runs.specs.Runs.{lackingBits}
 use Rattle.lists.proofs.ListLaws.{list-is}
 use Rattle.lists.proofs.AnchorLaws.{lack-step}
 use Rattle.lists.proofs.CursorLaws.{first-is, follows, none-later, length-anchors}

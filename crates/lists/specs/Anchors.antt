@@ -3,7 +3,6 @@ use Prim.Native.Nat.{ℕ, zero, suc, _+_, _-_, _≤_, _<_, _^_}
 use mathlib.Core.Path.{_≡_}
 use mathlib.Core.Bool.{cond, not}
 use mathlib.Core.List.{List, [], _∷_, _++_, map}
-use lib.Bits.{bitAnd}
 use lib.Dec.{ltb}
 use lib.ListN.{length}
 use Rattle.styles.specs.declared.Mark.{Mark}
@@ -75,10 +74,6 @@ anchorsNumber = anchorsAfter 0
 -- what a look past the last anchor shows
 abbrev pub noAnchor : Anchor
 noAnchor = record { at = 0; side = Start; key = 0; lamport = 0; peer = 0 }
-
--- the bits of one set that another lacks
-abbrev pub lackingBits : ℕ → ℕ → ℕ
-lackingBits s u = s - bitAnd s u
 
 -- what a cursor has left of the boundary that it stands at
 unfoldable pub leftAt : Tank → AnchorCursor → List Anchor

@@ -45,9 +45,13 @@ Canon [] = Unit {0}
 Canon (r ∷ rs) = (0 < r .len) × Other (r .set) rs × Canon rs
 
 -- ---- A change of sets
+-- the bits of one set that another lacks
+abbrev pub lackingBits : ℕ → ℕ → ℕ
+lackingBits s u = s - bitAnd s u
+
 -- a set with the bits of `bits` in it, and without those of `gone`
 unfoldable pub changing : ℕ → ℕ → ℕ → ℕ
-changing bits gone s = bitOr s bits - bitAnd (bitOr s bits) gone
+changing bits gone s = lackingBits (bitOr s bits) gone
 
 -- ---- Where a position is found
 -- the sum of the first k lengths: where run k starts

@@ -47,7 +47,7 @@ fn more(t: Tally, len: u64, set: u64) -> Tally
     }
 }
 
-// The positions from .. to of the first `m` runs more, each with `bits` added to its set and `drop` taken away.
+// The positions from .. to of the first `m` runs more, each with `bits` added to its set and `gone` taken away.
 fn count_part(
     t: Tally,
     lens: &[u64],
@@ -56,11 +56,11 @@ fn count_part(
     from: u64,
     to: u64,
     bits: u64,
-    drop: u64,
+    gone: u64,
 ) -> Tally
     requires { ⌜ CanTally (now lens) (now sets) m ⌝ }
     requires { ⌜ t .count + m < 2 ^ 64 ⌝ }
-    ensures { λ r. ⌜ ((rs out : List Run) → Canon rs → t ≡ tallyOf rs → Joined (total rs + (min to (total (runs (now (lens .entry)) (now (sets .entry)) m)) - from)) (followedAt (total rs) (setAt rs) (λ q. changing bits drop (setAt (runs (now (lens .entry)) (now (sets .entry)) m) (from + q)))) out → r ≡ tallyOf out) ⌝ }
+    ensures { λ r. ⌜ ((rs out : List Run) → Canon rs → t ≡ tallyOf rs → Joined (total rs + (min to (total (runs (now (lens .entry)) (now (sets .entry)) m)) - from)) (followedAt (total rs) (setAt rs) (λ q. changing bits gone (setAt (runs (now (lens .entry)) (now (sets .entry)) m) (from + q)))) out → r ≡ tallyOf out) ⌝ }
 {
     let mut u = t;
     let mut k = 0;
@@ -68,14 +68,14 @@ fn count_part(
     while k < m {
         let end = start + lens[k];
         let len = clip(from, to, start, end);
-        u = more(u, len, change(sets[k], bits, drop));
+        u = more(u, len, change(sets[k], bits, gone));
         start = end;
         k += 1;
     }
     u
 }
 
-// How many runs a copy of the positions from .. to would have, each with `bits` added to its set and `drop` taken away.
+// How many runs a copy of the positions from .. to would have, each with `bits` added to its set and `gone` taken away.
 pub fn count_copy(
     lens: &[u64],
     sets: &[u64],
@@ -83,12 +83,12 @@ pub fn count_copy(
     from: u64,
     to: u64,
     bits: u64,
-    drop: u64,
+    gone: u64,
 ) -> usize
     requires { ⌜ CanTally (now lens) (now sets) m ⌝ }
-    ensures { λ r. ⌜ ((out : List Run) → Joined (min to (total (runs (now (lens .entry)) (now (sets .entry)) m)) - from) (λ p. changing bits drop (setAt (runs (now (lens .entry)) (now (sets .entry)) m) (from + p))) out → r ≡ length out) ⌝ }
+    ensures { λ r. ⌜ ((out : List Run) → Joined (min to (total (runs (now (lens .entry)) (now (sets .entry)) m)) - from) (λ p. changing bits gone (setAt (runs (now (lens .entry)) (now (sets .entry)) m) (from + p))) out → r ≡ length out) ⌝ }
 {
-    let t = count_part(nothing(), lens, sets, m, from, to, bits, drop);
+    let t = count_part(nothing(), lens, sets, m, from, to, bits, gone);
     t.count
 }
 
@@ -101,14 +101,14 @@ pub fn count_alter(
     a: u64,
     b: u64,
     bits: u64,
-    drop: u64,
+    gone: u64,
 ) -> usize
     requires { ⌜ CanTally (now lens) (now sets) m ⌝ }
     requires { ⌜ (all ≡ total (runs (now lens) (now sets) m)) × (a ≤ b) × (b ≤ all) ⌝ }
-    ensures { λ r. ⌜ ((out : List Run) → Joined all (alteredAt a b (changing bits drop) (setAt (runs (now (lens .entry)) (now (sets .entry)) m))) out → r ≡ length out) ⌝ }
+    ensures { λ r. ⌜ ((out : List Run) → Joined all (alteredAt a b (changing bits gone) (setAt (runs (now (lens .entry)) (now (sets .entry)) m))) out → r ≡ length out) ⌝ }
 {
     let t = count_part(nothing(), lens, sets, m, 0, a, 0, 0);
-    let u = count_part(t, lens, sets, m, a, b, bits, drop);
+    let u = count_part(t, lens, sets, m, a, b, bits, gone);
     let v = count_part(u, lens, sets, m, b, all, 0, 0);
     v.count
 }

@@ -55,15 +55,15 @@ fn clip(from: u64, to: u64, start: u64, end: u64) -> u64
     if lo < hi { hi - lo } else { 0 }
 }
 
-// The set `set` with `bits`, and without `drop`.
-fn change(set: u64, bits: u64, drop: u64) -> u64
-    ensures { λ r. ⌜ r ≡ changing bits drop set ⌝ }
+// The set `set` with `bits`, and without `gone`.
+fn change(set: u64, bits: u64, gone: u64) -> u64
+    ensures { λ r. ⌜ r ≡ changing bits gone set ⌝ }
 {
     let more = set | bits;
-    more - (more & drop)
+    more - (more & gone)
 }
 
-// Onto the runs of the first `n` entries, the positions from .. to of the source's first `m` runs, each with `bits` added to its set and `drop` taken away.
+// Onto the runs of the first `n` entries, the positions from .. to of the source's first `m` runs, each with `bits` added to its set and `gone` taken away.
 // Returns how many runs there are then.
 pub fn copy(
     olens: &mut [u64],
@@ -75,10 +75,10 @@ pub fn copy(
     from: u64,
     to: u64,
     bits: u64,
-    drop: u64,
+    gone: u64,
 ) -> usize
-    requires { ⌜ CanCopy (changing bits drop) (now olens) (now osets) n (now lens) (now sets) m from to ⌝ }
-    ensures { λ r. ⌜ Joined (total (runs (now (olens .entry)) (now (osets .entry)) n) + (min to (total (runs (now (lens .entry)) (now (sets .entry)) m)) - from)) (followedAt (total (runs (now (olens .entry)) (now (osets .entry)) n)) (setAt (runs (now (olens .entry)) (now (osets .entry)) n)) (λ q. changing bits drop (setAt (runs (now (lens .entry)) (now (sets .entry)) m) (from + q)))) (runs (now (olens .exit)) (now (osets .exit)) r) ⌝ }
+    requires { ⌜ CanCopy (changing bits gone) (now olens) (now osets) n (now lens) (now sets) m from to ⌝ }
+    ensures { λ r. ⌜ Joined (total (runs (now (olens .entry)) (now (osets .entry)) n) + (min to (total (runs (now (lens .entry)) (now (sets .entry)) m)) - from)) (followedAt (total (runs (now (olens .entry)) (now (osets .entry)) n)) (setAt (runs (now (olens .entry)) (now (osets .entry)) n)) (λ q. changing bits gone (setAt (runs (now (lens .entry)) (now (sets .entry)) m) (from + q)))) (runs (now (olens .exit)) (now (osets .exit)) r) ⌝ }
     ensures { λ r. ⌜ SameBehind r (now (olens .entry)) (now (osets .entry)) (now (olens .exit)) (now (osets .exit)) ⌝ }
 {
     let mut k = 0;
@@ -87,7 +87,7 @@ pub fn copy(
     while k < m {
         let end = start + lens[k];
         let len = clip(from, to, start, end);
-        at = push(olens, osets, at, len, change(sets[k], bits, drop));
+        at = push(olens, osets, at, len, change(sets[k], bits, gone));
         start = end;
         k += 1;
     }
@@ -125,7 +125,7 @@ pub fn find(lens: &[u64], n: usize, pos: u64) -> Place
     }
 }
 
-// Adds `bits` to the sets of the positions a .. b, and takes `drop` away from them.
+// Adds `bits` to the sets of the positions a .. b, and takes `gone` away from them.
 pub fn alter(
     olens: &mut [u64],
     osets: &mut [u64],
@@ -136,14 +136,14 @@ pub fn alter(
     a: u64,
     b: u64,
     bits: u64,
-    drop: u64,
+    gone: u64,
 ) -> usize
-    requires { ⌜ (a ≤ b) × (b ≤ all) × CanEdit all (alteredAt a b (changing bits drop) (setAt (runs (now lens) (now sets) m))) (now olens) (now osets) (now lens) (now sets) m all ⌝ }
-    ensures { λ r. ⌜ Joined all (alteredAt a b (changing bits drop) (setAt (runs (now (lens .entry)) (now (sets .entry)) m))) (runs (now (olens .exit)) (now (osets .exit)) r) ⌝ }
+    requires { ⌜ (a ≤ b) × (b ≤ all) × CanEdit all (alteredAt a b (changing bits gone) (setAt (runs (now lens) (now sets) m))) (now olens) (now osets) (now lens) (now sets) m all ⌝ }
+    ensures { λ r. ⌜ Joined all (alteredAt a b (changing bits gone) (setAt (runs (now (lens .entry)) (now (sets .entry)) m))) (runs (now (olens .exit)) (now (osets .exit)) r) ⌝ }
     ensures { λ r. ⌜ SameBehind r (now (olens .entry)) (now (osets .entry)) (now (olens .exit)) (now (osets .exit)) ⌝ }
 {
     let n = copy(olens, osets, 0, lens, sets, m, 0, a, 0, 0);
-    let k = copy(olens, osets, n, lens, sets, m, a, b, bits, drop);
+    let k = copy(olens, osets, n, lens, sets, m, a, b, bits, gone);
     copy(olens, osets, k, lens, sets, m, b, all, 0, 0)
 }
 

@@ -16,8 +16,8 @@ copy-requires : tie.Need-copy-requires
 unfolding runs altered Canon
 copy-requires c κs =
     let s = c .before .before .before .before .before .before in
-    can-copy (room-of (s .pre .2) (altered-joined _ _ (s .pre .2 .all-is) (s .args .a) (s .args .b) (changing (s .args .bits) (s .args .drop)) (s .pre .0) (s .pre .1))) (s .args .olens .now) (s .args .osets .now) 0 refl refl tt [] refl (adding 0) 0 (s .args .a)
-    (inside-copy (changing (s .args .bits) (s .args .drop)) (s .args .a) (s .args .b) _ (inside-copy (adding 0) (s .args .b) _ _ (inside-self _)))
+    can-copy (room-of (s .pre .2) (altered-joined _ _ (s .pre .2 .all-is) (s .args .a) (s .args .b) (changing (s .args .bits) (s .args .gone)) (s .pre .0) (s .pre .1))) (s .args .olens .now) (s .args .osets .now) 0 refl refl tt [] refl (adding 0) 0 (s .args .a)
+    (inside-copy (changing (s .args .bits) (s .args .gone)) (s .args .a) (s .args .b) _ (inside-copy (adding 0) (s .args .b) _ _ (inside-self _)))
 
 -- after the first copy, and after the second
 first : (c : tie.After-copy) → let s = c .before .before .before .before .before .before .before in
@@ -27,7 +27,7 @@ first c = copied-is (adding 0) [] _ _ _ tt (c .copy .ensures .0)
 
 second : (c : tie.After-copy2) → let s = c .before .before .before .before .before .before .before .before .before .before .before .before .before .before in
     let rs = runs (s .args .lens .now) (s .args .sets .now) (s .args .m) in
-    runs (c .copy2 .last .0) (c .copy2 .last .1 .0) (c .copy2 .result) ≡ copyRuns (changing (s .args .bits) (s .args .drop)) (part [] 0 (s .args .a) rs) (s .args .a) (s .args .b) rs
+    runs (c .copy2 .last .0) (c .copy2 .last .1 .0) (c .copy2 .result) ≡ copyRuns (changing (s .args .bits) (s .args .gone)) (part [] 0 (s .args .a) rs) (s .args .a) (s .args .b) rs
 second c =
     let x = c .before .before .before .before .before .before .before in
     rw (first x) at (copied-is (changing _ _) _ _ _ _ (x .copy .ensures .0 .canon) (c .copy2 .ensures .0))
@@ -37,8 +37,8 @@ unfolding altered
 copy-requires-2 c κs =
     let x = c .before .before .before .before .before .before in
     let s = x .before .before .before .before .before .before .before in
-    can-copy (room-of (s .pre .2) (altered-joined _ _ (s .pre .2 .all-is) (s .args .a) (s .args .b) (changing (s .args .bits) (s .args .drop)) (s .pre .0) (s .pre .1))) (x .copy .last .0) (x .copy .last .1 .0) (x .copy .result) (x .copy .kept .0) (x .copy .kept .1 .0) (x .copy .ensures .0 .canon) _ (first x)
-    (changing (s .args .bits) (s .args .drop)) (s .args .a) (s .args .b) (inside-copy (adding 0) (s .args .b) _ _ (inside-self _))
+    can-copy (room-of (s .pre .2) (altered-joined _ _ (s .pre .2 .all-is) (s .args .a) (s .args .b) (changing (s .args .bits) (s .args .gone)) (s .pre .0) (s .pre .1))) (x .copy .last .0) (x .copy .last .1 .0) (x .copy .result) (x .copy .kept .0) (x .copy .kept .1 .0) (x .copy .ensures .0 .canon) _ (first x)
+    (changing (s .args .bits) (s .args .gone)) (s .args .a) (s .args .b) (inside-copy (adding 0) (s .args .b) _ _ (inside-self _))
 
 copy-requires-3 : tie.Need-copy-requires-3
 unfolding altered
@@ -46,7 +46,7 @@ copy-requires-3 c κs =
     let y = c .before .before .before .before .before .before in
     let x = y .before .before .before .before .before .before .before in
     let s = x .before .before .before .before .before .before .before in
-    can-copy (room-of (s .pre .2) (altered-joined _ _ (s .pre .2 .all-is) (s .args .a) (s .args .b) (changing (s .args .bits) (s .args .drop)) (s .pre .0) (s .pre .1))) (y .copy2 .last .0) (y .copy2 .last .1 .0) (y .copy2 .result) (y .copy2 .kept .0 ∙ x .copy .kept .0) (y .copy2 .kept .1 .0 ∙ x .copy .kept .1 .0)
+    can-copy (room-of (s .pre .2) (altered-joined _ _ (s .pre .2 .all-is) (s .args .a) (s .args .b) (changing (s .args .bits) (s .args .gone)) (s .pre .0) (s .pre .1))) (y .copy2 .last .0) (y .copy2 .last .1 .0) (y .copy2 .result) (y .copy2 .kept .0 ∙ x .copy .kept .0) (y .copy2 .kept .1 .0 ∙ x .copy .kept .1 .0)
     (y .copy2 .ensures .0 .canon) _ (second y) (adding 0) (s .args .b) (s .args .all) (rw (s .pre .2 .all-is) (inside-self _))
 
 same-length : tie.Need-same-length
@@ -62,9 +62,9 @@ returns c =
     let y = z .before .before .before .before .before .before .before in
     let s = y .before .before .before .before .before .before .before .before .before .before .before .before .before .before in
     let x = y .before .before .before .before .before .before .before in
-    let k = count-copy (changing (s .args .bits) (s .args .drop)) _ _ _ _ _ _ _ _ _ (x .copy .ensures .0 .canon) (y .copy2 .ensures .0) in
+    let k = count-copy (changing (s .args .bits) (s .args .gone)) _ _ _ _ _ _ _ _ _ (x .copy .ensures .0 .canon) (y .copy2 .ensures .0) in
     let l = count-copy (adding 0) _ _ _ _ _ _ _ _ _ (y .copy2 .ensures .0 .canon) (z .copy3 .ensures .0) in (
-      joined-is (altered-joined _ _ (s .pre .2 .all-is) (s .args .a) (s .args .b) (changing (s .args .bits) (s .args .drop)) (s .pre .0) (s .pre .1)) (rw (second y, s .pre .2 .all-is) at (copied-is (adding 0) _ _ _ _ (y .copy2 .ensures .0 .canon) (z .copy3 .ensures .0))),
+      joined-is (altered-joined _ _ (s .pre .2 .all-is) (s .args .a) (s .args .b) (changing (s .args .bits) (s .args .gone)) (s .pre .0) (s .pre .1)) (rw (second y, s .pre .2 .all-is) at (copied-is (adding 0) _ _ _ _ (y .copy2 .ensures .0 .canon) (z .copy3 .ensures .0))),
       behind-on _ _ l (behind-on _ _ k (x .copy .ensures .1) (y .copy2 .ensures .1)) (z .copy3 .ensures .1),
     )
 

@@ -15,42 +15,42 @@ use Rattle.runs.proofs.BehindLaws.{behind-none, count-push, behind-on}
 use Rattle.runs.proofs.copy.Statement.{statement}
 use Rattle.runs.proofs.copy.Tie as tie
 
-record Copied (olens₀ osets₀ : List ℕ) (n : ℕ) (lens sets : List ℕ) (m from to bits drop : ℕ) (olens osets : List ℕ) (k start at : ℕ) : Type 0 where
+record Copied (olens₀ osets₀ : List ℕ) (n : ℕ) (lens sets : List ℕ) (m from to bits gone : ℕ) (olens osets : List ℕ) (k start at : ℕ) : Type 0 where
   within : k ≤ m
   begun : start ≡ total (runs lens sets k)
-  done : runs olens osets at ≡ copyRuns (changing bits drop) (runs olens₀ osets₀ n) from to (runs lens sets k)
+  done : runs olens osets at ≡ copyRuns (changing bits gone) (runs olens₀ osets₀ n) from to (runs lens sets k)
   kept : length olens ≡ length olens₀
   kept′ : length osets ≡ length osets₀
   behind : SameBehind at olens₀ osets₀ olens osets
 
 -- a turn: what the calls ask, and the invariant after it
-module _ {olens₀ osets₀ : List ℕ} {n : ℕ} {lens sets : List ℕ} {m from to bits drop : ℕ} {olens osets : List ℕ} {k start at : ℕ}
-    (can : CanCopy (changing bits drop) olens₀ osets₀ n lens sets m from to) (inv : Copied olens₀ osets₀ n lens sets m from to bits drop olens osets k start at) (in-turn : k < m) where
+module _ {olens₀ osets₀ : List ℕ} {n : ℕ} {lens sets : List ℕ} {m from to bits gone : ℕ} {olens osets : List ℕ} {k start at : ℕ}
+    (can : CanCopy (changing bits gone) olens₀ osets₀ n lens sets m from to) (inv : Copied olens₀ osets₀ n lens sets m from to bits gone olens osets k start at) (in-turn : k < m) where
   turn-end : start + getD lens k 0 < 2 ^ 63
   turn-end = omega (arith, total-more lens sets k, total-mono lens sets (k + 1) m (omega arith))
 
   turn-canon : Canon (runs olens osets at)
-  turn-canon = rw (inv .done) (canon-copy (changing bits drop) (runs olens₀ osets₀ n) from to (runs lens sets k) (can .joined))
+  turn-canon = rw (inv .done) (canon-copy (changing bits gone) (runs olens₀ osets₀ n) from to (runs lens sets k) (can .joined))
 
   -- the push that the turn makes gives the copy of one run more
-  turn-push : pushRun (runs olens osets at) (clip from to start (getD lens k 0)) (changing bits drop (getD sets k 0))
-      ≡ copyRuns (changing bits drop) (runs olens₀ osets₀ n) from to (runs lens sets (k + 1))
-  turn-push = rw (inv .done, inv .begun) (sym (copy-more lens sets (changing bits drop) (runs olens₀ osets₀ n) from to k))
+  turn-push : pushRun (runs olens osets at) (clip from to start (getD lens k 0)) (changing bits gone (getD sets k 0))
+      ≡ copyRuns (changing bits gone) (runs olens₀ osets₀ n) from to (runs lens sets (k + 1))
+  turn-push = rw (inv .done, inv .begun) (sym (copy-more lens sets (changing bits gone) (runs olens₀ osets₀ n) from to k))
 
-  turn-can : CanPush olens osets at (clip from to start (getD lens k 0)) (changing bits drop (getD sets k 0))
+  turn-can : CanPush olens osets at (clip from to start (getD lens k 0)) (changing bits gone (getD sets k 0))
   turn-can =
-      let made = copied-joined (changing bits drop) (runs olens₀ osets₀ n) from to (runs lens sets m) (can .joined) in
-      push-can (clip from to start (getD lens k 0)) (changing bits drop (getD sets k 0)) (omega arith) turn-canon
-      (rw turn-push (omega (arith, can .room _ made, copy-grows lens sets (changing bits drop) (runs olens₀ osets₀ n) from to (k + 1) m (omega arith))))
-      (rw turn-push (omega (arith, made .all, copy-holds lens sets (changing bits drop) (runs olens₀ osets₀ n) from to (k + 1) m (omega arith))))
+      let made = copied-joined (changing bits gone) (runs olens₀ osets₀ n) from to (runs lens sets m) (can .joined) in
+      push-can (clip from to start (getD lens k 0)) (changing bits gone (getD sets k 0)) (omega arith) turn-canon
+      (rw turn-push (omega (arith, can .room _ made, copy-grows lens sets (changing bits gone) (runs olens₀ osets₀ n) from to (k + 1) m (omega arith))))
+      (rw turn-push (omega (arith, made .all, copy-holds lens sets (changing bits gone) (runs olens₀ osets₀ n) from to (k + 1) m (omega arith))))
 
   turn : (olens′ osets′ : List ℕ) (at′ : ℕ)
       → Joined (total (runs olens osets at) + clip from to start (getD lens k 0))
-      (followedAt (total (runs olens osets at)) (setAt (runs olens osets at)) (λ q. changing bits drop (getD sets k 0))) (runs olens′ osets′ at′)
+      (followedAt (total (runs olens osets at)) (setAt (runs olens osets at)) (λ q. changing bits gone (getD sets k 0))) (runs olens′ osets′ at′)
       → length olens′ ≡ length olens → length osets′ ≡ length osets → SameBehind at′ olens osets olens′ osets′
-      → Copied olens₀ osets₀ n lens sets m from to bits drop olens′ osets′ (k + 1) (start + getD lens k 0) at′
+      → Copied olens₀ osets₀ n lens sets m from to bits gone olens′ osets′ (k + 1) (start + getD lens k 0) at′
   turn olens′ osets′ at′ j l l′ b =
-      let e = pushed-is (runs olens osets at) (clip from to start (getD lens k 0)) (changing bits drop (getD sets k 0)) turn-canon j in
+      let e = pushed-is (runs olens osets at) (clip from to start (getD lens k 0)) (changing bits gone (getD sets k 0)) turn-canon j in
       record {
         within = omega arith;
         begun = omega (arith, total-more lens sets k);
@@ -61,20 +61,20 @@ module _ {olens₀ osets₀ : List ℕ} {n : ℕ} {lens sets : List ℕ} {m from
       }
 
 -- after the last turn the copy is whole
-whole : {olens₀ osets₀ : List ℕ} {n : ℕ} {lens sets : List ℕ} {m from to bits drop : ℕ} {olens osets : List ℕ} {k start at : ℕ}
-    → CanCopy (changing bits drop) olens₀ osets₀ n lens sets m from to → Copied olens₀ osets₀ n lens sets m from to bits drop olens osets k start at → k ≡ m
+whole : {olens₀ osets₀ : List ℕ} {n : ℕ} {lens sets : List ℕ} {m from to bits gone : ℕ} {olens osets : List ℕ} {k start at : ℕ}
+    → CanCopy (changing bits gone) olens₀ osets₀ n lens sets m from to → Copied olens₀ osets₀ n lens sets m from to bits gone olens osets k start at → k ≡ m
     → Joined (total (runs olens₀ osets₀ n) + (min to (total (runs lens sets m)) - from))
-    (followedAt (total (runs olens₀ osets₀ n)) (setAt (runs olens₀ osets₀ n)) (λ q. changing bits drop (setAt (runs lens sets m) (from + q)))) (runs olens osets at)
-whole {olens₀} {osets₀} {n} {lens} {sets} {m} {from} {to} {bits} {drop} can inv e =
-    let copy : ℕ → List Run = λ i. copyRuns (changing bits drop) (runs olens₀ osets₀ n) from to (runs lens sets i) in
-    joined-is (copied-joined (changing bits drop) (runs olens₀ osets₀ n) from to (runs lens sets m) (can .joined)) (inv .done ∙ ap copy e)
+    (followedAt (total (runs olens₀ osets₀ n)) (setAt (runs olens₀ osets₀ n)) (λ q. changing bits gone (setAt (runs lens sets m) (from + q)))) (runs olens osets at)
+whole {olens₀} {osets₀} {n} {lens} {sets} {m} {from} {to} {bits} {gone} can inv e =
+    let copy : ℕ → List Run = λ i. copyRuns (changing bits gone) (runs olens₀ osets₀ n) from to (runs lens sets i) in
+    joined-is (copied-joined (changing bits gone) (runs olens₀ osets₀ n) from to (runs lens sets m) (can .joined)) (inv .done ∙ ap copy e)
 
 abbrev Inv-loop : tie.InvT-loop
-Inv-loop olens₀ osets₀ n lens sets m from to bits drop k₀ start₀ at₀ olens osets k start at =
-    Copied olens₀ osets₀ n lens sets m from to bits drop olens osets k start at
+Inv-loop olens₀ osets₀ n lens sets m from to bits gone k₀ start₀ at₀ olens osets k start at =
+    Copied olens₀ osets₀ n lens sets m from to bits gone olens osets k start at
 
 abbrev μ-loop : tie.MeasureT-loop
-μ-loop olens₀ osets₀ n lens sets m from to bits drop k₀ start₀ at₀ olens osets k start at = m - k
+μ-loop olens₀ osets₀ n lens sets m from to bits gone k₀ start₀ at₀ olens osets k start at = m - k
 
 loop-holds : tie.Need-loop-holds Inv-loop μ-loop
 unfolding runs total copyRuns
@@ -88,7 +88,7 @@ handed : (c : tie.After-change Inv-loop μ-loop) → let i = c .before .before .
     let l = i .before .loop in
     let a = i .before .before .before .before .before .before .args in
     (c .before .before .before .before .clip .result ≡ clip (a .from) (a .to) (l .start) (getD (a .lens .now) (l .k) 0))
-    × (c .change .result ≡ changing (a .bits) (a .drop) (getD (a .sets .now) (l .k) 0))
+    × (c .change .result ≡ changing (a .bits) (a .gone) (getD (a .sets .now) (l .k) 0))
 handed c = (c .before .before .before .before .clip .ensures, c .change .ensures)
 
 push-requires : tie.Need-push-requires Inv-loop μ-loop

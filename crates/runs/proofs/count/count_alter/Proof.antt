@@ -25,7 +25,7 @@ first c = tally-copied (adding 0) [] _ _ _ tt (c .before .nothing .ensures) (c .
 -- after the second
 second : (c : tie.After-count-part2) → let s = c .before .before .before .before .before in
     let rs = runs (s .args .lens .now) (s .args .sets .now) (s .args .m) in
-    c .count-part2 .result ≡ tallyOf (copyRuns (changing (s .args .bits) (s .args .drop)) (part [] 0 (s .args .a) rs) (s .args .a) (s .args .b) rs)
+    c .count-part2 .result ≡ tallyOf (copyRuns (changing (s .args .bits) (s .args .gone)) (part [] 0 (s .args .a) rs) (s .args .a) (s .args .b) rs)
 unfolding Canon
 second c = tally-copied (changing _ _) _ _ _ _ (canon-copy (adding 0) [] _ _ _ tt) (first (c .before)) (c .count-part2 .ensures)
 
@@ -42,7 +42,7 @@ count-part-requires-3 c κs =
       omega (
         arith,
         count-is _ _ (second c),
-        copied-most (changing (s .args .bits) (s .args .drop)) (part [] 0 (s .args .a) rs) (s .args .a) (s .args .b) (s .args .lens .now) (s .args .sets .now) (s .args .m),
+        copied-most (changing (s .args .bits) (s .args .gone)) (part [] 0 (s .args .a) rs) (s .args .a) (s .args .b) (s .args .lens .now) (s .args .sets .now) (s .args .m),
         copied-most (adding 0) [] 0 (s .args .a) (s .args .lens .now) (s .args .sets .now) (s .args .m),
       ),
     )
@@ -53,7 +53,7 @@ returns c =
     let s = c .before .before .before .before .before .before in
     λ out j.
     (rw (← s .pre .1 .0) (count-is _ _ (tally-copied (adding 0) _ _ _ _ (canon-copy (changing _ _) _ _ _ _ (canon-copy (adding 0) [] _ _ _ tt)) (second (c .before)) (c .count-part3 .ensures))))
-    ∙ ap length (one-joined (altered-joined (runs (s .args .lens .now) (s .args .sets .now) (s .args .m)) (s .args .all) (s .pre .1 .0) (s .args .a) (s .args .b) (changing (s .args .bits) (s .args .drop)) (s .pre .1 .1) (s .pre .1 .2)) j)
+    ∙ ap length (one-joined (altered-joined (runs (s .args .lens .now) (s .args .sets .now) (s .args .m)) (s .args .all) (s .pre .1 .0) (s .args .a) (s .args .b) (changing (s .args .bits) (s .args .gone)) (s .pre .1 .1) (s .pre .1 .2)) j)
 
 pub count-alter-spec : {M : Type 1} → statement M
 count-alter-spec =

@@ -17,7 +17,7 @@ returns : tie.Need-returns
 unfolding Canon
 returns c =
     let a = c .before .before .before .before .args in
-    let f = changing (a .bits) (a .drop) in
+    let f = changing (a .bits) (a .gone) in
     let rs = runs (a .lens .now) (a .sets .now) (a .m) in
     λ out j.
     count-is _ _ (tally-copied f [] (a .from) (a .to) rs tt (c .before .nothing .ensures) (c .count-part .ensures))

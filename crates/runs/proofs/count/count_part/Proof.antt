@@ -22,46 +22,46 @@ use Rattle.runs.proofs.change.Reads as change-reads
 use Rattle.runs.proofs.clip.Reads as clip-reads
 use Rattle.runs.proofs.count.more.Reads as more-reads
 
-record Tallied (t : Tally) (lens sets : List ℕ) (m from to bits drop : ℕ) (u : Tally) (k start : ℕ) : Type 0 where
+record Tallied (t : Tally) (lens sets : List ℕ) (m from to bits gone : ℕ) (u : Tally) (k start : ℕ) : Type 0 where
   within : k ≤ m
   begun : start ≡ total (runs lens sets k)
   most : u .count ≤ t .count + k
-  done : (base : List Run) → Canon base → t ≡ tallyOf base → u ≡ tallyOf (copyRuns (changing bits drop) base from to (runs lens sets k))
+  done : (base : List Run) → Canon base → t ≡ tallyOf base → u ≡ tallyOf (copyRuns (changing bits gone) base from to (runs lens sets k))
 
-module _ {t : Tally} {lens sets : List ℕ} {m from to bits drop : ℕ} {u : Tally} {k start : ℕ}
-    (can : CanTally lens sets m) (inv : Tallied t lens sets m from to bits drop u k start) (in-turn : k < m) where
+module _ {t : Tally} {lens sets : List ℕ} {m from to bits gone : ℕ} {u : Tally} {k start : ℕ}
+    (can : CanTally lens sets m) (inv : Tallied t lens sets m from to bits gone u k start) (in-turn : k < m) where
   turn-end : start + getD lens k 0 < 2 ^ 63
   turn-end = omega (arith, total-more lens sets k, total-mono lens sets (k + 1) m (omega arith))
 
   turn : (v : Tally) → v .count ≤ u .count + 1
       → ((rs out : List Run) → Canon rs → u ≡ tallyOf rs
-      → Joined (total rs + clip from to start (getD lens k 0)) (followedAt (total rs) (setAt rs) (λ q. changing bits drop (getD sets k 0))) out → v ≡ tallyOf out)
-      → Tallied t lens sets m from to bits drop v (k + 1) (start + getD lens k 0)
+      → Joined (total rs + clip from to start (getD lens k 0)) (followedAt (total rs) (setAt rs) (λ q. changing bits gone (getD sets k 0))) out → v ≡ tallyOf out)
+      → Tallied t lens sets m from to bits gone v (k + 1) (start + getD lens k 0)
   turn v h g =
       record {
         within = omega arith;
         begun = omega (arith, total-more lens sets k);
         most = omega arith;
         done = λ base c e.
-            tally-pushed (copyRuns (changing bits drop) base from to (runs lens sets k)) (clip from to start (getD lens k 0)) (changing bits drop (getD sets k 0))
-            (canon-copy (changing bits drop) base from to (runs lens sets k) c) (inv .done base c e) g
-            ∙ ap tallyOf (rw (inv .begun) (sym (copy-more lens sets (changing bits drop) base from to k)));
+            tally-pushed (copyRuns (changing bits gone) base from to (runs lens sets k)) (clip from to start (getD lens k 0)) (changing bits gone (getD sets k 0))
+            (canon-copy (changing bits gone) base from to (runs lens sets k) c) (inv .done base c e) g
+            ∙ ap tallyOf (rw (inv .begun) (sym (copy-more lens sets (changing bits gone) base from to k)));
       }
 
 -- after the last turn the copy is whole
-whole : {t : Tally} {lens sets : List ℕ} {m from to bits drop : ℕ} {u : Tally} {k start : ℕ}
-    → Tallied t lens sets m from to bits drop u k start → k ≡ m → (rs out : List Run) → Canon rs → t ≡ tallyOf rs
-    → Joined (total rs + (min to (total (runs lens sets m)) - from)) (followedAt (total rs) (setAt rs) (λ q. changing bits drop (setAt (runs lens sets m) (from + q)))) out
+whole : {t : Tally} {lens sets : List ℕ} {m from to bits gone : ℕ} {u : Tally} {k start : ℕ}
+    → Tallied t lens sets m from to bits gone u k start → k ≡ m → (rs out : List Run) → Canon rs → t ≡ tallyOf rs
+    → Joined (total rs + (min to (total (runs lens sets m)) - from)) (followedAt (total rs) (setAt rs) (λ q. changing bits gone (setAt (runs lens sets m) (from + q)))) out
     → u ≡ tallyOf out
-whole {lens = lens} {sets} {m} {from} {to} {bits} {drop} inv e rs out c d j =
-    let copy : ℕ → List Run = λ i. copyRuns (changing bits drop) rs from to (runs lens sets i) in
-    inv .done rs c d ∙ ap tallyOf (ap copy e ∙ sym (copied-is (changing bits drop) rs from to (runs lens sets m) c j))
+whole {lens = lens} {sets} {m} {from} {to} {bits} {gone} inv e rs out c d j =
+    let copy : ℕ → List Run = λ i. copyRuns (changing bits gone) rs from to (runs lens sets i) in
+    inv .done rs c d ∙ ap tallyOf (ap copy e ∙ sym (copied-is (changing bits gone) rs from to (runs lens sets m) c j))
 
 abbrev Inv-loop : tie.InvT-loop
-Inv-loop lens sets m from to bits drop u₀ k₀ start₀ u k start = Tallied u₀ lens sets m from to bits drop u k start
+Inv-loop lens sets m from to bits gone u₀ k₀ start₀ u k start = Tallied u₀ lens sets m from to bits gone u k start
 
 abbrev μ-loop : tie.MeasureT-loop
-μ-loop lens sets m from to bits drop u₀ k₀ start₀ u k start = m - k
+μ-loop lens sets m from to bits gone u₀ k₀ start₀ u k start = m - k
 
 loop-holds : tie.Need-loop-holds Inv-loop μ-loop
 unfolding runs total copyRuns
@@ -77,7 +77,7 @@ handed : (c : tie.After-change Inv-loop μ-loop) → let i = c .before .before .
     let l = i .before .loop in
     let a = i .before .before .before .before .args in
     (c .before .before .clip .result ≡ clip (a .from) (a .to) (l .start) (getD (a .lens .now) (l .k) 0))
-    × (c .change .result ≡ changing (a .bits) (a .drop) (getD (a .sets .now) (l .k) 0))
+    × (c .change .result ≡ changing (a .bits) (a .gone) (getD (a .sets .now) (l .k) 0))
 handed c = (c .before .before .clip .ensures, c .change .ensures)
 
 more-requires : tie.Need-more-requires Inv-loop μ-loop
