@@ -2,7 +2,6 @@
 use mathlib.Core.Bool.{cond}
 use mathlib.Core.List.{List, [], _∷_, _++_, map}
 use Prim.Native.Nat.{ℕ, min}
-use lib.Dec.{eqb}
 use lib.ListN.{take}
 use Rattle.styles.specs.declared.Styles.{Styles}
 use Rattle.richtext.specs.declared.AnchorType.{AnchorType}
@@ -13,6 +12,7 @@ use Rattle.questions.specs.declared.Shown.{Shown}
 use Rattle.questions.specs.declared.Told.{Told}
 use Rattle.lists.specs.declared.Listed.{Listed}
 use Rattle.lists.specs.declared.anchors.Anchor.{Anchor}
+use Rattle.tank.specs.Rules.{whenAccepted}
 use Rattle.tanks.specs.declared.Count.{Count}
 use Rattle.tanks.specs.declared.YesNo.{YesNo}
 use Rattle.text.specs.Bytes.{bytes}
@@ -30,7 +30,7 @@ refusedSays = lineSays (bytes "refused=")
 
 -- what an answer says, or a refusal
 abbrev pub orRefused : ℕ → Pieces → Pieces
-orRefused number says = cond (eqb number 0) says (refusedSays number)
+orRefused number says = whenAccepted number says (refusedSays number)
 
 -- none of what was asked for
 abbrev pub noneSays : Pieces

@@ -53,8 +53,3 @@ front w = take (w .at) (w .buffer)
 unfoldable pub sent : Waiting → Pieces → List ℕ
 sent w [] = []
 sent w (piece ∷ pieces) = cond (leb (w .at + pieceRoom) (length (w .buffer))) [] (front w) ++ sent (with w piece) pieces
-
--- pieces as one text
-unfoldable pub joined : Pieces → List ℕ
-joined [] = []
-joined (piece ∷ pieces) = piece ++ joined pieces

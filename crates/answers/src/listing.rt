@@ -1,7 +1,7 @@
 // Stretches and anchors.
 ghost use Prim.Native.Nat.{_≤_};
 ghost use lib.ListN.{length, take};
-ghost use Rattle.answers.specs.Waiting.{Adds};
+ghost use Rattle.answers.specs.Waiting.{Adds, pieceRoom};
 ghost use Rattle.answers.specs.Replies.{orRefused, neededSays, listSays, sideSays, anchorSays};
 use super::pieces::refuse;
 use super::pieces::say;
@@ -12,7 +12,7 @@ use richtext::AnchorType;
 
 // How much a list takes, or a refusal.
 pub fn put_needed(out: &mut [u8], at: usize, l: Listed) -> usize
-    requires { ⌜ 512 ≤ length (now out) ⌝ }
+    requires { ⌜ pieceRoom ≤ length (now out) ⌝ }
     ensures { λ r. ⌜ Adds (now (out .entry)) at (neededSays l) r (now (out .exit)) ⌝ }
 {
     if l.number == 0 {
@@ -23,7 +23,7 @@ pub fn put_needed(out: &mut [u8], at: usize, l: Listed) -> usize
 
 // A tank's stretches, three numbers each.
 pub fn put_stretches(out: &mut [u8], at: usize, tank: u64, list: &[u64]) -> usize
-    requires { ⌜ 512 ≤ length (now out) ⌝ }
+    requires { ⌜ pieceRoom ≤ length (now out) ⌝ }
     ensures { λ r. ⌜ Adds (now (out .entry)) at (listSays tank (now (list .entry))) r (now (out .exit)) ⌝ }
 {
     let mut k = say(out, at, b"tank=", tank);
@@ -42,7 +42,7 @@ pub fn put_stretches(out: &mut [u8], at: usize, tank: u64, list: &[u64]) -> usiz
 
 // A list in the front of lent numbers, or a refusal.
 pub fn put_list(out: &mut [u8], at: usize, tank: u64, l: Listed, lent: &[u64]) -> usize
-    requires { ⌜ (512 ≤ length (now out)) × (l .count ≤ length (now lent)) ⌝ }
+    requires { ⌜ (pieceRoom ≤ length (now out)) × (l .count ≤ length (now lent)) ⌝ }
     ensures { λ r. ⌜ Adds (now (out .entry)) at (orRefused (l .number) (listSays tank (take (l .count) (now (lent .entry))))) r (now (out .exit)) ⌝ }
 {
     if l.number == 0 {
@@ -53,7 +53,7 @@ pub fn put_list(out: &mut [u8], at: usize, tank: u64, l: Listed, lent: &[u64]) -
 }
 
 fn put_side(out: &mut [u8], at: usize, side: AnchorType) -> usize
-    requires { ⌜ 512 ≤ length (now out) ⌝ }
+    requires { ⌜ pieceRoom ≤ length (now out) ⌝ }
     ensures { λ r. ⌜ Adds (now (out .entry)) at (sideSays side) r (now (out .exit)) ⌝ }
 {
     match side {
@@ -64,7 +64,7 @@ fn put_side(out: &mut [u8], at: usize, side: AnchorType) -> usize
 
 // An anchor.
 pub fn put_anchor(out: &mut [u8], at: usize, a: Anchor) -> usize
-    requires { ⌜ 512 ≤ length (now out) ⌝ }
+    requires { ⌜ pieceRoom ≤ length (now out) ⌝ }
     ensures { λ r. ⌜ Adds (now (out .entry)) at (anchorSays a) r (now (out .exit)) ⌝ }
 {
     let side = a.side;

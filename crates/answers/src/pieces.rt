@@ -11,7 +11,7 @@ use styles::Value;
 
 // A place with room for a piece: what waits is written out where there is less.
 fn free(out: &[u8], at: usize) -> usize
-    requires { ⌜ 512 ≤ length (now out) ⌝ }
+    requires { ⌜ pieceRoom ≤ length (now out) ⌝ }
     ensures { λ r. ⌜ (r ≡ freeAt pieceRoom at (now (out .entry))) × (r + pieceRoom ≤ length (now (out .entry))) ⌝ }
 {
     script::flushed(out, at, 160)
@@ -19,7 +19,7 @@ fn free(out: &[u8], at: usize) -> usize
 
 // A line of a name and a number.
 pub fn say(out: &mut [u8], at: usize, name: &[u8], n: u64) -> usize
-    requires { ⌜ (512 ≤ length (now out)) × (length (now name) ≤ 16) ⌝ }
+    requires { ⌜ (pieceRoom ≤ length (now out)) × (length (now name) ≤ 16) ⌝ }
     ensures { λ r. ⌜ Adds (now (out .entry)) at (fieldText (now (name .entry)) n ∷ []) r (now (out .exit)) ⌝ }
 {
     let k = free(out, at);
@@ -28,7 +28,7 @@ pub fn say(out: &mut [u8], at: usize, name: &[u8], n: u64) -> usize
 
 // A line of a name and a word.
 pub fn say_word(out: &mut [u8], at: usize, name: &[u8], word: &[u8]) -> usize
-    requires { ⌜ (512 ≤ length (now out)) × (length (now name) ≤ 16) × (length (now word) ≤ 16) ⌝ }
+    requires { ⌜ (pieceRoom ≤ length (now out)) × (length (now name) ≤ 16) × (length (now word) ≤ 16) ⌝ }
     ensures { λ r. ⌜ Adds (now (out .entry)) at (lineText (now (name .entry)) (now (word .entry)) ∷ []) r (now (out .exit)) ⌝ }
 {
     let k = free(out, at);
@@ -37,7 +37,7 @@ pub fn say_word(out: &mut [u8], at: usize, name: &[u8], word: &[u8]) -> usize
 
 // A refusal.
 pub fn refuse(out: &mut [u8], at: usize, number: u64) -> usize
-    requires { ⌜ 512 ≤ length (now out) ⌝ }
+    requires { ⌜ pieceRoom ≤ length (now out) ⌝ }
     ensures { λ r. ⌜ Adds (now (out .entry)) at (refusedSays number) r (now (out .exit)) ⌝ }
 {
     say(out, at, b"refused=", number)
@@ -45,7 +45,7 @@ pub fn refuse(out: &mut [u8], at: usize, number: u64) -> usize
 
 // Accepted, or a refusal.
 pub fn accept(out: &mut [u8], at: usize, number: u64) -> usize
-    requires { ⌜ 512 ≤ length (now out) ⌝ }
+    requires { ⌜ pieceRoom ≤ length (now out) ⌝ }
     ensures { λ r. ⌜ Adds (now (out .entry)) at (acceptedSays number) r (now (out .exit)) ⌝ }
 {
     if number == 0 {
@@ -56,7 +56,7 @@ pub fn accept(out: &mut [u8], at: usize, number: u64) -> usize
 
 // None of what was asked for.
 pub fn none(out: &mut [u8], at: usize) -> usize
-    requires { ⌜ 512 ≤ length (now out) ⌝ }
+    requires { ⌜ pieceRoom ≤ length (now out) ⌝ }
     ensures { λ r. ⌜ Adds (now (out .entry)) at noneSays r (now (out .exit)) ⌝ }
 {
     say(out, at, b"none=", 1)
@@ -64,7 +64,7 @@ pub fn none(out: &mut [u8], at: usize) -> usize
 
 // A value.
 pub fn put_value(out: &mut [u8], at: usize, v: Value) -> usize
-    requires { ⌜ 512 ≤ length (now out) ⌝ }
+    requires { ⌜ pieceRoom ≤ length (now out) ⌝ }
     ensures { λ r. ⌜ Adds (now (out .entry)) at (valueText v ∷ []) r (now (out .exit)) ⌝ }
 {
     let k = free(out, at);
@@ -73,7 +73,7 @@ pub fn put_value(out: &mut [u8], at: usize, v: Value) -> usize
 
 // A mark.
 pub fn put_mark(out: &mut [u8], at: usize, m: Mark) -> usize
-    requires { ⌜ 512 ≤ length (now out) ⌝ }
+    requires { ⌜ pieceRoom ≤ length (now out) ⌝ }
     ensures { λ r. ⌜ Adds (now (out .entry)) at (markText m ∷ []) r (now (out .exit)) ⌝ }
 {
     let k = free(out, at);

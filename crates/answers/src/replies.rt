@@ -3,7 +3,7 @@ ghost use mathlib.Core.Bool.{cond};
 ghost use mathlib.Core.Path.{_≡_};
 ghost use Prim.Native.Nat.{_≤_};
 ghost use lib.ListN.{length};
-ghost use Rattle.answers.specs.Waiting.{Adds};
+ghost use Rattle.answers.specs.Waiting.{Adds, pieceRoom};
 ghost use Rattle.answers.specs.Replies.{firstSays, countSays, touchedSays, toldSays, shownSays, askedSays, setSays, sharedSays};
 use super::pieces::none;
 use super::pieces::put_mark;
@@ -22,7 +22,7 @@ use tanks::YesNo;
 
 // The first position of a removal, or a refusal.
 pub fn first_or(out: &mut [u8], at: usize, number: u64, first: u64) -> usize
-    requires { ⌜ 512 ≤ length (now out) ⌝ }
+    requires { ⌜ pieceRoom ≤ length (now out) ⌝ }
     ensures { λ r. ⌜ Adds (now (out .entry)) at (firstSays number first) r (now (out .exit)) ⌝ }
 {
     if number == 0 {
@@ -33,7 +33,7 @@ pub fn first_or(out: &mut [u8], at: usize, number: u64, first: u64) -> usize
 
 // A count under its name.
 pub fn put_count(out: &mut [u8], at: usize, name: &[u8], c: Count) -> usize
-    requires { ⌜ (512 ≤ length (now out)) × (length (now name) ≤ 16) ⌝ }
+    requires { ⌜ (pieceRoom ≤ length (now out)) × (length (now name) ≤ 16) ⌝ }
     ensures { λ r. ⌜ Adds (now (out .entry)) at (countSays (now (name .entry)) c) r (now (out .exit)) ⌝ }
 {
     match c {
@@ -50,7 +50,7 @@ fn bit(b: bool) -> u64
 
 // Whether a tank is touched.
 pub fn put_touched(out: &mut [u8], at: usize, y: YesNo) -> usize
-    requires { ⌜ 512 ≤ length (now out) ⌝ }
+    requires { ⌜ pieceRoom ≤ length (now out) ⌝ }
     ensures { λ r. ⌜ Adds (now (out .entry)) at (touchedSays y) r (now (out .exit)) ⌝ }
 {
     match y {
@@ -61,7 +61,7 @@ pub fn put_touched(out: &mut [u8], at: usize, y: YesNo) -> usize
 
 // Yes or no.
 pub fn put_told(out: &mut [u8], at: usize, t: Told) -> usize
-    requires { ⌜ 512 ≤ length (now out) ⌝ }
+    requires { ⌜ pieceRoom ≤ length (now out) ⌝ }
     ensures { λ r. ⌜ Adds (now (out .entry)) at (toldSays t) r (now (out .exit)) ⌝ }
 {
     match t {
@@ -73,7 +73,7 @@ pub fn put_told(out: &mut [u8], at: usize, t: Told) -> usize
 
 // The value that is shown.
 pub fn put_shown(out: &mut [u8], at: usize, s: Shown) -> usize
-    requires { ⌜ 512 ≤ length (now out) ⌝ }
+    requires { ⌜ pieceRoom ≤ length (now out) ⌝ }
     ensures { λ r. ⌜ Adds (now (out .entry)) at (shownSays s) r (now (out .exit)) ⌝ }
 {
     match s {
@@ -85,7 +85,7 @@ pub fn put_shown(out: &mut [u8], at: usize, s: Shown) -> usize
 
 // The mark that was asked for.
 pub fn put_asked(out: &mut [u8], at: usize, a: Asked) -> usize
-    requires { ⌜ 512 ≤ length (now out) ⌝ }
+    requires { ⌜ pieceRoom ≤ length (now out) ⌝ }
     ensures { λ r. ⌜ Adds (now (out .entry)) at (askedSays a) r (now (out .exit)) ⌝ }
 {
     match a {
@@ -97,7 +97,7 @@ pub fn put_asked(out: &mut [u8], at: usize, a: Asked) -> usize
 
 // The set that was asked for.
 pub fn put_set_asked(out: &mut [u8], at: usize, a: SetAsked) -> usize
-    requires { ⌜ 512 ≤ length (now out) ⌝ }
+    requires { ⌜ pieceRoom ≤ length (now out) ⌝ }
     ensures { λ r. ⌜ Adds (now (out .entry)) at (setSays a) r (now (out .exit)) ⌝ }
 {
     let m = a.styles;
@@ -106,7 +106,7 @@ pub fn put_set_asked(out: &mut [u8], at: usize, a: SetAsked) -> usize
 
 // The set that all positions share.
 pub fn put_shared(out: &mut [u8], at: usize, a: Shared) -> usize
-    requires { ⌜ 512 ≤ length (now out) ⌝ }
+    requires { ⌜ pieceRoom ≤ length (now out) ⌝ }
     ensures { λ r. ⌜ Adds (now (out .entry)) at (sharedSays a) r (now (out .exit)) ⌝ }
 {
     let m = a.styles;

@@ -1,7 +1,7 @@
 // Sets of marks.
 ghost use Prim.Native.Nat.{_≤_};
 ghost use lib.ListN.{length};
-ghost use Rattle.answers.specs.Waiting.{Adds};
+ghost use Rattle.answers.specs.Waiting.{Adds, pieceRoom};
 ghost use Rattle.answers.specs.Replies.{stylesSay, orRefused};
 use super::pieces::put_mark;
 use super::pieces::refuse;
@@ -10,7 +10,7 @@ use styles::Styles;
 
 // A set: its count and its marks.
 pub fn put_set(out: &mut [u8], at: usize, m: Styles) -> usize
-    requires { ⌜ 512 ≤ length (now out) ⌝ }
+    requires { ⌜ pieceRoom ≤ length (now out) ⌝ }
     ensures { λ r. ⌜ Adds (now (out .entry)) at (stylesSay m) r (now (out .exit)) ⌝ }
 {
     let count = m.count;
@@ -30,7 +30,7 @@ pub fn put_set(out: &mut [u8], at: usize, m: Styles) -> usize
 
 // A set, or a refusal.
 pub fn set_or(out: &mut [u8], at: usize, number: u64, m: Styles) -> usize
-    requires { ⌜ 512 ≤ length (now out) ⌝ }
+    requires { ⌜ pieceRoom ≤ length (now out) ⌝ }
     ensures { λ r. ⌜ Adds (now (out .entry)) at (orRefused number (stylesSay m)) r (now (out .exit)) ⌝ }
 {
     if number == 0 {

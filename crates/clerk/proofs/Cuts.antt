@@ -1,13 +1,13 @@
 -- However an input is cut into reads, a run comes to the same place and says the same.
 use mathlib.Core.Path.{_≡_, refl, sym, ap, ap₂, _∙_}
 use mathlib.Core.Bool.{Bool, true, false, cond}
-use mathlib.Core.List.{List, [], _∷_, _++_, append-assoc, append-nil}
+use mathlib.Core.List.{List, [], _∷_, _++_, append-assoc, append-nil, flatten}
 use Prim.Native.Nat.{ℕ, _<_}
 use native.Mathlib.Omega.{arith}
 use lib.ListN.{length}
 use borrow.Author.Tests.{ne-eqb}
 use Rattle.script.specs.Lines.{endingOf}
-use Rattle.answers.specs.Waiting.{Pieces, Waiting, withAll, joined}
+use Rattle.answers.specs.Waiting.{Pieces, Waiting, withAll}
 use Rattle.answers.proofs.Laws.{with-append}
 use Rattle.clerk.specs.Course.{Course, onEvent, afterLine, afterByte, afterBytes, endedAs, atEnd, afterRead, written, afterReads}
 use Rattle.clerk.specs.Course.{Whereabouts, whereOf, saidLine, saidByte, saidBytes, saidEnding, saidAtEnd, saidRead, saidReads, NoneEmpty}
@@ -113,26 +113,26 @@ said-cut x [] b = refl
 said-cut x (c ∷ a) b = append-assoc (saidByte x c) (saidBytes (afterByte x c) a) (saidBytes (afterBytes (afterByte x c) a) b) ∙ ap (λ (t : Pieces). saidByte x c ++ t) (said-cut (afterByte x c) a b)
 
 -- reads lead where their bytes lead
-place-reads : (x : Course) (inputs : List (List ℕ)) → NoneEmpty inputs → whereOf (afterReads x inputs) ≡ whereOf (afterBytes x (joined inputs))
-unfolding afterReads afterBytes joined NoneEmpty
+place-reads : (x : Course) (inputs : List (List ℕ)) → NoneEmpty inputs → whereOf (afterReads x inputs) ≡ whereOf (afterBytes x (flatten inputs))
+unfolding afterReads afterBytes flatten NoneEmpty
 place-reads x [] some = refl
 place-reads x (input ∷ inputs) some =
     ap (λ (y : Course). whereOf (afterReads (written y) inputs)) (some-taken x input (some .0))
     ∙ place-reads (written (afterBytes x input)) inputs (some .1)
-    ∙ place-bytes (joined inputs) (written (afterBytes x input)) (afterBytes x input) refl
-    ∙ ap whereOf (sym (cut-anywhere x input (joined inputs)))
+    ∙ place-bytes (flatten inputs) (written (afterBytes x input)) (afterBytes x input) refl
+    ∙ ap whereOf (sym (cut-anywhere x input (flatten inputs)))
 
 -- and say what their bytes say
-said-reads : (x : Course) (inputs : List (List ℕ)) → NoneEmpty inputs → saidReads x inputs ≡ saidBytes x (joined inputs)
-unfolding saidReads saidBytes joined NoneEmpty
+said-reads : (x : Course) (inputs : List (List ℕ)) → NoneEmpty inputs → saidReads x inputs ≡ saidBytes x (flatten inputs)
+unfolding saidReads saidBytes flatten NoneEmpty
 said-reads x [] some = refl
 said-reads x (input ∷ inputs) some =
     ap₂ (λ (t : Pieces) (y : Course). t ++ saidReads (written y) inputs) (some-said x input (some .0)) (some-taken x input (some .0))
-    ∙ ap (λ (t : Pieces). saidBytes x input ++ t) (said-reads (written (afterBytes x input)) inputs (some .1) ∙ said-bytes (joined inputs) (written (afterBytes x input)) (afterBytes x input) refl)
-    ∙ said-cut x input (joined inputs)
+    ∙ ap (λ (t : Pieces). saidBytes x input ++ t) (said-reads (written (afterBytes x input)) inputs (some .1) ∙ said-bytes (flatten inputs) (written (afterBytes x input)) (afterBytes x input) refl)
+    ∙ said-cut x input (flatten inputs)
 
 -- an input cut into reads, each written out before the next, comes to the same place and says the same as its bytes one after another
-pub cut-reads : (x : Course) (inputs : List (List ℕ)) → NoneEmpty inputs → (whereOf (afterReads x inputs) ≡ whereOf (afterBytes x (joined inputs))) × (saidReads x inputs ≡ saidBytes x (joined inputs))
+pub cut-reads : (x : Course) (inputs : List (List ℕ)) → NoneEmpty inputs → (whereOf (afterReads x inputs) ≡ whereOf (afterBytes x (flatten inputs))) × (saidReads x inputs ≡ saidBytes x (flatten inputs))
 cut-reads x inputs some = (place-reads x inputs some, said-reads x inputs some)
 
 -- reads, and reads behind them
@@ -160,11 +160,11 @@ unfolding saidReads
 last-said x = append-nil (saidAtEnd x)
 
 -- the same with the end of the input behind
-pub cut-run : (x : Course) (inputs : List (List ℕ)) → NoneEmpty inputs → (whereOf (afterReads x (inputs ++ ([] ∷ []))) ≡ whereOf (atEnd (afterBytes x (joined inputs)))) × (saidReads x (inputs ++ ([] ∷ [])) ≡ saidBytes x (joined inputs) ++ saidAtEnd (afterBytes x (joined inputs)))
+pub cut-run : (x : Course) (inputs : List (List ℕ)) → NoneEmpty inputs → (whereOf (afterReads x (inputs ++ ([] ∷ []))) ≡ whereOf (atEnd (afterBytes x (flatten inputs)))) × (saidReads x (inputs ++ ([] ∷ [])) ≡ saidBytes x (flatten inputs) ++ saidAtEnd (afterBytes x (flatten inputs)))
 cut-run x inputs some =
     let e = cut-reads x inputs some in (
-      ap whereOf (reads-append x inputs ([] ∷ [])) ∙ last-place (afterReads x inputs) ∙ place-end (afterReads x inputs) (afterBytes x (joined inputs)) (e .0),
-      said-append x inputs ([] ∷ []) ∙ ap₂ _++_ (e .1) (last-said (afterReads x inputs) ∙ said-end (afterReads x inputs) (afterBytes x (joined inputs)) (e .0)),
+      ap whereOf (reads-append x inputs ([] ∷ [])) ∙ last-place (afterReads x inputs) ∙ place-end (afterReads x inputs) (afterBytes x (flatten inputs)) (e .0),
+      said-append x inputs ([] ∷ []) ∙ ap₂ _++_ (e .1) (last-said (afterReads x inputs) ∙ said-end (afterReads x inputs) (afterBytes x (flatten inputs)) (e .0)),
     )
 
 -- ---- A run that is over
@@ -212,7 +212,7 @@ stops-early x inputs more e =
     (ap whereOf (reads-append x inputs more) ∙ rest .0, said-append x inputs more ∙ ap (λ (t : Pieces). saidReads x inputs ++ t) (rest .1) ∙ append-nil (saidReads x inputs))
 
 -- ---- Two ways to cut one input
-module _ (x : Course) (these those : List (List ℕ)) (some : NoneEmpty these) (others : NoneEmpty those) (same : joined these ≡ joined those) where
+module _ (x : Course) (these those : List (List ℕ)) (some : NoneEmpty these) (others : NoneEmpty those) (same : flatten these ≡ flatten those) where
   -- both lead to the same place and say the same
   pub cuts-agree : (whereOf (afterReads x these) ≡ whereOf (afterReads x those)) × (saidReads x these ≡ saidReads x those)
   cuts-agree =

@@ -6,7 +6,7 @@ use Prim.Native.Nat.{ℕ, _+_, _≤_}
 use borrow.Author.Tests.{ne-eqb}
 use lib.ListN.{length, drop, length-append, drop-of-length-le}
 use Rattle.tanks.specs.declared.Tanks.{Tanks}
-use Rattle.tanks.specs.House.{House, opening}
+use Rattle.tanks.specs.House.{House, smallestSettings, opening}
 use Rattle.tanks.specs.Pool.{meaning, Sound}
 use Rattle.script.specs.declared.Ending.{Ending}
 use Rattle.script.specs.declared.Op.{Op}
@@ -16,7 +16,7 @@ use Rattle.script.specs.Lines.{readerAt, stateOf, endingOf}
 use Rattle.answers.specs.Waiting.{Waiting, waiting, withAll, Adds}
 use Rattle.clerk.specs.declared.Eaten.{Eaten}
 use Rattle.clerk.specs.declared.Stand.{Stand}
-use Rattle.clerk.specs.Course.{Course, malformedSays, afterBytes, saidEnding, endedAs, atEnd, afterRead, written, afterReads, courseOf, Eats, Closes, Reads, Leads, mostReads, RunsFrom, going, firstSettings, RunsWhole}
+use Rattle.clerk.specs.Course.{Course, malformedSays, afterBytes, saidEnding, endedAs, atEnd, afterRead, written, afterReads, courseOf, Eats, Closes, Reads, Leads, mostReads, RunsFrom, going, RunsWhole}
 use Rattle.clerk.proofs.Bytes.{standing}
 
 module _ {s : Tanks} {stand : Stand} (d : List ℕ) {r : Eaten} (out : List ℕ) {k : ℕ} (ok : Sound s) (goes : stand .over ≡ false)
@@ -111,7 +111,7 @@ runs-as {t} {reader} {x} {r} {n} out {over} ok stands l most =
     }
 
 -- from the very beginning
-pub runs-whole : {h : House} {first : Reader} {d out : List ℕ} {r : Eaten} → h ≡ opening firstSettings → first ≡ readerAt (freshOf Op.Nothing) 0 → RunsFrom (record { house = h; reader = stateOf first; waits = waiting d 0; over = false }) r out → RunsWhole r
+pub runs-whole : {h : House} {first : Reader} {d out : List ℕ} {r : Eaten} → h ≡ opening smallestSettings → first ≡ readerAt (freshOf Op.Nothing) 0 → RunsFrom (record { house = h; reader = stateOf first; waits = waiting d 0; over = false }) r out → RunsWhole r
 runs-whole {h} {first} {d} {out} {r} e f x =
     record {
       buffer = d;

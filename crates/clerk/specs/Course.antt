@@ -4,10 +4,9 @@ use mathlib.Core.Bool.{Bool, true, false, cond}
 use mathlib.Core.List.{List, [], _∷_, _++_}
 use Prim.Native.Nat.{ℕ, _-_, _^_, _<_}
 use lib.Dec.{eqb}
-use lib.ListN.{length, replicate}
-use Rattle.tanks.specs.declared.Setting.{Setting}
+use lib.ListN.{length}
 use Rattle.tanks.specs.declared.Tanks.{Tanks}
-use Rattle.tanks.specs.House.{House, smallest, opening}
+use Rattle.tanks.specs.House.{House, smallestSettings, opening}
 use Rattle.tanks.specs.Pool.{meaning, Sound}
 use Rattle.script.specs.declared.Call.{Call}
 use Rattle.script.specs.declared.Ending.{Ending}
@@ -172,13 +171,9 @@ going s reader buffer = record { house = meaning s; reader = stateOf reader; wai
 abbrev pub Runs : Tanks → Reader → List ℕ → Eaten → List ℕ → Type 0
 Runs s first buffer r out = RunsFrom (going s first buffer) r out
 
--- before the first `open` each tank has share 1 and limit 1
-abbrev pub firstSettings : List Setting
-firstSettings = replicate 8 smallest
-
--- where a whole run begins: fresh tanks, at the start of a script, with nothing waiting
+-- where a whole run begins: fresh tanks, each of share 1 and limit 1 before the first `open`, at the start of a script, with nothing waiting
 abbrev pub beginning : List ℕ → Course
-beginning buffer = record { house = opening firstSettings; reader = stateOf (readerAt (freshOf Op.Nothing) 0); waits = waiting buffer 0; over = false }
+beginning buffer = record { house = opening smallestSettings; reader = stateOf (readerAt (freshOf Op.Nothing) 0); waits = waiting buffer 0; over = false }
 
 -- a run from its beginning to its end, in a buffer of its own
 pub record RunsWhole (r : Eaten) : Type 0 where

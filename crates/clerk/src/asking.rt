@@ -3,7 +3,7 @@ ghost use Prim.Native.Nat.{_≤_};
 ghost use lib.ListN.{length};
 ghost use Rattle.script.specs.declared.Op as ops;
 ghost use Rattle.tanks.specs.Pool.{Sound, meaning};
-ghost use Rattle.answers.specs.Waiting.{Adds};
+ghost use Rattle.answers.specs.Waiting.{Adds, pieceRoom};
 ghost use Rattle.clerk.specs.Calls.{saysOf};
 use answers::put_asked;
 use answers::put_count;
@@ -18,7 +18,7 @@ use tanks::Tanks;
 
 pub fn length(s: Tanks, call: Call, out: &mut [u8], at: usize) -> usize
     requires { ⌜ Sound s ⌝ }
-    requires { ⌜ 512 ≤ length (now out) ⌝ }
+    requires { ⌜ pieceRoom ≤ length (now out) ⌝ }
     ensures { λ r. ⌜ Adds (now (out .entry)) at (saysOf ops.Op.Length (meaning s) call) r (now (out .exit)) ⌝ }
 {
     let n = call.numbers;
@@ -27,7 +27,7 @@ pub fn length(s: Tanks, call: Call, out: &mut [u8], at: usize) -> usize
 
 pub fn touched(s: Tanks, call: Call, out: &mut [u8], at: usize) -> usize
     requires { ⌜ Sound s ⌝ }
-    requires { ⌜ 512 ≤ length (now out) ⌝ }
+    requires { ⌜ pieceRoom ≤ length (now out) ⌝ }
     ensures { λ r. ⌜ Adds (now (out .entry)) at (saysOf ops.Op.Touched (meaning s) call) r (now (out .exit)) ⌝ }
 {
     let n = call.numbers;
@@ -36,7 +36,7 @@ pub fn touched(s: Tanks, call: Call, out: &mut [u8], at: usize) -> usize
 
 pub fn runs(s: Tanks, call: Call, out: &mut [u8], at: usize) -> usize
     requires { ⌜ Sound s ⌝ }
-    requires { ⌜ 512 ≤ length (now out) ⌝ }
+    requires { ⌜ pieceRoom ≤ length (now out) ⌝ }
     ensures { λ r. ⌜ Adds (now (out .entry)) at (saysOf ops.Op.Runs (meaning s) call) r (now (out .exit)) ⌝ }
 {
     let n = call.numbers;
@@ -45,7 +45,7 @@ pub fn runs(s: Tanks, call: Call, out: &mut [u8], at: usize) -> usize
 
 pub fn value(s: Tanks, call: Call, out: &mut [u8], at: usize) -> usize
     requires { ⌜ Sound s ⌝ }
-    requires { ⌜ 512 ≤ length (now out) ⌝ }
+    requires { ⌜ pieceRoom ≤ length (now out) ⌝ }
     ensures { λ r. ⌜ Adds (now (out .entry)) at (saysOf ops.Op.Value (meaning s) call) r (now (out .exit)) ⌝ }
 {
     let n = call.numbers;
@@ -54,7 +54,7 @@ pub fn value(s: Tanks, call: Call, out: &mut [u8], at: usize) -> usize
 
 pub fn has_key(s: Tanks, call: Call, out: &mut [u8], at: usize) -> usize
     requires { ⌜ Sound s ⌝ }
-    requires { ⌜ 512 ≤ length (now out) ⌝ }
+    requires { ⌜ pieceRoom ≤ length (now out) ⌝ }
     ensures { λ r. ⌜ Adds (now (out .entry)) at (saysOf ops.Op.HasKey (meaning s) call) r (now (out .exit)) ⌝ }
 {
     let n = call.numbers;
@@ -64,7 +64,7 @@ pub fn has_key(s: Tanks, call: Call, out: &mut [u8], at: usize) -> usize
 
 pub fn all_value(s: Tanks, call: Call, out: &mut [u8], at: usize) -> usize
     requires { ⌜ Sound s ⌝ }
-    requires { ⌜ 512 ≤ length (now out) ⌝ }
+    requires { ⌜ pieceRoom ≤ length (now out) ⌝ }
     ensures { λ r. ⌜ Adds (now (out .entry)) at (saysOf ops.Op.AllValue (meaning s) call) r (now (out .exit)) ⌝ }
 {
     let n = call.numbers;
@@ -75,7 +75,7 @@ pub fn all_value(s: Tanks, call: Call, out: &mut [u8], at: usize) -> usize
 
 pub fn same(s: Tanks, call: Call, out: &mut [u8], at: usize) -> usize
     requires { ⌜ Sound s ⌝ }
-    requires { ⌜ 512 ≤ length (now out) ⌝ }
+    requires { ⌜ pieceRoom ≤ length (now out) ⌝ }
     ensures { λ r. ⌜ Adds (now (out .entry)) at (saysOf ops.Op.Same (meaning s) call) r (now (out .exit)) ⌝ }
 {
     let n = call.numbers;
@@ -84,7 +84,7 @@ pub fn same(s: Tanks, call: Call, out: &mut [u8], at: usize) -> usize
 
 pub fn marks(s: Tanks, call: Call, out: &mut [u8], at: usize) -> usize
     requires { ⌜ Sound s ⌝ }
-    requires { ⌜ 512 ≤ length (now out) ⌝ }
+    requires { ⌜ pieceRoom ≤ length (now out) ⌝ }
     ensures { λ r. ⌜ Adds (now (out .entry)) at (saysOf ops.Op.Marks (meaning s) call) r (now (out .exit)) ⌝ }
 {
     let n = call.numbers;
@@ -93,7 +93,7 @@ pub fn marks(s: Tanks, call: Call, out: &mut [u8], at: usize) -> usize
 
 pub fn inherit(s: Tanks, call: Call, out: &mut [u8], at: usize) -> usize
     requires { ⌜ Sound s ⌝ }
-    requires { ⌜ 512 ≤ length (now out) ⌝ }
+    requires { ⌜ pieceRoom ≤ length (now out) ⌝ }
     ensures { λ r. ⌜ Adds (now (out .entry)) at (saysOf ops.Op.Inherit (meaning s) call) r (now (out .exit)) ⌝ }
 {
     let n = call.numbers;
@@ -102,7 +102,7 @@ pub fn inherit(s: Tanks, call: Call, out: &mut [u8], at: usize) -> usize
 
 pub fn mark(s: Tanks, call: Call, out: &mut [u8], at: usize) -> usize
     requires { ⌜ Sound s ⌝ }
-    requires { ⌜ 512 ≤ length (now out) ⌝ }
+    requires { ⌜ pieceRoom ≤ length (now out) ⌝ }
     ensures { λ r. ⌜ Adds (now (out .entry)) at (saysOf ops.Op.Mark (meaning s) call) r (now (out .exit)) ⌝ }
 {
     let n = call.numbers;
@@ -111,7 +111,7 @@ pub fn mark(s: Tanks, call: Call, out: &mut [u8], at: usize) -> usize
 
 pub fn inherited(s: Tanks, call: Call, out: &mut [u8], at: usize) -> usize
     requires { ⌜ Sound s ⌝ }
-    requires { ⌜ 512 ≤ length (now out) ⌝ }
+    requires { ⌜ pieceRoom ≤ length (now out) ⌝ }
     ensures { λ r. ⌜ Adds (now (out .entry)) at (saysOf ops.Op.Inherited (meaning s) call) r (now (out .exit)) ⌝ }
 {
     let n = call.numbers;

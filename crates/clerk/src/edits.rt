@@ -3,6 +3,7 @@ ghost use mathlib.Core.Path.{_≡_};
 ghost use Prim.Native.Nat.{_≤_};
 ghost use lib.ListN.{length};
 ghost use Rattle.script.specs.declared.Op as ops;
+ghost use Rattle.answers.specs.Waiting.{pieceRoom};
 ghost use Rattle.tanks.specs.Pool.{Sound};
 ghost use Rattle.clerk.specs.Calls.{Performs, settingsOf};
 use super::Done;
@@ -53,7 +54,7 @@ fn settings(call: Call) -> [Setting; 8]
 }
 
 pub fn opened(s: Tanks, call: Call, out: &mut [u8], at: usize) -> Done
-    requires { ⌜ 512 ≤ length (now out) ⌝ }
+    requires { ⌜ pieceRoom ≤ length (now out) ⌝ }
     ensures { λ r. ⌜ Performs ops.Op.Open s call (now (out .entry)) at r (now (out .exit)) ⌝ }
 {
     let o = tanks::open(settings(call));
@@ -64,7 +65,7 @@ pub fn opened(s: Tanks, call: Call, out: &mut [u8], at: usize) -> Done
 
 pub fn annotated(s: Tanks, call: Call, out: &mut [u8], at: usize) -> Done
     requires { ⌜ Sound s ⌝ }
-    requires { ⌜ 512 ≤ length (now out) ⌝ }
+    requires { ⌜ pieceRoom ≤ length (now out) ⌝ }
     ensures { λ r. ⌜ Performs ops.Op.Annotate s call (now (out .entry)) at r (now (out .exit)) ⌝ }
 {
     let n = call.numbers;
@@ -76,7 +77,7 @@ pub fn annotated(s: Tanks, call: Call, out: &mut [u8], at: usize) -> Done
 
 pub fn inserted(s: Tanks, call: Call, out: &mut [u8], at: usize) -> Done
     requires { ⌜ Sound s ⌝ }
-    requires { ⌜ 512 ≤ length (now out) ⌝ }
+    requires { ⌜ pieceRoom ≤ length (now out) ⌝ }
     ensures { λ r. ⌜ Performs ops.Op.Insert s call (now (out .entry)) at r (now (out .exit)) ⌝ }
 {
     let n = call.numbers;
@@ -89,7 +90,7 @@ pub fn inserted(s: Tanks, call: Call, out: &mut [u8], at: usize) -> Done
 
 pub fn deleted(s: Tanks, call: Call, out: &mut [u8], at: usize) -> Done
     requires { ⌜ Sound s ⌝ }
-    requires { ⌜ 512 ≤ length (now out) ⌝ }
+    requires { ⌜ pieceRoom ≤ length (now out) ⌝ }
     ensures { λ r. ⌜ Performs ops.Op.Delete s call (now (out .entry)) at r (now (out .exit)) ⌝ }
 {
     let n = call.numbers;
@@ -101,7 +102,7 @@ pub fn deleted(s: Tanks, call: Call, out: &mut [u8], at: usize) -> Done
 
 pub fn removed(s: Tanks, call: Call, out: &mut [u8], at: usize) -> Done
     requires { ⌜ Sound s ⌝ }
-    requires { ⌜ 512 ≤ length (now out) ⌝ }
+    requires { ⌜ pieceRoom ≤ length (now out) ⌝ }
     ensures { λ r. ⌜ Performs ops.Op.Remove s call (now (out .entry)) at r (now (out .exit)) ⌝ }
 {
     let n = call.numbers;

@@ -9,7 +9,7 @@ ghost use Prim.Native.Nat.{_≤_};
 ghost use lib.ListN.{length};
 ghost use Rattle.script.specs.Lines.{stateOf};
 ghost use Rattle.tanks.specs.Pool.{Sound};
-ghost use Rattle.answers.specs.Waiting.{Adds};
+ghost use Rattle.answers.specs.Waiting.{Adds, pieceRoom};
 ghost use Rattle.clerk.specs.Calls.{Performs};
 ghost use Rattle.clerk.specs.Course.{malformedSays, Eats, Closes, Reads, Runs, RunsWhole};
 use answers::say;
@@ -81,7 +81,7 @@ fn kept(s: Tanks, at: usize) -> Done
 // One call: the state after it, and its answer in the output.
 fn perform(s: Tanks, call: Call, out: &mut [u8], at: usize) -> Done
     requires { ⌜ Sound s ⌝ }
-    requires { ⌜ 512 ≤ length (now out) ⌝ }
+    requires { ⌜ pieceRoom ≤ length (now out) ⌝ }
     ensures { λ r. ⌜ Performs (call .op) s call (now (out .entry)) at r (now (out .exit)) ⌝ }
 {
     let op = call.op;
@@ -114,7 +114,7 @@ fn perform(s: Tanks, call: Call, out: &mut [u8], at: usize) -> Done
 
 // The number of the line at which the run ends.
 fn put_bad(out: &mut [u8], at: usize, r: Reader) -> usize
-    requires { ⌜ 512 ≤ length (now out) ⌝ }
+    requires { ⌜ pieceRoom ≤ length (now out) ⌝ }
     ensures { λ k. ⌜ Adds (now (out .entry)) at (malformedSays (stateOf r)) k (now (out .exit)) ⌝ }
 {
     say(out, at, b"malformed=", script::line_number(r))
@@ -123,7 +123,7 @@ fn put_bad(out: &mut [u8], at: usize, r: Reader) -> usize
 // The bytes of one read, a line to a turn. The tanks go through a call once a group, and never once a line.
 fn eat(bytes: &[u8], s: Tanks, stand: Stand, out: &mut [u8]) -> Eaten
     requires { ⌜ (Sound s) × (stand .over ≡ false) ⌝ }
-    requires { ⌜ 512 ≤ length (now out) ⌝ }
+    requires { ⌜ pieceRoom ≤ length (now out) ⌝ }
     ensures { λ r. ⌜ Eats s stand (now (out .entry)) (now (bytes .entry)) r (now (out .exit)) ⌝ }
 {
     let mut tanks = s;
@@ -156,7 +156,7 @@ fn eat(bytes: &[u8], s: Tanks, stand: Stand, out: &mut [u8]) -> Eaten
 // The end of the input: in the middle of a line or a group it is a bad line.
 fn closed(s: Tanks, stand: Stand, out: &mut [u8]) -> Eaten
     requires { ⌜ (Sound s) × (stand .over ≡ false) ⌝ }
-    requires { ⌜ 512 ≤ length (now out) ⌝ }
+    requires { ⌜ pieceRoom ≤ length (now out) ⌝ }
     ensures { λ r. ⌜ Closes s stand (now (out .entry)) r (now (out .exit)) ⌝ }
 {
     let r = stand.reader;
@@ -173,7 +173,7 @@ fn closed(s: Tanks, stand: Stand, out: &mut [u8]) -> Eaten
 // One read from standard input.
 fn turn(s: Tanks, stand: Stand, out: &mut [u8]) -> Eaten
     requires { ⌜ (Sound s) × (stand .over ≡ false) ⌝ }
-    requires { ⌜ 512 ≤ length (now out) ⌝ }
+    requires { ⌜ pieceRoom ≤ length (now out) ⌝ }
     ensures { λ r. ⌜ Reads s stand (now (out .entry)) r (now (out .exit)) ⌝ }
 {
     let mut buf = io::large_buffer();
@@ -188,7 +188,7 @@ fn turn(s: Tanks, stand: Stand, out: &mut [u8]) -> Eaten
 // All of the input: the count of turns is one that no run uses up. The answers to what was read are written before more is read.
 fn all(s: Tanks, first: Reader, out: &mut [u8]) -> Eaten
     requires { ⌜ Sound s ⌝ }
-    requires { ⌜ 512 ≤ length (now out) ⌝ }
+    requires { ⌜ pieceRoom ≤ length (now out) ⌝ }
     ensures { λ r. ⌜ Runs s first (now (out .entry)) r (now (out .exit)) ⌝ }
 {
     let mut tanks = s;

@@ -8,7 +8,7 @@ ghost use Rattle.tank.specs.State as state;
 ghost use Rattle.tanks.specs.House.{tankAt};
 ghost use Rattle.tanks.specs.Pool.{Sound, meaning};
 ghost use Rattle.lists.specs.Anchors.{anchors, Stands, rest};
-ghost use Rattle.answers.specs.Waiting.{Adds};
+ghost use Rattle.answers.specs.Waiting.{Adds, pieceRoom};
 ghost use Rattle.answers.specs.Replies.{anchorsSay};
 ghost use Rattle.clerk.specs.Calls.{saysOf, wholeSays, allAnchorsSay};
 use answers::put_anchor;
@@ -35,7 +35,7 @@ fn places(room: u64) -> usize
 // The stretches over a range, in a lent part as long as the call has room.
 fn range_in(s: Tanks, call: Call, part: &mut [u64], out: &mut [u8], at: usize) -> usize
     requires { ⌜ Sound s ⌝ }
-    requires { ⌜ (length (now part) ≡ min (numberAt call 3) 1536) × (512 ≤ length (now out)) ⌝ }
+    requires { ⌜ (length (now part) ≡ min (numberAt call 3) 1536) × (pieceRoom ≤ length (now out)) ⌝ }
     ensures { λ r. ⌜ Adds (now (out .entry)) at (saysOf ops.Op.Stretches (meaning s) call) r (now (out .exit)) ⌝ }
 {
     let n = call.numbers;
@@ -45,7 +45,7 @@ fn range_in(s: Tanks, call: Call, part: &mut [u64], out: &mut [u8], at: usize) -
 
 fn range_of(s: Tanks, call: Call, buf: &mut [u64], out: &mut [u8], at: usize) -> usize
     requires { ⌜ Sound s ⌝ }
-    requires { ⌜ (1536 ≤ length (now buf)) × (512 ≤ length (now out)) ⌝ }
+    requires { ⌜ (1536 ≤ length (now buf)) × (pieceRoom ≤ length (now out)) ⌝ }
     ensures { λ r. ⌜ Adds (now (out .entry)) at (saysOf ops.Op.Stretches (meaning s) call) r (now (out .exit)) ⌝ }
 {
     let n = call.numbers;
@@ -55,7 +55,7 @@ fn range_of(s: Tanks, call: Call, buf: &mut [u64], out: &mut [u8], at: usize) ->
 
 pub fn stretches(s: Tanks, call: Call, out: &mut [u8], at: usize) -> usize
     requires { ⌜ Sound s ⌝ }
-    requires { ⌜ 512 ≤ length (now out) ⌝ }
+    requires { ⌜ pieceRoom ≤ length (now out) ⌝ }
     ensures { λ r. ⌜ Adds (now (out .entry)) at (saysOf ops.Op.Stretches (meaning s) call) r (now (out .exit)) ⌝ }
 {
     let mut buf = [0u64; 1536];
@@ -64,7 +64,7 @@ pub fn stretches(s: Tanks, call: Call, out: &mut [u8], at: usize) -> usize
 
 pub fn stretches_needed(s: Tanks, call: Call, out: &mut [u8], at: usize) -> usize
     requires { ⌜ Sound s ⌝ }
-    requires { ⌜ 512 ≤ length (now out) ⌝ }
+    requires { ⌜ pieceRoom ≤ length (now out) ⌝ }
     ensures { λ r. ⌜ Adds (now (out .entry)) at (saysOf ops.Op.StretchesNeeded (meaning s) call) r (now (out .exit)) ⌝ }
 {
     let n = call.numbers;
@@ -74,7 +74,7 @@ pub fn stretches_needed(s: Tanks, call: Call, out: &mut [u8], at: usize) -> usiz
 // The marked stretches of a tank, likewise.
 fn whole_in(s: Tanks, tank: u64, room: u64, part: &mut [u64], out: &mut [u8], at: usize) -> usize
     requires { ⌜ Sound s ⌝ }
-    requires { ⌜ (length (now part) ≡ min room 1536) × (512 ≤ length (now out)) ⌝ }
+    requires { ⌜ (length (now part) ≡ min room 1536) × (pieceRoom ≤ length (now out)) ⌝ }
     ensures { λ r. ⌜ Adds (now (out .entry)) at (wholeSays (meaning s) tank room) r (now (out .exit)) ⌝ }
 {
     let l = ask::list_whole(s, tank, part);
@@ -83,7 +83,7 @@ fn whole_in(s: Tanks, tank: u64, room: u64, part: &mut [u64], out: &mut [u8], at
 
 fn whole_of(s: Tanks, tank: u64, room: u64, buf: &mut [u64], out: &mut [u8], at: usize) -> usize
     requires { ⌜ Sound s ⌝ }
-    requires { ⌜ (1536 ≤ length (now buf)) × (512 ≤ length (now out)) ⌝ }
+    requires { ⌜ (1536 ≤ length (now buf)) × (pieceRoom ≤ length (now out)) ⌝ }
     ensures { λ r. ⌜ Adds (now (out .entry)) at (wholeSays (meaning s) tank room) r (now (out .exit)) ⌝ }
 {
     let k = places(room);
@@ -93,7 +93,7 @@ fn whole_of(s: Tanks, tank: u64, room: u64, buf: &mut [u64], out: &mut [u8], at:
 // The marked stretches of a tank, as they are listed where there is room for so many numbers.
 pub fn whole(s: Tanks, tank: u64, room: u64, out: &mut [u8], at: usize) -> usize
     requires { ⌜ Sound s ⌝ }
-    requires { ⌜ 512 ≤ length (now out) ⌝ }
+    requires { ⌜ pieceRoom ≤ length (now out) ⌝ }
     ensures { λ r. ⌜ Adds (now (out .entry)) at (wholeSays (meaning s) tank room) r (now (out .exit)) ⌝ }
 {
     let mut buf = [0u64; 1536];
@@ -102,7 +102,7 @@ pub fn whole(s: Tanks, tank: u64, room: u64, out: &mut [u8], at: usize) -> usize
 
 pub fn whole_needed(s: Tanks, call: Call, out: &mut [u8], at: usize) -> usize
     requires { ⌜ Sound s ⌝ }
-    requires { ⌜ 512 ≤ length (now out) ⌝ }
+    requires { ⌜ pieceRoom ≤ length (now out) ⌝ }
     ensures { λ r. ⌜ Adds (now (out .entry)) at (saysOf ops.Op.WholeNeeded (meaning s) call) r (now (out .exit)) ⌝ }
 {
     let n = call.numbers;
@@ -111,7 +111,7 @@ pub fn whole_needed(s: Tanks, call: Call, out: &mut [u8], at: usize) -> usize
 
 // The anchors of a tank from a cursor on, as many as are left.
 fn put_anchors(out: &mut [u8], at: usize, t: Tank, from: AnchorCursor, left: usize) -> usize
-    requires { ⌜ 512 ≤ length (now out) ⌝ }
+    requires { ⌜ pieceRoom ≤ length (now out) ⌝ }
     requires { ⌜ (state.Sound t) × Stands t from ⌝ }
     ensures { λ r. ⌜ Adds (now (out .entry)) at (anchorsSay (take left (rest t from))) r (now (out .exit)) ⌝ }
 {
@@ -132,7 +132,7 @@ fn put_anchors(out: &mut [u8], at: usize, t: Tank, from: AnchorCursor, left: usi
 // The anchors of a tank, of which the count is known.
 fn all_anchors(s: Tanks, tank: u64, count: usize, out: &mut [u8], at: usize) -> usize
     requires { ⌜ (Sound s) × (count ≡ length (anchors (tankAt (meaning s) tank))) ⌝ }
-    requires { ⌜ 512 ≤ length (now out) ⌝ }
+    requires { ⌜ pieceRoom ≤ length (now out) ⌝ }
     ensures { λ r. ⌜ Adds (now (out .entry)) at (allAnchorsSay (tankAt (meaning s) tank)) r (now (out .exit)) ⌝ }
 {
     let t = s.take(tank as usize);
@@ -144,7 +144,7 @@ fn all_anchors(s: Tanks, tank: u64, count: usize, out: &mut [u8], at: usize) -> 
 // The anchors, written one by one as the cursor comes to them: the room that the call names is judged, and nothing is lent.
 pub fn anchors(s: Tanks, call: Call, out: &mut [u8], at: usize) -> usize
     requires { ⌜ Sound s ⌝ }
-    requires { ⌜ 512 ≤ length (now out) ⌝ }
+    requires { ⌜ pieceRoom ≤ length (now out) ⌝ }
     ensures { λ r. ⌜ Adds (now (out .entry)) at (saysOf ops.Op.Anchors (meaning s) call) r (now (out .exit)) ⌝ }
 {
     let n = call.numbers;

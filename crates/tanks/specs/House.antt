@@ -34,13 +34,17 @@ freshHouse st = record { settings = st; tanks = replicate 8 freshView }
 abbrev pub smallest : Setting
 smallest = record { share = 1; limit = 1 }
 
+-- eight of them
+abbrev pub smallestSettings : List Setting
+smallestSettings = replicate 8 smallest
+
 -- 2: settings break the rule
 unfoldable pub openNumber : List Setting → ℕ
 openNumber st = cond (accepted st) 0 2
 
 -- beside 2 stands the state of eight pairs (1, 1)
 unfoldable pub opening : List Setting → House
-opening st = freshHouse (cond (accepted st) st (replicate 8 smallest))
+opening st = freshHouse (cond (accepted st) st smallestSettings)
 
 -- ---- Refusals
 -- 1: tank is 8 or more
