@@ -1,7 +1,7 @@
 -- The laws of the settings' rule and of the judgement.
 use Prim.Native.Nat.{ℕ, zero, suc, _+_, _≤_, _<_, max}
 use mathlib.Core.Path.{_≡_, refl, ap}
-use mathlib.Core.Bool.{Bool, true, false, cond, _&&_}
+use mathlib.Core.Bool.{Bool, true, false, cond, _&&_, and-eq-true-iff}
 use mathlib.Core.List.{List}
 use native.Mathlib.Omega.{arith}
 use native.Mathlib.Decide.{decLt, decLe}
@@ -22,10 +22,6 @@ use Rattle.tank.specs.State as state
 use Rattle.tanks.specs.Contracts.{Judged, Small}
 use Rattle.tanks.proofs.LaidLaws.{below-next}
 
-pub both : (a b : Bool) → a && b ≡ true → (a ≡ true) × (b ≡ true)
-both true b h = (refl, h)
-both false b h = (h, cc)
-
 pub record Keeps (s : Setting) : Type 0 where
   pub low : 1 ≤ s .share
   pub order : s .share ≤ s .limit
@@ -33,15 +29,15 @@ pub record Keeps (s : Setting) : Type 0 where
 
 pub keeps-facts : (s : Setting) → keepsRule s ≡ true → Keeps s
 keeps-facts s h =
-    let p = both (leb 1 (s .share)) (leb (s .share) (s .limit) && leb (s .limit) 512) h in
-    let q = both (leb (s .share) (s .limit)) (leb (s .limit) 512) (p .1) in
+    let p = and-eq-true-iff (leb 1 (s .share)) (leb (s .share) (s .limit) && leb (s .limit) 512) .0 h in
+    let q = and-eq-true-iff (leb (s .share) (s .limit)) (leb (s .limit) 512) .0 (p .1) in
     record { low = leb-true 1 (s .share) (p .0); order = leb-true (s .share) (s .limit) (q .0); high = leb-true (s .limit) 512 (q .1) }
 
 all-keep-at : (st : List Setting) (n u : ℕ) → allKeepRule st n ≡ true → u < n → Keeps (getD st u noSetting)
 unfolding allKeepRule
 all-keep-at st zero u h g = absurd (omega arith)
 all-keep-at st (suc n) u h g =
-    let p = both (allKeepRule st n) (keepsRule (getD st n noSetting)) h in
+    let p = and-eq-true-iff (allKeepRule st n) (keepsRule (getD st n noSetting)) .0 h in
     elim (decLt u n) [
       | yes l ↦ all-keep-at st n u (p .0) l
       | no l ↦ let e : u ≡ n = omega arith in rw e (keeps-facts (getD st n noSetting) (p .1))
@@ -68,11 +64,11 @@ all-keep-not st (suc n) u g h =
 module _ (st : List Setting) (ok : accepted st ≡ true) where
   pub accepted-at : (u : ℕ) → u < 8 → Keeps (getD st u noSetting)
   unfolding accepted
-  accepted-at u h = all-keep-at st 8 u (both (allKeepRule st 8) (leb (shares st 8) 512) ok .0) h
+  accepted-at u h = all-keep-at st 8 u (and-eq-true-iff (allKeepRule st 8) (leb (shares st 8) 512) .0 ok .0) h
 
   pub accepted-sum : shares st 8 ≤ 512
   unfolding accepted
-  accepted-sum = leb-true (shares st 8) 512 (both (allKeepRule st 8) (leb (shares st 8) 512) ok .1)
+  accepted-sum = leb-true (shares st 8) 512 (and-eq-true-iff (allKeepRule st 8) (leb (shares st 8) 512) .0 ok .1)
 
 -- ---- claims
 pub claims-cong : (st : List Setting) (f g : ℕ → ℕ) (n : ℕ) → ((u : ℕ) → u < n → f u ≡ g u) → claims st f n ≡ claims st g n
