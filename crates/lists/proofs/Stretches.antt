@@ -1,7 +1,7 @@
 -- The stretches over a range are the maximal ones: they tile it, each has one set throughout and begins where the set changes, and no other list does so.
 use Prim.Native.Nat.{ℕ, zero, suc, _-_, _≤_, _<_}
 use mathlib.Core.Path.{_≡_, refl, sym, ap, _∙_}
-use mathlib.Core.Bool.{Bool, true, false, false≢true}
+use mathlib.Core.Bool.{Bool, true, false, false≢true, and-eq-true-iff}
 use mathlib.Core.List.{List, [], _∷_}
 use native.Mathlib.Omega.{arith}
 use native.Mathlib.Decide.{decLt, decLe}
@@ -10,7 +10,6 @@ use lib.ListN.{length}
 use Rattle.styles.specs.declared.Mark.{Mark}
 use Rattle.styles.specs.Order.{idOf, sameId}
 use Rattle.styles.specs.Marks.{sameMarks}
-use Rattle.styles.proofs.ValueLaws.{both-hold}
 use Rattle.runs.specs.Positions.{Stretch, stretch, extended, stretchesAt}
 use Rattle.tank.specs.Rules.{View}
 use Rattle.lists.specs.Lists.{stretchesOver, Maximal, Tiles, TilesOver}
@@ -107,7 +106,7 @@ unfolding sameMarks
 same-length [] [] e = refl
 same-length [] (y ∷ ys) e = absurd (false≢true e)
 same-length (x ∷ xs) [] e = absurd (false≢true e)
-same-length (x ∷ xs) (y ∷ ys) e = omega (arith, same-length xs ys (both-hold (sameId (idOf x) (idOf y)) (sameMarks xs ys) e .1))
+same-length (x ∷ xs) (y ∷ ys) e = omega (arith, same-length xs ys (and-eq-true-iff (sameId (idOf x) (idOf y)) (sameMarks xs ys) .0 e .1))
 
 pub stretches-tile : (a b : ℕ) (v : View) → TilesOver a b v (stretchesOver a b v)
 stretches-tile a b v = tiles _ _ (λ p. same-length (v .at p) (v .at (suc p))) a b
