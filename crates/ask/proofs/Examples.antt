@@ -12,7 +12,7 @@ use Rattle.styles.specs.Bits.{pick, withBit}
 use Rattle.runs.specs.Runs.{total, setAt, changing}
 use Rattle.runs.proofs.Copies.{joinRun, pushRun, copyRuns, altered, deleted, inserted}
 use Rattle.runs.specs.Gather.{gather}
-use Rattle.runs.specs.Positions.{anyAt, stretchTo}
+use Rattle.runs.specs.Positions.{anyAt, stretchTo, allAt}
 use Rattle.runs.specs.Scan.{commonAt}
 use Rattle.runs.specs.Positions.{sumBelow}
 use Rattle.tank.specs.Rules.{View, Edit, annotating, inserting, deleting, removing, inherited, forInsert, backFrom, empty, over, long, notNumber, clash, clashes, full, refusal}
@@ -23,7 +23,7 @@ use Rattle.lists.proofs.AnchorsOnRuns.{edges, anchorsOn, anchors-on}
 use Rattle.questions.specs.declared.Told.the-variants.{Refused}
 use Rattle.questions.specs.Questions.{yesNo, yesNoRefusal, rangeContainsKey}
 use Rattle.tanks.specs.declared.Setting.{Setting}
-use Rattle.tanks.specs.Settings.{allKeepRule, accepted, claims, judgement}
+use Rattle.tanks.specs.Settings.{accepted, claims, judgement}
 use Rattle.tanks.specs.House.{House, tankAt, openNumber, noTank, refusalAt, insertedSetAt, removedFirstAt}
 use Rattle.tanks.specs.Pool.{tankNumbers}
 use Rattle.tanks.proofs.OnRuns.{Kept, fresh, keptAt, keptAfter, tried, tried-clear, own-on, heldOn, viewOn, houseOn, numberAt, allAfter, may, Way, step, steps, Fit, AllFit, all-fresh, opening-on, tank-on, held-on, number-on, after-fit, after-on, step-clear, steps-clear, steps-on}
@@ -223,7 +223,7 @@ all-hold (c ∷ cs) e =
     (case-holds c here, all-hold cs there)
 
 pub examples : AllHold table
-unfolding table found claimed abc accepted allKeepRule sumBelow
+unfolding table found claimed abc accepted allAt sumBelow
     numberAt allAfter step steps tried may judgement known numberOn runsAfter touchedAfter ranges rangeOf anchorsOn edges anchorsOf
     altered deleted inserted copyRuns pushRun joinRun changing gather commonAt setAt total
     pick withBit placeOf member stands numbers clash sameContent only hasKey winner winners

@@ -1,6 +1,6 @@
 -- Laws of the table: each definition that goes down the entries is known by the place of the name. Assumes nothing.
-use mathlib.Core.Path.{_≡_, refl, sym}
-use mathlib.Core.Bool.{Bool, true, false, cond, _||_}
+use mathlib.Core.Path.{_≡_, refl}
+use mathlib.Core.Bool.{Bool, true, false, cond, _||_, not, and-eq-true-iff}
 use mathlib.Core.List.{List, [], _∷_, _++_}
 use mathlib.Core.Option.{none, some}
 use Prim.Native.Nat.{ℕ, suc, _≤_, _<_}
@@ -95,10 +95,6 @@ known-entered j k s n =
     (λ x xs e. rw (e, same-true (x .name) k e))
     (λ x xs e r. rw (e, r))
 
-both : (t a : Bool) → cond t false a ≡ true → (t ≡ false) × (a ≡ true)
-both true a e = (sym e, cc)
-both false a e = (refl, e)
-
 pub once-entered : (k : List ℕ) (s : StyleConfig) (es : List Named) → once es ≡ true → once (entered k s es) ≡ true
 unfolding once entered known
 once-entered k s =
@@ -108,7 +104,7 @@ once-entered k s =
     (λ h. refl)
     (λ x xs e h. rw e (rw (same-true (x .name) k e) at h))
     (λ x xs e r h.
-    let b : (known (x .name) xs ≡ false) × (once xs ≡ true) = both (known (x .name) xs) (once xs) h in
+    let b = and-eq-true-iff (not (known (x .name) xs)) (once xs) .0 h in
     rw (e, known-entered (x .name) k s (same-flip (x .name) k e) xs, b .0) (r (b .1)))
 
 -- Refusals

@@ -1,6 +1,6 @@
 -- What a config means: its names with their styles, in the order of their first insertion, and the default.
 -- Document 01, "Flags and config", in its order.
-use mathlib.Core.Bool.{Bool, true, false, cond, _||_}
+use mathlib.Core.Bool.{Bool, true, false, cond, _&&_, _||_, not}
 use mathlib.Core.List.{List, [], _∷_}
 use mathlib.Core.Option.{Option, none, some, orElse}
 use Prim.Native.Nat.{ℕ, suc}
@@ -27,7 +27,7 @@ emptyTable = record { entries = []; default = none }
 -- a name among the entries
 unfoldable pub known : List ℕ → List Named → Bool
 known k [] = false
-known k (x ∷ xs) = cond (sameOf (x .name) k) true (known k xs)
+known k (x ∷ xs) = sameOf (x .name) k || known k xs
 
 -- the style of a name among the entries
 unfoldable pub find : List ℕ → List Named → Option StyleConfig
@@ -47,11 +47,11 @@ entered k s (x ∷ xs) = cond (sameOf (x .name) k) (record { name = k; style = s
 -- each name once
 unfoldable pub once : List Named → Bool
 once [] = true
-once (x ∷ xs) = cond (known (x .name) xs) false (once xs)
+once (x ∷ xs) = not (known (x .name) xs) && once xs
 
 -- refused: a name over 32 bytes, a name that holds a colon, a new name into 32 entries
 abbrev pub refuses : List ℕ → Table → Bool
-refuses k t = tooLong k || (holdsColon k || cond (known k (t .entries)) false (leb 32 (length (t .entries))))
+refuses k t = tooLong k || (holdsColon k || (not (known k (t .entries)) && leb 32 (length (t .entries))))
 
 -- the table after an insertion: as it was where that is refused
 abbrev pub withEntry : List ℕ → StyleConfig → Table → Table

@@ -2,7 +2,7 @@
 -- The runs that a tank holds are as many as those of the whole of it.
 use Prim.Native.Nat.{ℕ, zero, suc, _+_, _-_, _≤_, _<_}
 use mathlib.Core.Path.{_≡_, refl, sym, ap, _∙_}
-use mathlib.Core.Bool.{Bool, true, false, cond, false≢true}
+use mathlib.Core.Bool.{Bool, true, false, cond, false≢true, and-eq-true-iff}
 use mathlib.Core.List.{List, [], _∷_}
 use native.Mathlib.Omega.{arith}
 use native.Mathlib.Decide.{decLt, decLe}
@@ -11,7 +11,6 @@ use lib.ListN.{length}
 use Rattle.styles.specs.declared.Mark.{Mark}
 use Rattle.styles.specs.Order.{idOf, sameId}
 use Rattle.styles.specs.Marks.{sameMarks}
-use Rattle.styles.proofs.ValueLaws.{both-hold}
 use Rattle.runs.specs.Positions.{sumBelow, starts, stretchCount, Stretch, stretch, extended, stretchesAt}
 use Rattle.runs.proofs.SumLaws.{sum-next}
 use Rattle.tank.specs.Rules.{View, alike, runsHeld}
@@ -109,7 +108,7 @@ unfolding sameMarks
 same-length [] [] e = refl
 same-length [] (y ∷ ys) e = absurd (false≢true e)
 same-length (x ∷ xs) [] e = absurd (false≢true e)
-same-length (x ∷ xs) (y ∷ ys) e = omega (arith, same-length xs ys (both-hold (sameId (idOf x) (idOf y)) (sameMarks xs ys) e .1))
+same-length (x ∷ xs) (y ∷ ys) e = omega (arith, same-length xs ys (and-eq-true-iff (sameId (idOf x) (idOf y)) (sameMarks xs ys) .0 e .1))
 
 pub stretches-tile : (a b : ℕ) (v : View) → TilesOver a b v (stretchesOver a b v)
 stretches-tile a b v = tiles _ _ (λ p. same-length (v .at p) (v .at (suc p))) a b

@@ -1,7 +1,7 @@
 -- The questions over a range: what `anyAt`, `allAt` and `stretchTo` say, and a turn of each loop over the runs.
 use Prim.Native.Nat.{ℕ, zero, suc, _+_, _-_, _^_, _≤_, _<_, min}
 use mathlib.Core.Path.{_≡_, refl, sym, ap, ap₂, _∙_}
-use mathlib.Core.Bool.{Bool, true, false, cond, not, _&&_, _||_, true≢false}
+use mathlib.Core.Bool.{Bool, true, false, cond, not, _&&_, _||_, true≢false, and-eq-true-iff}
 use mathlib.Core.List.{List}
 use native.Mathlib.Omega.{arith}
 use native.Mathlib.Decide.{decLt, decLe}
@@ -20,10 +20,6 @@ use Rattle.runs.proofs.Laws.{total-sums, found-set, at-past}
 or-second : (a b : Bool) → b ≡ true → (a || b) ≡ true
 or-second true b e = refl
 or-second false b e = e
-
-pub and-true : (a b : Bool) → (a && b) ≡ true → (a ≡ true) × (b ≡ true)
-and-true true b e = (refl, e)
-and-true false b e = absurd (true≢false (sym e))
 
 pub and-false : (a b : Bool) → a ≡ true → (a && b) ≡ false → b ≡ false
 and-false true b h e = e
@@ -214,7 +210,7 @@ module _ (lens sets : List ℕ) (n mask last k start : ℕ) (in-turn : k < n) (b
       → min (start + getD lens k 0) (last + 1) ≡ stretchTo (λ p. meets mask (setAt (runs lens sets n) p)) (min (start + getD lens k 0) (last + 1))
   unfolding test upto
   back-missed e =
-      let b = and-true (ltb 0 (clip 0 (last + 1) start (getD lens k 0))) _ e in
+      let b = and-eq-true-iff (ltb 0 (clip 0 (last + 1) start (getD lens k 0))) _ .0 e in
       let some = ltb-true 0 (clip 0 (last + 1) start (getD lens k 0)) (b .0) in
       sym (stretch-end test upto (omega arith) (on-run (upto - 1) (omega arith) (omega arith) ∙ not-flip (meets mask (getD sets k 0)) true (b .1)))
 

@@ -1,7 +1,7 @@
 -- A question on marks as a mask over the table: one pass over the table, and then numbers alone.
 use Prim.Native.Nat.{ℕ, zero, suc, _+_, _-_, _*_, _/_, _%_, _^_, _≤_, _<_, min}
 use mathlib.Core.Path.{_≡_, refl, sym, ap, _∙_, subst}
-use mathlib.Core.Bool.{Bool, true, false, cond}
+use mathlib.Core.Bool.{Bool, true, false, cond, _||_}
 use mathlib.Core.List.{List, [], _∷_, _++_}
 use native.Mathlib.Omega.{arith}
 use native.Mathlib.Nat.{zero-min, min-zero, min-le-left, pow-suc, div-one}
@@ -233,7 +233,7 @@ nonempty : List Mark → Bool
 nonempty [] = false
 nonempty (m ∷ ms) = true
 
-key-step : (a : Bool) (k : ℕ) (m : Mark) (ms : List Mark) → hasKey k ms ≡ nonempty (only (keyIs k) ms) → cond a true (hasKey k ms) ≡ nonempty (cond a (m ∷ only (keyIs k) ms) (only (keyIs k) ms))
+key-step : (a : Bool) (k : ℕ) (m : Mark) (ms : List Mark) → hasKey k ms ≡ nonempty (only (keyIs k) ms) → (a || hasKey k ms) ≡ nonempty (cond a (m ∷ only (keyIs k) ms) (only (keyIs k) ms))
 unfolding nonempty
 key-step true k m ms h = refl
 key-step false k m ms h = h

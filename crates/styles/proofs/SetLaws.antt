@@ -1,7 +1,7 @@
 -- The operations on sets are what their names say: they keep sets sorted, carry what they should, and the winner is the greatest.
 use Prim.Native.Nat.{ℕ, zero, suc, _<_}
 use mathlib.Core.Path.{_≡_, refl, sym, ap, _∙_}
-use mathlib.Core.Bool.{Bool, true, false, cond, not, false≢true, true≢false}
+use mathlib.Core.Bool.{Bool, true, false, cond, not, _&&_, _||_, false≢true, true≢false, and-false, or-self-left}
 use mathlib.Core.List.{List, [], _∷_}
 use native.Mathlib.Omega.{arith}
 use lib.Dec.{eqb}
@@ -56,34 +56,26 @@ sorted-only f [] h = tt
 sorted-only f (x ∷ xs) h = sorted-more (f x) x (only f xs) (above-only (idOf x) f xs (h .0)) (sorted-only f xs (h .1))
 
 -- ---- what they carry
-swap : (a b c : Bool) → cond a true (cond b true c) ≡ cond b true (cond a true c)
+swap : (a b c : Bool) → (a || (b || c)) ≡ (b || (a || c))
 swap true true c = refl
 swap true false c = refl
 swap false true c = refl
 swap false false c = refl
 
-again : (a c : Bool) → cond a true c ≡ cond a true (cond a true c)
-again true c = refl
-again false c = refl
-
-carries-step : (s : Stand) (j : Identity) (m x : Mark) (xs rest : List Mark) → stands (idOf m) (idOf x) ≡ s → member j rest ≡ cond (sameId j (idOf m)) true (member j xs)
-    → member j (insertStep s m x xs rest) ≡ cond (sameId j (idOf m)) true (member j (x ∷ xs))
+carries-step : (s : Stand) (j : Identity) (m x : Mark) (xs rest : List Mark) → stands (idOf m) (idOf x) ≡ s → member j rest ≡ (sameId j (idOf m) || member j xs)
+    → member j (insertStep s m x xs rest) ≡ (sameId j (idOf m) || member j (x ∷ xs))
 unfolding member
 carries-step Before j m x xs rest e h = refl
 carries-step Same j m x xs rest e h =
-    again (sameId j (idOf x)) (member j xs)
-    ∙ ap (λ (i : Identity). cond (sameId j i) true (cond (sameId j (idOf x)) true (member j xs))) (sym (same-eq (idOf m) (idOf x) e))
-carries-step After j m x xs rest e h = ap (cond (sameId j (idOf x)) true) h ∙ swap (sameId j (idOf x)) (sameId j (idOf m)) (member j xs)
+    sym (or-self-left (sameId j (idOf x)) (member j xs))
+    ∙ ap (λ (i : Identity). sameId j i || (sameId j (idOf x) || member j xs)) (sym (same-eq (idOf m) (idOf x) e))
+carries-step After j m x xs rest e h = ap (_||_ (sameId j (idOf x))) h ∙ swap (sameId j (idOf x)) (sameId j (idOf m)) (member j xs)
 
 -- with one mark more: that identity, and what it carried
-pub member-insert : (j : Identity) (m : Mark) (l : List Mark) → member j (insertMark m l) ≡ cond (sameId j (idOf m)) true (member j l)
+pub member-insert : (j : Identity) (m : Mark) (l : List Mark) → member j (insertMark m l) ≡ (sameId j (idOf m) || member j l)
 unfolding member insertMark
 member-insert j m [] = refl
 member-insert j m (x ∷ xs) = carries-step (stands (idOf m) (idOf x)) j m x xs (insertMark m xs) refl (member-insert j m xs)
-
-none-either : (a : Bool) → false ≡ cond a false false
-none-either true = refl
-none-either false = refl
 
 -- an identity passes a test where one that is the same does
 same-passes : (f : Identity → Bool) (i j : Identity) → sameId i j ≡ true → f i ≡ f j
@@ -94,39 +86,34 @@ same-flip Before i j e = sym (ap isSame (less-flip i j e))
 same-flip Same i j e = sym (ap isSame (same-self j)) ∙ ap (sameId j) (sym (same-eq i j e))
 same-flip After i j e = sym (ap isSame (more-flip i j e))
 
-keep-both : (s p q r : Bool) → (s ≡ true → p ≡ true) → r ≡ cond p q false → cond s true r ≡ cond p (cond s true q) false
+keep-both : (s p q r : Bool) → (s ≡ true → p ≡ true) → r ≡ (p && q) → (s || r) ≡ (p && (s || q))
 keep-both true true q r f h = refl
 keep-both true false q r f h = absurd (false≢true (f refl))
 keep-both false p q r f h = h
 
-drop-both : (s p q r : Bool) → (s ≡ true → p ≡ false) → r ≡ cond p q false → r ≡ cond p (cond s true q) false
+drop-both : (s p q r : Bool) → (s ≡ true → p ≡ false) → r ≡ (p && q) → r ≡ (p && (s || q))
 drop-both true true q r f h = absurd (true≢false (f refl))
 drop-both true false q r f h = h
 drop-both false p q r f h = h
 
-only-step : (c : Bool) (f : Identity → Bool) (j : Identity) (x : Mark) (xs rest : List Mark) → f (idOf x) ≡ c → member j rest ≡ cond (f j) (member j xs) false
-    → member j (cond c (x ∷ rest) rest) ≡ cond (f j) (member j (x ∷ xs)) false
+only-step : (c : Bool) (f : Identity → Bool) (j : Identity) (x : Mark) (xs rest : List Mark) → f (idOf x) ≡ c → member j rest ≡ (f j && member j xs)
+    → member j (cond c (x ∷ rest) rest) ≡ (f j && member j (x ∷ xs))
 unfolding member
 only-step true f j x xs rest e h = keep-both (sameId j (idOf x)) (f j) (member j xs) (member j rest) (λ p. same-passes f j (idOf x) p ∙ e) h
 only-step false f j x xs rest e h = drop-both (sameId j (idOf x)) (f j) (member j xs) (member j rest) (λ p. same-passes f j (idOf x) p ∙ e) h
 
 -- those whose identity passes a test: what it carried and passes
-pub member-only : (f : Identity → Bool) (j : Identity) (l : List Mark) → member j (only (λ m. f (idOf m)) l) ≡ cond (f j) (member j l) false
+pub member-only : (f : Identity → Bool) (j : Identity) (l : List Mark) → member j (only (λ m. f (idOf m)) l) ≡ (f j && member j l)
 unfolding member only
-member-only f j [] = none-either (f j)
+member-only f j [] = sym (and-false (f j))
 member-only f j (x ∷ xs) = only-step (f (idOf x)) f j x xs (only (λ m. f (idOf m)) xs) refl (member-only f j xs)
 
-cond-not : {A : Type 0} (a : Bool) (x y : A) → cond (not a) x y ≡ cond a y x
-cond-not true x y = refl
-cond-not false x y = refl
-
 -- without an identity: all that it carried but that
-pub member-remove : (j i : Identity) (l : List Mark) → member j (removeMark i l) ≡ cond (sameId j i) false (member j l)
-member-remove j i l =
-    member-only (λ x. not (sameId i x)) j l ∙ cond-not (sameId i j) (member j l) false ∙ ap (λ (a : Bool). cond a false (member j l)) (same-flip (stands i j) i j refl)
+pub member-remove : (j i : Identity) (l : List Mark) → member j (removeMark i l) ≡ (not (sameId j i) && member j l)
+member-remove j i l = member-only (λ x. not (sameId i x)) j l ∙ ap (λ (a : Bool). not a && member j l) (same-flip (stands i j) i j refl)
 
 -- in common: what both carry
-pub member-common : (j : Identity) (a b : List Mark) → member j (common a b) ≡ cond (member j b) (member j a) false
+pub member-common : (j : Identity) (a b : List Mark) → member j (common a b) ≡ (member j b && member j a)
 member-common j a b = member-only (λ i. member i b) j a
 
 -- ---- the winner

@@ -1,7 +1,7 @@
 -- Two laws as a tank uses them: when two marks are one, and an identity that the table has not is in no set.
 use Prim.Native.Nat.{ℕ, zero, suc, _/_, _%_}
 use mathlib.Core.Path.{_≡_, refl}
-use mathlib.Core.Bool.{Bool, true, false, cond}
+use mathlib.Core.Bool.{Bool, true, false, _||_}
 use mathlib.Core.List.{List, [], _∷_}
 use Rattle.styles.specs.declared.Identity.{Identity}
 use Rattle.styles.specs.declared.Mark.{Mark}
@@ -15,7 +15,7 @@ mark-eq a b e f g =
     λ i. record { key = e i .key; flags = f i; lamport = e i .lamport; peer = e i .peer; value = g i }
 
 -- ---- an identity that the table has not is in no set
-split-member : (a b : Bool) → cond a true b ≡ false → (a ≡ false) × (b ≡ false)
+split-member : (a b : Bool) → (a || b) ≡ false → (a ≡ false) × (b ≡ false)
 split-member true b e = (cc, cc)
 split-member false b e = (refl, e)
 

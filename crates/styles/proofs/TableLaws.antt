@@ -1,7 +1,7 @@
 -- The sorted table: where an identity stands, and a mark put in at its place.
 use Prim.Native.Nat.{ℕ, zero, suc, _+_, _-_, _≤_, _<_}
 use mathlib.Core.Path.{_≡_, refl, sym, ap, ap₂, _∙_, subst}
-use mathlib.Core.Bool.{true, false, cond, true≢false, and-false}
+use mathlib.Core.Bool.{true, false, cond, _&&_, _||_, true≢false, and-false}
 use mathlib.Core.List.{List, [], _∷_, _++_}
 use native.Mathlib.Omega.{arith}
 use native.Mathlib.Numerals.{add-one}
@@ -57,13 +57,13 @@ place-le j (m ∷ ms) = let ih = place-le j ms in
 
 -- the table carries an identity exactly where it has it at that place
 pub member-at : (j : Identity) (t : List Mark) (d : Mark) → Sorted t
-    → member j t ≡ cond (ltb (placeOf j t) (length t)) (sameId j (idOf (getD t (placeOf j t) d))) false
+    → member j t ≡ (ltb (placeOf j t) (length t) && sameId j (idOf (getD t (placeOf j t) d)))
 unfolding member placeOf Sorted
 member-at j [] d h = refl
 member-at j (m ∷ ms) d h =
     let ih = member-at j ms d (h .1) in
     place-cases (stands (idOf m) j) (placeOf j ms)
-    (λ x. cond (sameId j (idOf m)) true (member j ms) ≡ cond (ltb x (suc (length ms))) (sameId j (idOf (getD (m ∷ ms) x d))) false)
+    (λ x. (sameId j (idOf m) || member j ms) ≡ (ltb x (suc (length ms)) && sameId j (idOf (getD (m ∷ ms) x d))))
     (λ e. rw (less-flip (idOf m) j e, leb·suc-suc (suc (placeOf j ms)) (length ms)) ih)
     (λ e. rw (same-flip (idOf m) j e, lt-ltb 0 (suc (length ms)) (omega arith)))
     (λ e.

@@ -1,7 +1,7 @@
 -- A set of marks is a list of them, sorted by identity: what it carries, what edits make of it, and the winner for a key.
 use Prim.Native.Nat.{ℕ, zero, suc, _+_}
 use mathlib.Core.Path.{_≡_}
-use mathlib.Core.Bool.{Bool, true, false, cond, _&&_, not}
+use mathlib.Core.Bool.{Bool, true, false, cond, _&&_, _||_, not}
 use mathlib.Core.List.{List, [], _∷_, _++_}
 use Rattle.styles.specs.declared.Identity.{Identity}
 use Rattle.styles.specs.declared.Mark.{Mark}
@@ -18,7 +18,7 @@ use Rattle.styles.specs.Order.{stands, then, numbers, isBefore, idOf, le
 
 -- the same content: the flag byte and the very same value
 unfoldable pub sameContent : Mark → Mark → Bool
-sameContent a b = cond (eqb (a .flags) (b .flags)) (sameValue (a .value) (b .value)) false
+sameContent a b = eqb (a .flags) (b .flags) && sameValue (a .value) (b .value)
 
 -- ---- Sets, and what they carry
 -- each mark of the list comes after the identity
@@ -35,14 +35,14 @@ Sorted (m ∷ ms) = Above (idOf m) ms × Sorted ms
 -- the identity is carried
 unfoldable pub member : Identity → List Mark → Bool
 member i [] = false
-member i (m ∷ ms) = cond (sameId i (idOf m)) true (member i ms)
+member i (m ∷ ms) = sameId i (idOf m) || member i ms
 
 -- two sets are the same, by identity: as many marks, and the same identities in order
 unfoldable pub sameMarks : List Mark → List Mark → Bool
 sameMarks [] [] = true
 sameMarks [] (y ∷ ys) = false
 sameMarks (x ∷ xs) [] = false
-sameMarks (x ∷ xs) (y ∷ ys) = cond (sameId (idOf x) (idOf y)) (sameMarks xs ys) false
+sameMarks (x ∷ xs) (y ∷ ys) = sameId (idOf x) (idOf y) && sameMarks xs ys
 
 -- ---- What edits make of sets
 -- a mark against the first of a set: before it, the same identity, or among the rest
@@ -83,7 +83,7 @@ keyIs k m = eqb (m .key) k
 -- some mark has the key
 unfoldable pub hasKey : ℕ → List Mark → Bool
 hasKey k [] = false
-hasKey k (m ∷ ms) = cond (keyIs k m) true (hasKey k ms)
+hasKey k (m ∷ ms) = keyIs k m || hasKey k ms
 
 -- of two marks with one key the second wins: the greater lamport, then the greater peer
 abbrev pub later : Mark → Mark → Bool

@@ -1,7 +1,7 @@
 -- A deletion leaves no more runs than there were: counted from the positions of any tank, whatever stores it.
 use Prim.Native.Nat.{ℕ, zero, suc, _+_, _-_, _≤_, _<_}
 use mathlib.Core.Path.{_≡_, refl, sym, ap, ap₂, _∙_}
-use mathlib.Core.Bool.{Bool, true, false, cond, false≢true}
+use mathlib.Core.Bool.{Bool, true, false, cond, false≢true, and-eq-true-iff}
 use mathlib.Core.List.{List, [], _∷_}
 use native.Mathlib.Omega.{arith}
 use native.Mathlib.Decide.{ℕ-discrete}
@@ -13,7 +13,6 @@ use Rattle.styles.specs.declared.Stand.the-variants.{Same}
 use Rattle.styles.specs.Marks.{sameMarks}
 use Rattle.styles.proofs.OrderLaws.{is-same-of, same-eq}
 use Rattle.styles.proofs.SameLaws.{same-marks-self}
-use Rattle.styles.proofs.ValueLaws.{both-hold}
 use Rattle.runs.specs.Positions.{sumBelow, starts, stretchCount}
 use Rattle.runs.proofs.StretchLaws.{stretch-count-ext}
 use Rattle.tank.specs.Rules.{View, afterDelete, alike, runsHeld}
@@ -26,8 +25,8 @@ same-chain [] (y ∷ ys) zs e f = absurd (false≢true e)
 same-chain (x ∷ xs) [] zs e f = absurd (false≢true e)
 same-chain (x ∷ xs) (y ∷ ys) [] e f = f
 same-chain (x ∷ xs) (y ∷ ys) (z ∷ zs) e f =
-    let p = both-hold (sameId (idOf x) (idOf y)) (sameMarks xs ys) e in
-    let q = both-hold (sameId (idOf y) (idOf z)) (sameMarks ys zs) f in
+    let p = and-eq-true-iff (sameId (idOf x) (idOf y)) (sameMarks xs ys) .0 e in
+    let q = and-eq-true-iff (sameId (idOf y) (idOf z)) (sameMarks ys zs) .0 f in
     let i = same-eq (idOf x) (idOf y) (is-same-of (stands (idOf x) (idOf y)) (p .0)) in
     let s : stands (idOf x) (idOf z) ≡ Same = ap (λ k. stands k (idOf z)) i ∙ is-same-of (stands (idOf y) (idOf z)) (q .0) in
     rw s (same-chain xs ys zs (p .1) (q .1))

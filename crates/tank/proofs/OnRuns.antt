@@ -1,7 +1,7 @@
 -- The rules computed on runs over a sorted table of marks: where a tank has more positions than can be looked at, its runs can be.
 use Prim.Native.Nat.{ℕ, _+_, _<_}
 use mathlib.Core.Path.{_≡_, refl, sym, ap, _∙_}
-use mathlib.Core.Bool.{Bool, true, false, cond, _&&_, not}
+use mathlib.Core.Bool.{Bool, true, false, cond, _&&_, not, and-eq-true-iff}
 use mathlib.Core.List.{List}
 use native.Mathlib.Omega.{arith}
 use lib.Dec.{ltb, leb}
@@ -18,7 +18,7 @@ use Rattle.runs.proofs.Copies.{adding, altered, deleted, inserted}
 use Rattle.runs.specs.Gather.{gather}
 use Rattle.runs.specs.Scan.{commonAt}
 use Rattle.runs.proofs.EditLaws.{canon-altered, canon-deleted, canon-inserted}
-use Rattle.runs.proofs.ScanLaws.{and-true, stretch-le}
+use Rattle.runs.proofs.ScanLaws.{stretch-le}
 use Rattle.tank.specs.Rules.{Edit, annotating, inserting, deleting, removing, afterInsert, afterDelete, afterRemove, backFrom, after, empty, over, long, notNumber, clash, clashes, full, refusal, afterCall}
 use Rattle.tank.specs.State.{viewOf}
 use Rattle.tank.proofs.Carried.{gathered-is}
@@ -99,7 +99,7 @@ module _ (ms : List Mark) (sorted : Sorted ms) where
       → after e (viewOf t (total rs) ms rs) ≡ viewOf (touchedAfter e t) (total (runsAfter ms e t rs)) ms (runsAfter ms e t rs)
   unfolding known empty over after afterRemove runsAfter touchedAfter afterInsert afterDelete
   after-on (annotating a b m) t rs k n o =
-      let j = and-true (member (idOf m) ms) (not (clash m ms)) k in
+      let j = and-eq-true-iff (member (idOf m) ms) (not (clash m ms)) .0 k in
       let up = leb-false b a n in
       let same = known-is m ms sorted (j .0) (not-true (clash m ms) (j .1)) in
       sym

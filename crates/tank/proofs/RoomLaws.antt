@@ -1,7 +1,7 @@
 -- How a mark stands to a sorted table, and what each case says.
 use Prim.Native.Nat.{ℕ, suc, _<_}
 use mathlib.Core.Path.{_≡_, refl, sym, ap, _∙_}
-use mathlib.Core.Bool.{Bool, true, false, cond, not}
+use mathlib.Core.Bool.{Bool, true, false, cond, _||_, not}
 use mathlib.Core.List.{List, [], _∷_}
 use native.Mathlib.Omega.{arith}
 use native.Mathlib.Decide.{decLt}
@@ -25,7 +25,7 @@ use Rattle.tank.specs.Steps.{roomFor}
 use Rattle.tank.proofs.Shape.{no-path}
 
 -- ---- a table that has not the identity has no clash with it
-no-clash-step : (a b c d : Bool) → cond a true b ≡ false → (b ≡ false → c ≡ false) → cond a d c ≡ false
+no-clash-step : (a b c d : Bool) → (a || b) ≡ false → (b ≡ false → c ≡ false) → cond a d c ≡ false
 no-clash-step true b c d e h = no-path e
 no-clash-step false b c d e h = h e
 
@@ -52,7 +52,7 @@ place-id ms id sorted e = sym (same-eq id _ (is-same-of _ (place-there ms id sor
 -- there is the one mark to clash with
 clash-step : (s : Stand) (m x : Mark) (c n r : Bool) (p : ℕ) (xs : List Mark) → stands (idOf x) (idOf m) ≡ s
     → (member (idOf m) xs ≡ true → c ≡ not (sameContent m (getD xs p blank))) → Sorted (x ∷ xs)
-    → cond (sameId (idOf m) (idOf x)) true (member (idOf m) xs) ≡ true
+    → (sameId (idOf m) (idOf x) || member (idOf m) xs) ≡ true
     → cond (sameId (idOf m) (idOf x)) (not (sameContent m x)) c ≡ not (sameContent m (getD (x ∷ xs) (cond (isBefore s) (suc p) 0) blank))
 unfolding Sorted Above
 clash-step Before m x c n r p xs e ih h k =

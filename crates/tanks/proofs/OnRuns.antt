@@ -1,7 +1,7 @@
 -- The rules over eight tanks computed on runs over one sorted table of marks: a tank has more positions than can be looked at, its runs can be.
 use Prim.Native.Nat.{ℕ, zero, suc, _<_, _^_}
 use mathlib.Core.Path.{_≡_, refl, sym, ap, _∙_, fun-ext}
-use mathlib.Core.Bool.{Bool, true, false, cond, _&&_}
+use mathlib.Core.Bool.{Bool, true, false, cond, _&&_, and-eq-true-iff}
 use mathlib.Core.List.{List, [], _∷_, map}
 use native.Mathlib.Omega.{arith}
 use native.Mathlib.Decide.{decLt}
@@ -25,7 +25,7 @@ use Rattle.tanks.specs.declared.Setting.{Setting}
 use Rattle.tanks.specs.Settings.{accepted, judgement}
 use Rattle.tanks.specs.House.{House, tankAt, held, opening, noTank, refusalAt, withTank, afterAt, Call, afterAll}
 use Rattle.tanks.proofs.CallLaws.{first-when}
-use Rattle.tanks.proofs.SettingLaws.{both, first-zero}
+use Rattle.tanks.proofs.SettingLaws.{first-zero}
 
 -- ---- tanks on runs
 pub record Kept : Type 0 where
@@ -128,7 +128,7 @@ own-zero false n m h = first-zero n m h
 pub tried-clear : (ms : List Mark) (w : Way) (t : ℕ) (e : Edit) → tried ms w t e .clear ≡ true
     → (w .clear ≡ true) × ((may ms e (keptAfter ms e (keptAt (w .kept) t)) && eqb (numberOn ms e (keptAt (w .kept) t .touched) (keptAt (w .kept) t .runs)) 0) ≡ true)
 unfolding tried
-tried-clear ms w t e m = both (w .clear) _ m
+tried-clear ms w t e m = and-eq-true-iff (w .clear) _ .0 m
 
 module _ (ms : List Mark) (sorted : Sorted ms) where
   fresh-is : freshView ≡ viewOn ms fresh
@@ -185,13 +185,13 @@ module _ (ms : List Mark) (sorted : Sorted ms) where
 
         is-known : known ms e ≡ true
         unfolding may
-        is-known = both (known ms e) _ ok .0
+        is-known = and-eq-true-iff (known ms e) _ .0 ok .0
 
         new-fit : Fit ms new
         unfolding may
         new-fit = record {
           canon = canon-after ms e (keptAt ks t .touched) (keptAt ks t .runs) (f t .canon);
-          inside = ltb-true (gather (new .runs)) (2 ^ length ms) (both (known ms e) _ ok .1);
+          inside = ltb-true (gather (new .runs)) (2 ^ length ms) (and-eq-true-iff (known ms e) _ .0 ok .1);
         }
 
         pub number-on : refusalAt h t e ≡ numberAt st ms ks t e
@@ -240,14 +240,14 @@ module _ (ms : List Mark) (sorted : Sorted ms) where
           → (may ms e (keptAfter ms e (keptAt ks t)) && eqb (numberOn ms e (keptAt ks t .touched) (keptAt ks t .runs)) 0) ≡ true
           → (refusal e (tankAt h t) ≡ 0) × (runsHeld (after e (tankAt h t)) ≡ length (keptAfter ms e (keptAt ks t) .runs))
       own-on t e f ok =
-          let b = both (may ms e (keptAfter ms e (keptAt ks t))) _ ok in
+          let b = and-eq-true-iff (may ms e (keptAfter ms e (keptAt ks t))) _ .0 ok in
           own-by t e f (b .0) (eqb-true (numberOn ms e (keptAt ks t .touched) (keptAt ks t .runs)) 0 (b .1))
 
     -- ---- calls one after another
     pub step-clear : (w : Way) (t : ℕ) (e : Edit) → step st ms w t e .clear ≡ true
         → (w .clear ≡ true) × (may ms e (keptAfter ms e (keptAt (w .kept) t)) ≡ true)
     unfolding step
-    step-clear w t e m = both (w .clear) _ m
+    step-clear w t e m = and-eq-true-iff (w .clear) _ .0 m
 
     pub steps-clear : (w : Way) (cs : List Call) → steps st ms w cs .clear ≡ true → w .clear ≡ true
     unfolding steps

@@ -8,7 +8,7 @@ use lib.ListN.{length, take, set, replicate, getD-replicate, List·getD-append}
 use lib.Seq.{drop-cons, getD-append-add}
 use Rattle.styles.specs.Marks.{blank}
 use Rattle.runs.specs.Runs.{Spare}
-use Rattle.runs.specs.Positions.{sumBelow}
+use Rattle.runs.specs.Positions.{sumBelow, allAt}
 use Rattle.runs.proofs.SumLaws.{sum-same}
 use Rattle.tank.specs.declared.Tank.{Tank}
 use Rattle.tank.specs.Rules.{freshLength, freshView}
@@ -19,7 +19,7 @@ use Rattle.tanks.specs.declared.Setting.{Setting}
 use Rattle.tanks.specs.declared.Head.{Head}
 use Rattle.tanks.specs.declared.Run as pool
 use Rattle.tanks.specs.declared.Table.{Table}
-use Rattle.tanks.specs.Settings.{accepted, allKeepRule, shareOf, shares, claim, claims}
+use Rattle.tanks.specs.Settings.{accepted, shareOf, shares, claim, claims}
 use Rattle.tanks.specs.House.{smallest, openNumber, opening}
 use Rattle.tanks.specs.Pool.{noHead, noRun, noTable, runsIn, runsBelow, ownRuns, zeroFilled, tankIn, tankOf, headOf, tableIn, meaning, Sound, freshly}
 use Rattle.tanks.specs.Contracts.{Opens}
@@ -110,7 +110,7 @@ module _ (st : List Setting) where
     }
 
 pub ones-ok : accepted (replicate 8 smallest) ≡ true
-unfolding accepted allKeepRule sumBelow
+unfolding accepted allAt sumBelow
 ones-ok = refl
 
 pub opens-2 : (st : List Setting) → accepted st ≡ false → Opens st (record { number = 2; tanks = freshly (replicate 8 smallest) })

@@ -1,11 +1,10 @@
 -- The laws of the settings' rule and of the judgement.
-use Prim.Native.Nat.{ℕ, zero, suc, _+_, _≤_, _<_, max}
-use mathlib.Core.Path.{_≡_, refl, ap, sym, subst}
-use mathlib.Core.Bool.{Bool, true, false, cond, _&&_}
+use Prim.Native.Nat.{ℕ, _+_, _≤_, _<_, max}
+use mathlib.Core.Path.{_≡_, refl, sym, ap, _∙_, subst}
+use mathlib.Core.Bool.{Bool, true, false, cond, _&&_, and-eq-true-iff, true≢false}
 use mathlib.Core.List.{List}
 use native.Mathlib.Omega.{arith}
 use native.Mathlib.Decide.{decLt, decLe}
-use native.Mathlib.Numerals.{add-one}
 use lib.Dec.{leb, eqb}
 use borrow.Author.Tests.{leb-true, eqb-true, le-leb, lt-ltb, le-ltb, eqb-false, eq-eqb, ne-eqb}
 use lib.ListN.{getD, length, set}
@@ -15,6 +14,7 @@ use Rattle.tanks.specs.declared.Setting.{Setting}
 use Rattle.tanks.specs.declared.Head.{Head}
 use Rattle.tanks.specs.declared.Tanks.{Tanks}
 use Rattle.runs.specs.Positions.{sumBelow}
+use Rattle.runs.proofs.ScanLaws.{all-yes, all-every}
 use Rattle.runs.proofs.SumLaws.{sum-same, sum-least, sum-bound, sum-next}
 use Rattle.tank.specs.Rules.{first}
 use Rattle.tanks.specs.Pool.{tankIn, runsIn, runsBelow, tankOf, Sound}
@@ -23,10 +23,6 @@ use Rattle.tank.specs.declared.Tank.{Tank}
 use Rattle.tank.specs.State as state
 use Rattle.tanks.specs.Contracts.{Judged, Small}
 
-pub both : (a b : Bool) → a && b ≡ true → (a ≡ true) × (b ≡ true)
-both true b h = (refl, h)
-both false b h = (h, cc)
-
 pub record Keeps (s : Setting) : Type 0 where
   pub low : 1 ≤ s .share
   pub order : s .share ≤ s .limit
@@ -34,46 +30,41 @@ pub record Keeps (s : Setting) : Type 0 where
 
 pub keeps-facts : (s : Setting) → keepsRule s ≡ true → Keeps s
 keeps-facts s h =
-    let p = both (leb 1 (s .share)) (leb (s .share) (s .limit) && leb (s .limit) 512) h in
-    let q = both (leb (s .share) (s .limit)) (leb (s .limit) 512) (p .1) in
+    let p = and-eq-true-iff (leb 1 (s .share)) (leb (s .share) (s .limit) && leb (s .limit) 512) .0 h in
+    let q = and-eq-true-iff (leb (s .share) (s .limit)) (leb (s .limit) 512) .0 (p .1) in
     record { low = leb-true 1 (s .share) (p .0); order = leb-true (s .share) (s .limit) (q .0); high = leb-true (s .limit) 512 (q .1) }
 
-all-keep-at : (st : List Setting) (n u : ℕ) → allKeepRule st n ≡ true → u < n → Keeps (getD st u noSetting)
-unfolding allKeepRule
-all-keep-at st zero u h g = absurd (omega arith)
-all-keep-at st (suc n) u h g =
-    let p = both (allKeepRule st n) (keepsRule (getD st n noSetting)) h in
-    elim (decLt u n) [
-      | yes l ↦ all-keep-at st n u (p .0) l
-      | no l ↦ let e : u ≡ n = omega arith in rw e (keeps-facts (getD st n noSetting) (p .1))
-    ]
+module _ (st : List Setting) where
+  keeps : ℕ → Bool
+  keeps t = keepsRule (getD st t noSetting)
 
-pub all-keep-more : (st : List Setting) (n : ℕ) → allKeepRule st (n + 1) ≡ (allKeepRule st n && keepsRule (getD st n noSetting))
-unfolding allKeepRule
-all-keep-more st n = rw add-one
+  all-keep-at : (n u : ℕ) → allKeepRule st n ≡ true → u < n → Keeps (getD st u noSetting)
+  unfolding keeps
+  all-keep-at n u h g = keeps-facts (getD st u noSetting) (all-every keeps 0 n h u (omega arith) g)
 
--- one that does not keep it spoils all
-pub all-keep-not : (st : List Setting) (n u : ℕ) → u < n → keepsRule (getD st u noSetting) ≡ false → allKeepRule st n ≡ false
-unfolding allKeepRule
-all-keep-not st zero u g h = absurd (omega arith)
-all-keep-not st (suc n) u g h =
-    elim (decLt u n) [
-      | yes l ↦ rw (all-keep-not st n u l h)
-      | no l ↦ let e : n ≡ u = omega arith in rw (e, h) (last (allKeepRule st u))
-    ]
-  where
-    last : (b : Bool) → b && false ≡ false
-    last true = refl
-    last false = refl
+  pub all-keep-grown : (u : ℕ) → allKeepRule st u ≡ true → keepsRule (getD st u noSetting) ≡ true → allKeepRule st (u + 1) ≡ true
+  unfolding keeps
+  all-keep-grown u h g =
+      all-yes keeps 0 (u + 1)
+      (λ p a b. elim (decLt p u) [ yes l ↦ all-every keeps 0 u h p a l | no l ↦ let e : p ≡ u = omega arith in rw e g ])
+
+  -- one that does not keep it spoils all
+  all-keep-not : (n u : ℕ) → u < n → keepsRule (getD st u noSetting) ≡ false → allKeepRule st n ≡ false
+  unfolding keeps
+  all-keep-not n u g h = go (allKeepRule st n) refl
+    where
+      go : (b : Bool) → allKeepRule st n ≡ b → allKeepRule st n ≡ false
+      go true e = absurd (true≢false (sym (all-every keeps 0 n e u (omega arith) g) ∙ h))
+      go false e = e
 
 module _ (st : List Setting) (ok : accepted st ≡ true) where
   pub accepted-at : (u : ℕ) → u < 8 → Keeps (getD st u noSetting)
   unfolding accepted
-  accepted-at u h = all-keep-at st 8 u (both (allKeepRule st 8) (leb (shares st 8) 512) ok .0) h
+  accepted-at u h = all-keep-at st 8 u (and-eq-true-iff (allKeepRule st 8) (leb (shares st 8) 512) .0 ok .0) h
 
   pub accepted-sum : shares st 8 ≤ 512
   unfolding accepted
-  accepted-sum = leb-true (shares st 8) 512 (both (allKeepRule st 8) (leb (shares st 8) 512) ok .1)
+  accepted-sum = leb-true (shares st 8) 512 (and-eq-true-iff (allKeepRule st 8) (leb (shares st 8) 512) .0 ok .1)
 
 -- ---- claims
 pub claims-cong : (st : List Setting) (f g : ℕ → ℕ) (n : ℕ) → ((u : ℕ) → u < n → f u ≡ g u) → claims st f n ≡ claims st g n
@@ -130,9 +121,6 @@ module _ (s : Tanks) (ok : Sound s) where
 -- ---- the code's branches
 pub keeps-last : (s : Setting) → 1 ≤ s .share → s .share ≤ s .limit → leb (s .limit) 512 ≡ keepsRule s
 keeps-last s h g = rw (le-leb 1 (s .share) h, le-leb (s .share) (s .limit) g)
-
-pub all-keep-grown : (st : List Setting) (u : ℕ) → allKeepRule st u ≡ true → keepsRule (getD st u noSetting) ≡ true → allKeepRule st (u + 1) ≡ true
-all-keep-grown st u h g = rw (all-keep-more st u, h) g
 
 pub accepts-not : (st : List Setting) (u : ℕ) → u < 8 → keepsRule (getD st u noSetting) ≡ false → false ≡ accepted st
 unfolding accepted

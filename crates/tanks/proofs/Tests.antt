@@ -4,14 +4,14 @@ use mathlib.Core.Path.{_≡_, refl}
 use mathlib.Core.Bool.{true, false}
 use mathlib.Core.List.{[], _∷_}
 use lib.ListN.{replicate, getD, set}
-use Rattle.runs.specs.Positions.{sumBelow}
+use Rattle.runs.specs.Positions.{sumBelow, allAt}
 use Rattle.tank.specs.Rules.{deleting}
 use Rattle.tanks.specs.declared.Setting.{Setting}
 use Rattle.tanks.specs.declared.Head.{Head}
 use Rattle.tanks.specs.declared.Run.{Run}
 use Rattle.tanks.specs.declared.Count.{Count}
 use Rattle.tanks.specs.declared.YesNo.{YesNo}
-use Rattle.tanks.specs.Settings.{accepted, allKeepRule, claims, judgement}
+use Rattle.tanks.specs.Settings.{accepted, claims, judgement}
 use Rattle.tanks.specs.House.{freshHouse, smallest, openNumber, opening, askNumber, refusalAt}
 use Rattle.tanks.specs.Pool.{noRun, noTable, ownRuns, tankIn}
 use Rattle.tanks.specs.Contracts.{counts, says}
@@ -21,45 +21,45 @@ pair share limit = record { share = share; limit = limit }
 
 -- ---- the settings' rule: 1 <= share <= limit <= 512, and the shares sum to at most 512
 shares-40 : accepted (replicate 8 (pair 40 200)) ≡ true
-unfolding accepted allKeepRule sumBelow
+unfolding accepted allAt sumBelow
 shares-40 = refl
 
 shares-64 : accepted (replicate 8 (pair 64 512)) ≡ true
-unfolding accepted allKeepRule sumBelow
+unfolding accepted allAt sumBelow
 shares-64 = refl
 
 sum-520 : accepted (replicate 8 (pair 65 512)) ≡ false
-unfolding accepted allKeepRule sumBelow
+unfolding accepted allAt sumBelow
 sum-520 = refl
 
 share-0 : accepted (set (replicate 8 (pair 40 200)) 7 (pair 0 200)) ≡ false
-unfolding accepted allKeepRule sumBelow
+unfolding accepted allAt sumBelow
 share-0 = refl
 
 limit-513 : accepted (set (replicate 8 (pair 40 200)) 0 (pair 40 513)) ≡ false
-unfolding accepted allKeepRule sumBelow
+unfolding accepted allAt sumBelow
 limit-513 = refl
 
 share-over-limit : accepted (set (replicate 8 (pair 40 200)) 3 (pair 40 39)) ≡ false
-unfolding accepted allKeepRule sumBelow
+unfolding accepted allAt sumBelow
 share-over-limit = refl
 
 -- a number that is wider than 512 is not cut
 share-65537 : accepted (set (replicate 8 (pair 40 200)) 5 (pair 65537 65537)) ≡ false
-unfolding accepted allKeepRule sumBelow
+unfolding accepted allAt sumBelow
 share-65537 = refl
 
 -- ---- opening
 opens-0 : openNumber (replicate 8 (pair 40 200)) ≡ 0
-unfolding openNumber accepted allKeepRule sumBelow
+unfolding openNumber accepted allAt sumBelow
 opens-0 = refl
 
 opens-2 : openNumber (replicate 8 (pair 65 512)) ≡ 2
-unfolding openNumber accepted allKeepRule sumBelow
+unfolding openNumber accepted allAt sumBelow
 opens-2 = refl
 
 beside-2 : opening (replicate 8 (pair 65 512)) ≡ freshHouse (replicate 8 smallest)
-unfolding opening accepted allKeepRule sumBelow
+unfolding opening accepted allAt sumBelow
 beside-2 = refl
 
 -- ---- example 12: shares 40, limits 200

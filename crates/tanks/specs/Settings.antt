@@ -1,11 +1,11 @@
 -- Document 01, "Numbers" and refusals 2, 9 and 10: eight pairs of share and limit, the rule that they keep, and the judgement by how many
 -- runs each tank holds.
-use Prim.Native.Nat.{ℕ, zero, suc, max}
-use mathlib.Core.Bool.{Bool, true, cond, _&&_}
+use Prim.Native.Nat.{ℕ, max}
+use mathlib.Core.Bool.{Bool, cond, _&&_}
 use mathlib.Core.List.{List}
 use lib.Dec.{ltb, leb, eqb}
 use lib.ListN.{getD}
-use Rattle.runs.specs.Positions.{sumBelow}
+use Rattle.runs.specs.Positions.{sumBelow, allAt}
 use Rattle.tanks.specs.declared.Setting.{Setting}
 
 -- what stands where there is no pair
@@ -26,9 +26,8 @@ abbrev pub keepsRule : Setting → Bool
 keepsRule s = leb 1 (s .share) && (leb (s .share) (s .limit) && leb (s .limit) 512)
 
 -- each of the first n pairs keeps it
-unfoldable pub allKeepRule : List Setting → ℕ → Bool
-allKeepRule st zero = true
-allKeepRule st (suc n) = allKeepRule st n && keepsRule (getD st n noSetting)
+abbrev pub allKeepRule : List Setting → ℕ → Bool
+allKeepRule st n = allAt (λ t. keepsRule (getD st t noSetting)) 0 n
 
 -- the sum of the first n shares
 abbrev pub shares : List Setting → ℕ → ℕ

@@ -1,6 +1,6 @@
 -- The parsers are exact: a text is accepted where it is the text of a number below 2^64, and the answer is that number. So what is accepted is what is printed (`same-text`).
 use mathlib.Core.Path.{_≡_, refl, sym, ap, _∙_, subst}
-use mathlib.Core.Bool.{Bool, true, false, cond}
+use mathlib.Core.Bool.{Bool, true, false, cond, _&&_}
 use mathlib.Core.List.{List, [], _∷_, _++_}
 use Prim.Native.Nat.{ℕ, zero, suc, _+_, _-_, _*_, _/_, _%_, _^_, _≤_, _<_}
 use native.Mathlib.Nat.{div-div-eq-div-mul, div-one, div-eq-of-lt, div-le-self, div-add-mod', mul-add-div-right, add-mul-mod-self-right, mod-eq-of-lt, mod-lt, pow-zero, pow-suc, pow-succ', pow-le-pow-right, one-le-pow, le-div-iff-mul-le, div-lt-iff-lt-mul, one-mul, add-comm}
@@ -38,7 +38,7 @@ pub record Opened (b v c n : ℕ) (cs : List ℕ) : Type 0 where
   pub rest : numberFrom b (v * b + digitOf c) cs ≡ Parsed.Number n
 
 -- a step that is good passed its three tests
-stepped : (t u w : Bool) (n x : ℕ) → cond (cond t u false) (cond w (Parsed.Number n) Parsed.Bad) Parsed.Bad ≡ Parsed.Number x → (t ≡ true) × (u ≡ true) × (w ≡ true) × (x ≡ n)
+stepped : (t u w : Bool) (n x : ℕ) → cond (t && u) (cond w (Parsed.Number n) Parsed.Bad) Parsed.Bad ≡ Parsed.Number x → (t ≡ true) × (u ≡ true) × (w ≡ true) × (x ≡ n)
 stepped true true true n x e = (refl, refl, refl, (cc))
 stepped true true false n x e = let z : _≡_ {A = ℕ} 0 1 = cc in absurd (omega arith)
 stepped true false w n x e = let z : _≡_ {A = ℕ} 0 1 = cc in absurd (omega arith)

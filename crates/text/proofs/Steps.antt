@@ -1,6 +1,6 @@
 -- What the code's steps rest on: digits, glyphs, one digit more, and that digit after digit gives the number that the text spells (`number-from`).
 use mathlib.Core.Path.{_≡_, refl, sym, ap, _∙_}
-use mathlib.Core.Bool.{Bool, true, false, cond}
+use mathlib.Core.Bool.{Bool, true, false, cond, _&&_}
 use mathlib.Core.List.{List, [], _∷_}
 use Prim.Native.Nat.{ℕ, suc, _+_, _-_, _*_, _/_, _^_, _≤_, _<_}
 use native.Mathlib.Nat.{le-div-iff-mul-le, pow-zero, pow-succ', one-le-pow, zero-mul, mul-one, mul-assoc, add-mul, le-mul-of-pos-right}
@@ -108,7 +108,7 @@ module _ (b : ℕ) (one : 1 ≤ b) where
 
   from-cons : (v c : ℕ) (cs : List ℕ) (t : Bool) → ((w : ℕ) → w < 2 ^ 64 → numberFrom b w cs ≡ behind w cs)
       → followedBy (cond t (fitting (v * b + digitOf c)) Parsed.Bad) (λ w. numberFrom b w cs)
-      ≡ cond (cond t (allDigits b cs) false) (fitting (v * b ^ suc (length cs) + (digitOf c * b ^ length cs + valueIn b cs))) Parsed.Bad
+      ≡ cond (t && allDigits b cs) (fitting (v * b ^ suc (length cs) + (digitOf c * b ^ length cs + valueIn b cs))) Parsed.Bad
   from-cons v c cs false more = refl
   from-cons v c cs true more =
       let w : ℕ = v * b + digitOf c in

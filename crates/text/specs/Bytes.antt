@@ -1,6 +1,6 @@
 -- Byte strings: those of a word, what stands in front of a byte, and comparing two.
 use mathlib.Core.List.{List, [], _∷_}
-use mathlib.Core.Bool.{Bool, true, false, cond}
+use mathlib.Core.Bool.{Bool, true, false, cond, _&&_, _||_}
 use Prim.Native.Nat.{ℕ, zero, suc}
 use Prim.Native.Char.{code}
 use Prim.Native.String.{String, len, charAt}
@@ -24,15 +24,15 @@ upTo b (x ∷ xs) = cond (eqb x b) [] (x ∷ upTo b xs)
 -- b stands among them
 unfoldable pub holds : ℕ → List ℕ → Bool
 holds b [] = false
-holds b (x ∷ xs) = cond (eqb x b) true (holds b xs)
+holds b (x ∷ xs) = eqb x b || holds b xs
 
 -- a text starts with another
 unfoldable pub startsOf : List ℕ → List ℕ → Bool
 startsOf s [] = true
 startsOf [] (c ∷ p) = false
-startsOf (x ∷ s) (c ∷ p) = cond (eqb x c) (startsOf s p) false
+startsOf (x ∷ s) (c ∷ p) = eqb x c && startsOf s p
 
 -- two texts are the same: as long, and the one starts with the other
 unfoldable pub sameOf : List ℕ → List ℕ → Bool
 unfolding startsOf
-sameOf s t = cond (eqb (length s) (length t)) (startsOf s t) false
+sameOf s t = eqb (length s) (length t) && startsOf s t

@@ -1,7 +1,7 @@
 -- Numbers as text, in base b, over io's `digits`, `glyph` and `Fewest`: what the parsers answer, and what it is to be the text of a number.
 use mathlib.Core.Path.{_≡_}
 use mathlib.Core.List.{List, [], _∷_, _++_}
-use mathlib.Core.Bool.{Bool, true, false, cond}
+use mathlib.Core.Bool.{Bool, true, cond, _&&_}
 use Prim.Native.Nat.{ℕ, zero, suc, _+_, _-_, _*_, _/_, _^_}
 use lib.Dec.{ltb, eqb}
 use lib.ListN.{length, getD, take, drop}
@@ -14,12 +14,12 @@ digitOf c = cond (ltb c 58) (c - 48) (c - 87)
 
 -- a byte is the glyph of a digit below b
 abbrev pub isDigit : ℕ → ℕ → Bool
-isDigit b c = cond (ltb (digitOf c) b) (eqb (glyph (digitOf c)) c) false
+isDigit b c = ltb (digitOf c) b && eqb (glyph (digitOf c)) c
 
 -- each byte of a text is such a glyph
 unfoldable pub allDigits : ℕ → List ℕ → Bool
 allDigits b [] = true
-allDigits b (c ∷ cs) = cond (isDigit b c) (allDigits b cs) false
+allDigits b (c ∷ cs) = isDigit b c && allDigits b cs
 
 -- the value of a text of digits: each digit times b to the power of how many stand behind it
 unfoldable pub valueIn : ℕ → List ℕ → ℕ

@@ -1,7 +1,7 @@
 -- `scan::some_in` meets its contract. The invariant: no position before run k passes.
 use Prim.Native.Nat.{ℕ, _+_, _-_, _≤_, _<_, _^_, max}
 use mathlib.Core.Path.{_≡_, refl, sym, ap, _∙_}
-use mathlib.Core.Bool.{Bool, true, false, _&&_}
+use mathlib.Core.Bool.{Bool, true, false, _&&_, and-eq-true-iff}
 use mathlib.Core.List.{List}
 use native.Mathlib.Omega.{arith}
 use native.Mathlib.Decide.{decLt}
@@ -14,7 +14,7 @@ use Rattle.runs.specs.Positions.{anyAt}
 use Rattle.runs.specs.Scan.{passes, CanScan}
 use Rattle.runs.proofs.Copies.{clip}
 use Rattle.runs.proofs.Laws.{total-more, total-mono}
-use Rattle.runs.proofs.ScanLaws.{any-yes, any-no, at-run, and-true, and-false}
+use Rattle.runs.proofs.ScanLaws.{any-yes, any-no, at-run, and-false}
 use Rattle.runs.proofs.scan.some_in.Statement.{statement}
 use Rattle.runs.proofs.scan.some_in.Tie as tie
 use Rattle.runs.proofs.scan.some_in.Reads as reads
@@ -37,7 +37,7 @@ module _ {test : ℕ → Bool} {lens sets : List ℕ} {n from to k start : ℕ} 
 
   turn-found : (ltb 0 (clip from to start (getD lens k 0)) && test (getD sets k 0)) ≡ true → anyAt (λ p. test (setAt (runs lens sets n) p)) from to ≡ true
   turn-found e =
-      let b = and-true (ltb 0 (clip from to start (getD lens k 0))) (test (getD sets k 0)) e in
+      let b = and-eq-true-iff (ltb 0 (clip from to start (getD lens k 0))) (test (getD sets k 0)) .0 e in
       let some = ltb-true 0 (clip from to start (getD lens k 0)) (b .0) in
       any-yes (λ p. test (setAt (runs lens sets n) p)) from to (max from start) (omega arith) (omega arith) (on-run (max from start) (omega arith) (omega arith) ∙ b .1)
 

@@ -7,7 +7,7 @@ use mathlib.Core.Bool.{true}
 use lib.ListN.{getD}
 use borrow.Author.Tests.{not-true, not-false}
 use Rattle.tanks.specs.Settings.{noSetting, shareOf, keepsRule, allKeepRule, shares}
-use Rattle.runs.specs.Positions.{sumBelow}
+use Rattle.runs.specs.Positions.{sumBelow, allAt}
 use Rattle.runs.proofs.SumLaws.{sum-more}
 use Rattle.tanks.proofs.SettingLaws.{keeps-facts, all-keep-grown, accepts-not, accepts-last}
 use Rattle.tanks.proofs.settings.accepts.Statement.{statement}
@@ -23,7 +23,7 @@ abbrev μ-loop : tie.MeasureT-loop
 μ-loop settings sum₀ u₀ sum u = 8 - u
 
 loop-holds : tie.Need-loop-holds Inv-loop μ-loop
-unfolding sumBelow allKeepRule
+unfolding sumBelow allAt
 loop-holds c = (omega arith, refl, omega arith, refl)
 
 mul-s : tie.Need-mul-s Inv-loop μ-loop
