@@ -1,4 +1,4 @@
--- Squeezed sets and masks as the loops build them, one bit after another. That they are what specs/Bits says: `squeeze-is` (RankLaws) and
+-- Squeezed sets and masks as the loops build them, one bit after another. That they are what specs/Bits says: `squeeze-is` (SqueezeLaws) and
 -- `mask-is` (MaskLaws).
 use Prim.Native.Nat.{ℕ, zero, suc, _+_, _*_, _/_, _%_}
 use mathlib.Core.Bool.{Bool, true, false}

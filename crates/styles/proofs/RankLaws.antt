@@ -5,16 +5,13 @@ use mathlib.Core.Bool.{true≢false}
 use mathlib.Core.List.{List, [], _∷_}
 use native.Mathlib.Omega.{arith}
 use native.Mathlib.Decide.{decLt}
-use native.Mathlib.Nat.{pow-suc}
 use native.Mathlib.Numerals.{add-one}
 use lib.Count.{ones, ones-step, trailingZeros, under}
 use lib.ListN.{length, getD}
-use lib.Dec.{eqb}
-use lib.Pow.{field, mod-mod-pow, pow-pos}
+use lib.Pow.{field, mod-mod-pow}
 use borrow.Author.Tests.{eqb-true, eq-eqb}
 use Rattle.styles.specs.declared.Mark.{Mark}
-use Rattle.styles.specs.Bits.{keepBit, pick, hasBit, withoutBit, NthAt, NthBit, Squeezed}
-use Rattle.styles.proofs.Built.{squeeze, squeezeStep}
+use Rattle.styles.specs.Bits.{keepBit, pick, withoutBit, NthAt, NthBit}
 use Rattle.styles.proofs.BitLaws.{half-less, has-past}
 use Rattle.styles.proofs.CountLaws.{ones-none}
 use Rattle.styles.proofs.MaskLaws.{digit-next}
@@ -29,10 +26,10 @@ below-suc s i =
 none-below : (s : ℕ) → ones (s % 2 ^ 0) ≡ 0
 none-below s = let e : s % 2 ^ 0 ≡ 0 = omega arith in ap ones e ∙ ones-none
 
-nth-first : (s j : ℕ) → NthAt s j 0 → (s % 2 ≡ 1) × (j ≡ 0)
+pub nth-first : (s j : ℕ) → NthAt s j 0 → (s % 2 ≡ 1) × (j ≡ 0)
 nth-first s j h = let e = eqb-true (s / 2 ^ 0 % 2) 1 (h .there) in (omega arith, sym (h .below) ∙ none-below s)
 
-nth-down : (s j i : ℕ) → NthAt s j (suc i) → (k : ℕ) × (j ≡ s % 2 + k) × NthAt (s / 2) k i
+pub nth-down : (s j i : ℕ) → NthAt s j (suc i) → (k : ℕ) × (j ≡ s % 2 + k) × NthAt (s / 2) k i
 nth-down s j i h = (ones (s / 2 % 2 ^ i), sym (h .below) ∙ below-suc s i, record { there = sym (digit-next s i) ∙ h .there; below = refl })
 
 nth-up : (s j k i : ℕ) → s % 2 + k ≡ j → NthAt (s / 2) k i → NthAt s j (suc i)
@@ -132,39 +129,3 @@ pick-nth (m ∷ ms) s j zero d h g = let f = nth-first s j g in rw (f .0, f .1)
 pick-nth (m ∷ ms) s j (suc i) d h g =
     let n = nth-down s j i g in
     keep-at (s % 2) j (n .0) m d (pick ms (s / 2)) (omega arith) (n .1) ∙ pick-nth ms (s / 2) (n .0) i d (omega arith) (n .2)
-
--- ---- a squeezed set has at j what the set has at the mask's j-th set bit
-rank-step : (c b j l q : ℕ) → c < 2 → b < 2 → j ≡ c + l → hasBit j (squeezeStep c b q) ≡ hasBit l q
-rank-step zero b j l q h g e = let f : j ≡ l = omega arith in rw f
-rank-step (suc c) b j l q h g e =
-    let f : j ≡ suc l = omega arith in
-    let d : (q * 2 + b) / 2 ≡ q = omega arith in
-    rw f (digit-next (q * 2 + b) l ∙ ap (hasBit l) d)
-
-squeeze-bit : (k mask s j i : ℕ) → mask < 2 ^ k → NthAt mask j i → hasBit j (squeeze k mask s) ≡ hasBit i s
-unfolding squeeze
-squeeze-bit zero mask s j i h n = absurd (omega (arith, nth-within 0 mask j i h n))
-squeeze-bit (suc k) mask s j zero h n =
-    let f = nth-first mask j n in
-    let q : ℕ = squeeze k (mask / 2) (s / 2) in
-    let e : (q * 2 + s % 2) / 2 ^ 0 % 2 ≡ s / 2 ^ 0 % 2 = omega arith in
-    rw (f .0, f .1) (ap (λ (x : ℕ). eqb x 1) e)
-squeeze-bit (suc k) mask s j (suc i) h n =
-    let d = nth-down mask j i n in
-    rank-step (mask % 2) (s % 2) j (d .0) (squeeze k (mask / 2) (s / 2)) (omega arith) (omega arith) (d .1)
-    ∙ squeeze-bit k (mask / 2) (s / 2) (d .0) i (half-less k mask h) (d .2)
-    ∙ sym (digit-next s i)
-
-few-step : (c b q n : ℕ) → c < 2 → b < 2 → q < 2 ^ n → squeezeStep c b q < 2 ^ (c + n)
-few-step zero b q n h g l = let e : 0 + n ≡ n = omega arith in rw e l
-few-step (suc c) b q n h g l = let e : suc c + n ≡ suc n = omega arith in rw e (omega (arith, pow-suc 2 n))
-
-squeeze-few : (k mask s : ℕ) → squeeze k mask s < 2 ^ ones mask
-unfolding squeeze
-squeeze-few zero mask s = pow-pos (ones mask)
-squeeze-few (suc k) mask s =
-    rw (ones-step mask)
-    (few-step (mask % 2) (s % 2) (squeeze k (mask / 2) (s / 2)) (ones (mask / 2)) (omega arith) (omega arith) (squeeze-few k (mask / 2) (s / 2)))
-
-pub squeeze-is : (k mask s : ℕ) → mask < 2 ^ k → Squeezed mask s (squeeze k mask s)
-squeeze-is k mask s h = record { bits = λ j i n. squeeze-bit k mask s j i h n; past = squeeze-few k mask s }

@@ -1,6 +1,6 @@
 -- Each function of this crate has one answer: any two results that meet its statement are equal.
 -- Where the statement is an equation `r ≡ ..` that is `one-answer`; the functions that say it otherwise follow it.
-use Prim.Native.Nat.{ℕ, _^_, _<_}
+use Prim.Native.Nat.{ℕ}
 use mathlib.Core.Path.{_≡_, refl, sym, ap, _∙_}
 use mathlib.Core.Bool.{Bool}
 use mathlib.Core.List.{List}
@@ -13,8 +13,8 @@ use Rattle.styles.specs.declared.RankedBit.the-variants.{Past, At}
 use Rattle.styles.specs.declared.Mark.{Mark}
 use Rattle.styles.specs.Bits.{NthBit, Squeezed, MaskOf}
 use Rattle.styles.specs.Answers.{RankBit}
-use Rattle.styles.proofs.RankLaws.{nth-held, one-place, nth-there, squeeze-is}
-use Rattle.styles.proofs.Built.{squeeze, maskOf}
+use Rattle.styles.proofs.RankLaws.{nth-held, one-place, nth-there}
+use Rattle.styles.proofs.Built.{maskOf}
 use Rattle.styles.proofs.Digits.{below-pow, same-bits}
 use Rattle.styles.proofs.MaskLaws.{mask-is}
 
@@ -43,10 +43,6 @@ one-squeezed mask s r u h k =
     (λ j l.
     let n = nth-there mask mask j (below-pow mask) l in
     h .bits j (n .0) (n .1) ∙ sym (k .bits j (n .0) (n .1)))
-
--- and so it is the one that the loop builds
-pub squeeze-only : (k mask s r : ℕ) → mask < 2 ^ k → Squeezed mask s r → r ≡ squeeze k mask s
-squeeze-only k mask s r l h = one-squeezed mask s r (squeeze k mask s) h (squeeze-is k mask s l)
 
 -- `key_bits`, `value_bits`
 pub one-mask : (f : Mark → Bool) (ms : List Mark) (r u : ℕ) → MaskOf f ms r → MaskOf f ms u → r ≡ u

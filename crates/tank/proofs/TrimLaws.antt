@@ -19,9 +19,8 @@ use Rattle.styles.specs.Bits.{keepBit, pick, Squeezed}
 use Rattle.styles.proofs.Built.{squeeze}
 use Rattle.styles.proofs.BitLaws.{half-less}
 use Rattle.styles.proofs.CountLaws.{pick-length}
-use Rattle.styles.proofs.SqueezeLaws.{pick-squeeze}
+use Rattle.styles.proofs.SqueezeLaws.{pick-squeeze, squeeze-only}
 use Rattle.styles.proofs.UnionLaws.{squeeze-all, squeeze-none}
-use Rattle.styles.proofs.Unique.{squeeze-only}
 use Rattle.styles.proofs.WalkLaws.{sorted-pick, pick-length-le}
 use Rattle.runs.specs.Runs.{runs, total, setAt}
 use Rattle.runs.specs.Gather.{gather, Renumbered}
