@@ -13,7 +13,8 @@ use Rattle.styles.proofs.UnionLaws.{pick-none}
 use Rattle.runs.specs.Runs.{Run, total, setAt}
 use Rattle.runs.proofs.Laws.{at-in, at-last, at-past}
 use Rattle.runs.specs.Positions.{within}
-use Rattle.tank.proofs.ViewLaws.{cond-same, range-in, range-before, range-past}
+use Rattle.tank.proofs.ViewLaws.{range-in, range-before, range-past}
+use Rattle.styles.proofs.Cases.{cond-same, cond-by}
 use Rattle.ask.specs.Examples.{Range, on, marksAt}
 
 -- ---- the ranges of runs over a table, without those that carry nothing
@@ -36,11 +37,7 @@ below-append n m (x ∷ xs) ys h a b = let k = a .0 in (omega arith, below-appen
 
 below-range : (ms : List Mark) (start len set : ℕ) → Below (start + len) (rangeOf ms start len set)
 unfolding Below rangeOf
-below-range ms start len set = go (eqb set 0)
-  where
-    go : (b : Bool) → Below (start + len) (cond b [] (on start (start + len) (pick ms set) ∷ []))
-    go true = tt
-    go false = (omega arith, tt)
+below-range ms start len set = cond-by (Below (start + len)) (eqb set 0) tt (omega arith, tt)
 
 below-ranges : (ms : List Mark) (rs : List Run) → Below (total rs) (ranges ms rs)
 unfolding Below ranges total

@@ -11,6 +11,7 @@ use lib.Count.{ones}
 use lib.Dec.{ltb, leb}
 use lib.ListN.{length, getD, set, take, drop, length-append, length-drop}
 use lib.Seq.{sets-eq, take-at, drop-append-add, drop-drop}
+use Rattle.styles.proofs.Cases.{cond-by}
 use Rattle.runs.specs.Runs.{Run, run, runs, total}
 use Rattle.runs.specs.Positions.{stretch, asNumbers}
 use Rattle.runs.specs.Stretches.{entry, inFront}
@@ -32,11 +33,7 @@ entry-full least a b c h g = simp (lt-ltb a b h, le-leb least c g)
 -- it is the three numbers or nothing
 entry-by : (P : List ℕ → Type 0) (least a b c : ℕ) → P (a ∷ b ∷ c ∷ []) → P [] → P (entry least a b c)
 unfolding entry
-entry-by P least a b c some none = go (ltb a b && leb least c)
-  where
-    go : (t : Bool) → P (cond t (a ∷ b ∷ c ∷ []) [])
-    go true = some
-    go false = none
+entry-by P least a b c some none = cond-by P (ltb a b && leb least c) some none
 
 pub entry-most : (least a b c : ℕ) → length (entry least a b c) ≤ 3
 entry-most least a b c = entry-by (λ l. length l ≤ 3) least a b c (omega arith) (omega arith)

@@ -1,7 +1,7 @@
 -- The questions over a range: what `anyAt`, `allAt` and `stretchTo` say, and a turn of each loop over the runs.
 use Prim.Native.Nat.{ℕ, zero, suc, _+_, _-_, _^_, _≤_, _<_, min}
 use mathlib.Core.Path.{_≡_, refl, sym, ap, ap₂, _∙_}
-use mathlib.Core.Bool.{Bool, true, false, cond, not, _&&_, _||_, true≢false, and-eq-true-iff}
+use mathlib.Core.Bool.{Bool, true, false, cond, not, _&&_, _||_, true≢false, and-eq-true-iff, or-true}
 use mathlib.Core.List.{List}
 use native.Mathlib.Omega.{arith}
 use native.Mathlib.Decide.{decLt, decLe}
@@ -9,7 +9,7 @@ use native.Mathlib.Numerals.{sub-one}
 use lib.Dec.{ltb, leb, eqb}
 use lib.Bits.{bitAnd, and-zero-r}
 use lib.ListN.{length, getD}
-use borrow.Author.Tests.{ltb-true, lt-ltb, le-ltb, le-leb, lt-leb, eq-eqb, ne-eqb, not-false}
+use borrow.Author.Tests.{ltb-true, lt-ltb, le-ltb, le-leb, lt-leb, eq-eqb, ne-eqb, not-false, not-true}
 use Rattle.runs.specs.Runs.{Run, runs, total, setAt, sums}
 use Rattle.runs.specs.Positions.{anyAt, allAt, stretchTo}
 use Rattle.runs.specs.Scan.{meets, commonAt, CanLook}
@@ -17,13 +17,8 @@ use Rattle.runs.proofs.Copies.{clip}
 use Rattle.runs.proofs.Laws.{total-sums, found-set, at-past}
 
 -- ---- tests
-or-second : (a b : Bool) → b ≡ true → (a || b) ≡ true
-or-second true b e = refl
-or-second false b e = e
-
-pub and-false : (a b : Bool) → a ≡ true → (a && b) ≡ false → b ≡ false
-and-false true b h e = e
-and-false false b h e = absurd (true≢false (sym h))
+pub second-fails : (a b : Bool) → a ≡ true → (a && b) ≡ false → b ≡ false
+second-fails a b h e = ap (λ x. x && b) (sym h) ∙ e
 
 -- a set that meets a mask, and one that does not, as the code asks it
 pub some-bit : (s : ℕ) → not (eqb s 0) ≡ ltb 0 s
@@ -40,7 +35,7 @@ module _ (test : ℕ → Bool) (from : ℕ) where
   any-yes (suc q) p g h e =
       elim (decLt p q) [
         | yes k ↦ simp (any-yes q p g k e)
-        | no k ↦ let i : p ≡ q = omega arith in or-second (anyAt test from q) _ (simp (le-leb from q (omega arith)) (ap test (sym i) ∙ e))
+        | no k ↦ let i : p ≡ q = omega arith in ap (λ x. anyAt test from q || x) (simp (le-leb from q (omega arith)) (ap test (sym i) ∙ e)) ∙ or-true (anyAt test from q)
       ]
 
   pub any-no : (to : ℕ) → ((p : ℕ) → from ≤ p → p < to → test p ≡ false) → anyAt test from to ≡ false
@@ -99,16 +94,12 @@ all-is test from (suc q) =
     ap₂ (λ (x y : Bool). x && (y || test q)) (all-is test from q) (before-not from q)
     ∙ not-or (anyAt (λ p. not (test p)) from q) (leb from q) (test q)
 
-not-flip : (b c : Bool) → not b ≡ c → b ≡ not c
-not-flip true c e = ap not e
-not-flip false c e = ap not e
-
 module _ (test : ℕ → Bool) (from : ℕ) where
   pub all-yes : (to : ℕ) → ((p : ℕ) → from ≤ p → p < to → test p ≡ true) → allAt test from to ≡ true
   all-yes to h = all-is test from to ∙ ap not (any-no (λ p. not (test p)) from to (λ p a b. ap not (h p a b)))
 
   pub all-every : (to : ℕ) → allAt test from to ≡ true → (p : ℕ) → from ≤ p → p < to → test p ≡ true
-  all-every to e p g h = not-false (test p) (any-none (λ p. not (test p)) from to (not-flip _ _ (sym (all-is test from to) ∙ e)) p g h)
+  all-every to e p g h = not-false (test p) (any-none (λ p. not (test p)) from to (not-true _ (sym (all-is test from to) ∙ e)) p g h)
 
 pub all-ext : (test test′ : ℕ → Bool) (from to : ℕ) → ((p : ℕ) → from ≤ p → p < to → test p ≡ test′ p) → allAt test from to ≡ allAt test′ from to
 all-ext test test′ from to h =
@@ -212,7 +203,7 @@ module _ (lens sets : List ℕ) (n mask last k start : ℕ) (in-turn : k < n) (b
   back-missed e =
       let b = and-eq-true-iff (ltb 0 (clip 0 (last + 1) start (getD lens k 0))) _ .0 e in
       let some = ltb-true 0 (clip 0 (last + 1) start (getD lens k 0)) (b .0) in
-      sym (stretch-end test upto (omega arith) (on-run (upto - 1) (omega arith) (omega arith) ∙ not-flip (meets mask (getD sets k 0)) true (b .1)))
+      sym (stretch-end test upto (omega arith) (on-run (upto - 1) (omega arith) (omega arith) ∙ not-true (meets mask (getD sets k 0)) (b .1)))
 
   -- one that is not asked, or has a bit of it: the stretch begins where it did
   pub back-over : (from : ℕ) → from ≡ stretchTo (λ p. meets mask (setAt (runs lens sets n) p)) (min start (last + 1))
@@ -223,7 +214,7 @@ module _ (lens sets : List ℕ) (n mask last k start : ℕ) (in-turn : k < n) (b
       elim (decLt 0 (clip 0 (last + 1) start (getD lens k 0))) [
         | yes h ↦
             let i : min start (last + 1) ≡ start = omega arith in
-            let has = not-flip (meets mask (getD sets k 0)) false (and-false (ltb 0 (clip 0 (last + 1) start (getD lens k 0))) _ (lt-ltb 0 (clip 0 (last + 1) start (getD lens k 0)) h) e) in
+            let has = not-false (meets mask (getD sets k 0)) (second-fails (ltb 0 (clip 0 (last + 1) start (getD lens k 0))) _ (lt-ltb 0 (clip 0 (last + 1) start (getD lens k 0)) h) e) in
             so-far ∙ ap (stretchTo test) i ∙ sym (stretch-over test start upto (omega arith) (λ p a b. on-run p a (omega arith) ∙ has))
         | no h ↦
             let i : min start (last + 1) ≡ upto = omega arith in

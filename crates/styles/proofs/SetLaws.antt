@@ -7,6 +7,7 @@ use native.Mathlib.Omega.{arith}
 use lib.Dec.{eqb}
 use lib.ListN.{length, getD}
 use borrow.Author.Tests.{eqb-true, eqb-false}
+use Rattle.styles.proofs.Cases.{cond-by}
 use Rattle.styles.specs.declared.Identity.{Identity}
 use Rattle.styles.specs.declared.Mark.{Mark}
 use Rattle.styles.specs.declared.Stand.{Stand}
@@ -35,25 +36,15 @@ sorted-insert m (x ∷ xs) h =
     (λ e. above-insert (idOf x) m xs (more-flip (idOf m) (idOf x) e) (h .0))
     (sorted-insert m xs (h .1))
 
-above-more : (a : Bool) (i : Identity) (x : Mark) (xs : List Mark) → stands i (idOf x) ≡ Before → Above i xs → Above i (cond a (x ∷ xs) xs)
-unfolding Above
-above-more true i x xs h k = (h, k)
-above-more false i x xs h k = k
-
-sorted-more : (a : Bool) (x : Mark) (xs : List Mark) → Above (idOf x) xs → Sorted xs → Sorted (cond a (x ∷ xs) xs)
-unfolding Sorted
-sorted-more true x xs h k = (h, k)
-sorted-more false x xs h k = k
-
 above-only : (j : Identity) (f : Mark → Bool) (l : List Mark) → Above j l → Above j (only f l)
 unfolding Above only
 above-only j f [] h = tt
-above-only j f (x ∷ xs) h = above-more (f x) j x (only f xs) (h .0) (above-only j f xs (h .1))
+above-only j f (x ∷ xs) h = let k = above-only j f xs (h .1) in cond-by (Above j) (f x) (h .0, k) k
 
 pub sorted-only : (f : Mark → Bool) (l : List Mark) → Sorted l → Sorted (only f l)
 unfolding Sorted only
 sorted-only f [] h = tt
-sorted-only f (x ∷ xs) h = sorted-more (f x) x (only f xs) (above-only (idOf x) f xs (h .0)) (sorted-only f xs (h .1))
+sorted-only f (x ∷ xs) h = let k = sorted-only f xs (h .1) in cond-by Sorted (f x) (above-only (idOf x) f xs (h .0), k) k
 
 -- ---- what they carry
 swap : (a b c : Bool) → (a || (b || c)) ≡ (b || (a || c))

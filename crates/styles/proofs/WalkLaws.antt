@@ -21,6 +21,7 @@ use Rattle.styles.specs.Bits.{keepBit, pick, hasBit}
 use Rattle.styles.proofs.OrderLaws.{num-same}
 use Rattle.styles.proofs.PickLaws.{above-pick}
 use Rattle.styles.proofs.BitLaws.{half-shr}
+use Rattle.styles.proofs.CountLaws.{length-keep}
 
 -- ---- one mark more at the end of the table
 keep-append : (b : ℕ) (x : Mark) (xs ys : List Mark) → keepBit b x (xs ++ ys) ≡ keepBit b x xs ++ ys
@@ -47,14 +48,10 @@ module _ (t : List Mark) (s k : ℕ) (d : Mark) (within : k < length t) where
   pub next-set : hasBit k s ≡ true → pick (take (k + 1) t) s ≡ pick (take k t) s ++ getD t k d ∷ []
   next-set h = next ∙ (rw (eqb-true (s / 2 ^ k % 2) 1 h))
 
-length-keep-le : (b : ℕ) (m : Mark) (ms : List Mark) → length (keepBit b m ms) ≤ suc (length ms)
-length-keep-le zero m ms = omega arith
-length-keep-le (suc b) m ms = omega arith
-
 pub pick-length-le : (t : List Mark) (s : ℕ) → length (pick t s) ≤ length t
 unfolding pick
 pick-length-le [] s = omega arith
-pick-length-le (m ∷ ms) s = omega (arith, length-keep-le (s % 2) m (pick ms (s / 2)), pick-length-le ms (s / 2))
+pick-length-le (m ∷ ms) s = omega (arith, length-keep (s % 2) m (pick ms (s / 2)) (omega arith), pick-length-le ms (s / 2))
 
 -- ---- a mark kept: written over the first blank
 pub keep-turn : (p : List Mark) (m : Mark) (w : ℕ) → w ≡ length p → w < 64

@@ -1,7 +1,7 @@
 -- An annotate by its cases: a mark that the table has, and one that is new to it.
 use Prim.Native.Nat.{ℕ, zero, suc, _-_, _≤_, _<_, _^_}
 use mathlib.Core.Path.{_≡_, refl, sym, ap, _∙_}
-use mathlib.Core.Bool.{Bool, true, false, _&&_}
+use mathlib.Core.Bool.{true, false, true≢false, and-false}
 use mathlib.Core.List.{List, [], _∷_}
 use native.Mathlib.Omega.{arith}
 use native.Mathlib.Nat.{mod-eq-of-lt}
@@ -28,7 +28,6 @@ use Rattle.tank.specs.Steps.{Stepped, CanLay, CanAdmit, roomFor}
 use Rattle.tank.proofs.AdmitLaws.{place-fits}
 use Rattle.tank.proofs.Calls.{number-3, number-4, number-6, number-7, number-8, number-0, refused, made}
 use Rattle.tank.proofs.RoomLaws.{room-known, room-new, room-clash, room-full, no-clash, known-is, place-in}
-use Rattle.tank.proofs.Shape.{no-path}
 use Rattle.tank.proofs.Unique.{table-length, marks-carried, runs-held}
 
 -- what an edit made is in form, where every mark of the table is carried
@@ -38,12 +37,8 @@ formed-of {ms = ms} {r = r} s e a =
     record {
       laid = s .laid;
       whole = s .all-is ∙ a ∙ ap (λ (n : ℕ). 2 ^ n - 1) (ap length (sym (s .table-is)) ∙ table-length (s .laid));
-      fresh = λ q. no-path (sym (ap (λ (v : View). v .touched) (s .is) ∙ e) ∙ q);
+      fresh = λ q. absurd (true≢false (sym (ap (λ (v : View). v .touched) (s .is) ∙ e) ∙ q));
     }
-
-and-false : (b : Bool) → (b && false) ≡ false
-and-false true = refl
-and-false false = refl
 
 -- a bit that all have is there
 with-all : (n i : ℕ) → i < n → bitOr (2 ^ n - 1) (2 ^ i) ≡ 2 ^ n - 1

@@ -62,9 +62,3 @@ module _ {e : Edit} {t : Tank} where
 
   pub one-tank : {n m : ℕ} {u w : Tank} → Called e t n u → Called e t m w → u ≡ w
   one-tank c d = same-tank (c .formed) (d .formed) (c .is ∙ sym (d .is))
-
-  -- a refused call hands the very same tank back
-  pub refused-same : {n : ℕ} {u : Tank} → Sound t → Called e t n u → (n ≡ 0 → ⊥) → u ≡ t
-  refused-same s c h =
-      let z : eqb (refusal e (view t)) 0 ≡ false = ne-eqb (refusal e (view t)) 0 (λ q. h (c .number-is ∙ q)) in
-      same-tank (c .formed) (s .formed) (c .is ∙ simp z)

@@ -7,6 +7,7 @@ use native.Mathlib.Omega.{arith}
 use native.Mathlib.Decide.{ℕ-discrete}
 use lib.Dec.{ltb}
 use borrow.Author.Tests.{lt-ltb, le-ltb}
+use Rattle.styles.proofs.Cases.{cond-by}
 use Rattle.styles.specs.declared.Mark.{Mark}
 use Rattle.styles.specs.Order.{idOf, sameId, stands}
 use Rattle.styles.specs.declared.Stand.the-variants.{Same}
@@ -44,11 +45,7 @@ no-start false e = absurd (omega arith)
 starts-one : (f : ℕ → Bool) (n : ℕ) → starts f n ≤ 1
 unfolding starts
 starts-one f zero = omega arith
-starts-one f (suc n) = cond-one (f n)
-  where
-    cond-one : (b : Bool) → cond b 0 1 ≤ 1
-    cond-one true = omega arith
-    cond-one false = omega arith
+starts-one f (suc n) = cond-by (λ (x : ℕ). x ≤ 1) (f n) (omega arith) (omega arith)
 
 -- where no stretch starts behind position a, up to a + j, those two have one set
 along : (at : ℕ → List Mark) (a j : ℕ) → stretchCount (alike at) (suc a + j) ≡ stretchCount (alike at) (suc a) → sameMarks (at a) (at (a + j)) ≡ true

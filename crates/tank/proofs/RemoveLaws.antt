@@ -1,7 +1,7 @@
 -- A removal by its cases.
 use Prim.Native.Nat.{ℕ, zero, suc, _+_, _-_, _≤_, _<_, _^_}
 use mathlib.Core.Path.{_≡_, refl, sym, ap, _∙_}
-use mathlib.Core.Bool.{Bool, true, false}
+use mathlib.Core.Bool.{Bool, true, false, true≢false}
 use mathlib.Core.List.{List}
 use native.Mathlib.Omega.{arith}
 use native.Mathlib.Decide.{decLt}
@@ -28,7 +28,7 @@ use Rattle.tank.specs.State.{runsOf, tableOf, view, Laid, Formed, Sound,
 use Rattle.tank.specs.Steps.{Trimmed, CanStrip}
 use Rattle.tank.proofs.Calls.{number-4, number-0, refused, made}
 use Rattle.tank.proofs.RoomLaws.{place-in, place-id}
-use Rattle.tank.proofs.Shape.{no-path, can-look}
+use Rattle.tank.proofs.Shape.{can-look}
 use Rattle.tank.proofs.StripLaws.{meets-mark}
 use Rattle.tank.proofs.Unique.{table-length}
 use Rattle.tank.proofs.ViewLaws.{view-ext, range-before, range-past}
@@ -63,7 +63,7 @@ member-touched {t} f id m = go (t .touched) refl
   where
     go : (b : Bool) → t .touched ≡ b → b ≡ true
     go true e = refl
-    go false e = no-path (sym m ∙ no-member (t .marks) (t .table) id (untouched-none f e))
+    go false e = absurd (true≢false (sym m ∙ no-member (t .marks) (t .table) id (untouched-none f e)))
 
 module _ {t : Tank} (s : Sound t) (id : Identity) (last : ℕ) where
   pub remove-4 : t .length ≤ last → Gives t id last (record { number = 4; first = 0; tank = t })

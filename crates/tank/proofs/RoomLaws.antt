@@ -1,7 +1,7 @@
 -- How a mark stands to a sorted table, and what each case says.
 use Prim.Native.Nat.{ℕ, suc, _<_}
 use mathlib.Core.Path.{_≡_, refl, sym, ap, _∙_}
-use mathlib.Core.Bool.{Bool, true, false, cond, _||_, not}
+use mathlib.Core.Bool.{Bool, true, false, cond, _||_, not, true≢false}
 use mathlib.Core.List.{List, [], _∷_}
 use native.Mathlib.Omega.{arith}
 use native.Mathlib.Decide.{decLt}
@@ -22,11 +22,10 @@ use Rattle.styles.proofs.ValueLaws.{content-eq}
 use Rattle.tank.specs.declared.Room.the-variants.{Known, New, Clash, Full}
 use Rattle.tank.specs.Rules.{clash}
 use Rattle.tank.specs.Steps.{roomFor}
-use Rattle.tank.proofs.Shape.{no-path}
 
 -- ---- a table that has not the identity has no clash with it
 no-clash-step : (a b c d : Bool) → (a || b) ≡ false → (b ≡ false → c ≡ false) → cond a d c ≡ false
-no-clash-step true b c d e h = no-path e
+no-clash-step true b c d e h = absurd (true≢false e)
 no-clash-step false b c d e h = h e
 
 pub no-clash : (m : Mark) (ms : List Mark) → member (idOf m) ms ≡ false → clash m ms ≡ false
@@ -40,7 +39,7 @@ place-there ms id sorted e =
     let q = sym (member-at id ms blank sorted) ∙ e in
     elim (decLt (placeOf id ms) (length ms)) [
       | yes h ↦ (h, rw (lt-ltb (placeOf id ms) (length ms) h) at q)
-      | no h ↦ no-path (sym (rw (le-ltb (placeOf id ms) (length ms) (omega arith)) at q))
+      | no h ↦ absurd (true≢false (sym (rw (le-ltb (placeOf id ms) (length ms) (omega arith)) at q)))
     ]
 
 pub place-in : (ms : List Mark) (id : Identity) → Sorted ms → member id ms ≡ true → placeOf id ms < length ms
@@ -63,11 +62,11 @@ clash-step Same m x c n r p xs e ih h k =
     rw g
 clash-step After m x c n r p xs e ih h k =
     let g = more-flip (idOf x) (idOf m) e in
-    no-path (sym (rw g at k) ∙ not-member (idOf m) xs (above-trans (idOf m) (idOf x) xs g (h .0)))
+    absurd (true≢false (sym (rw g at k) ∙ not-member (idOf m) xs (above-trans (idOf m) (idOf x) xs g (h .0))))
 
 pub clash-at : (m : Mark) (ms : List Mark) → Sorted ms → member (idOf m) ms ≡ true → clash m ms ≡ not (sameContent m (getD ms (placeOf (idOf m) ms) blank))
 unfolding Sorted member clash placeOf
-clash-at m [] h e = no-path (sym e)
+clash-at m [] h e = absurd (true≢false (sym e))
 clash-at m (x ∷ xs) h e =
     clash-step (stands (idOf x) (idOf m)) m x (clash m xs) true true (placeOf (idOf m) xs) xs refl (clash-at m xs (h .1)) h e
 

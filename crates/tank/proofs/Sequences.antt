@@ -1,17 +1,18 @@
 -- Calls in a row, refused ones among them, on the rules alone: touched never turns back, and a touched tank's length is the sum of what was inserted and deleted.
 use Prim.Native.Nat.{ℕ, _+_}
-use mathlib.Core.Path.{_≡_, refl, sym, ap, _∙_, subst}
-use mathlib.Core.Bool.{Bool, true, false, cond, _&&_}
+use mathlib.Core.Path.{_≡_, refl, sym, ap, _∙_}
+use mathlib.Core.Bool.{Bool, true, false, cond, _&&_, false≢true}
 use mathlib.Core.List.{List, [], _∷_, _++_}
 use native.Mathlib.Omega.{arith}
-use lib.Dec.{T, eqb}
+use lib.Dec.{eqb}
 use borrow.Author.Tests.{ltb-false, eqb-true}
 use Rattle.styles.specs.declared.Identity.{Identity}
 use Rattle.styles.specs.Marks.{only}
 use Rattle.tank.specs.Rules.{View, freshLength, freshView, Edit, annotating, inserting, deleting, removing, afterAnnotate, afterInsert, afterDelete, afterRemove, stripped, after, empty, over, long, notNumber, clashes, full, refusal}
 use Rattle.runs.specs.Positions.{within}
 use Rattle.tank.specs.Lengths.{gained, lost, annotates}
-use Rattle.tank.proofs.ViewLaws.{view-ext, cond-same}
+use Rattle.tank.proofs.ViewLaws.{view-ext}
+use Rattle.styles.proofs.Cases.{cond-same}
 
 -- ---- calls on one tank in a row, refused ones among them
 -- a call on this tank: an edit, and whether it is granted where many tanks share the runs (refusals 9 and 10 are not this tank's own)
@@ -36,9 +37,6 @@ afterCalls (c ∷ cs) v = afterCalls cs (afterOne c v)
 unfoldable pub sumOf : (Edit → ℕ) → List OwnCall → View → ℕ
 sumOf f [] v = 0
 sumOf f (c ∷ cs) v = cond (acceptedBy c v) (f (c .edit)) 0 + sumOf f cs (afterOne c v)
-
-no-path : {A : Type 0} → false ≡ true → A
-no-path e = absurd (subst T (sym e) tt)
 
 -- ---- a call is refused, or is of some positions, within the length
 pub accepted-fits : (e : Edit) (v : View) → refusal e v ≡ 0 → (empty e ≡ false) × (over e v ≡ false)
@@ -103,7 +101,7 @@ data OnFresh (c : OwnCall) : Type 0 where
 
 edit-fresh : (e : Edit) → annotates e ≡ false → after e freshView ≡ freshView
 unfolding annotates after afterInsert afterDelete afterRemove freshView
-edit-fresh (annotating a b m) h = no-path (sym h)
+edit-fresh (annotating a b m) h = absurd (false≢true (sym h))
 edit-fresh (inserting pos len) h = refl
 edit-fresh (deleting a b) h = refl
 edit-fresh (removing id last) h = strip-fresh id _ _
@@ -123,9 +121,9 @@ record Touches (u : View) : Type 0 where
 edit-touches : (e : Edit) → annotates e ≡ true → Touches (after e freshView)
 unfolding annotates after afterAnnotate freshView
 edit-touches (annotating a b m) h = record { touched = refl; length = refl }
-edit-touches (inserting pos len) h = no-path h
-edit-touches (deleting a b) h = no-path h
-edit-touches (removing id last) h = no-path h
+edit-touches (inserting pos len) h = absurd (false≢true h)
+edit-touches (deleting a b) h = absurd (false≢true h)
+edit-touches (removing id last) h = absurd (false≢true h)
 
 call-touches : (c : OwnCall) → acceptedBy c freshView ≡ true → annotates (c .edit) ≡ true → Touches (afterOne c freshView)
 call-touches c g h = simp g (edit-touches (c .edit) h)
@@ -137,7 +135,7 @@ untouched-fresh [] t = refl
 untouched-fresh (c ∷ cs) t =
     elim (on-fresh c) [
       | idle e ↦ ap (afterCalls cs) e ∙ untouched-fresh cs (sym (ap (λ v. (afterCalls cs v) .touched) e) ∙ t)
-      | first g h ↦ no-path (sym t ∙ touched-stays cs (afterOne c freshView) (call-touches c g h .touched))
+      | first g h ↦ absurd (false≢true (sym t ∙ touched-stays cs (afterOne c freshView) (call-touches c g h .touched)))
     ]
 
 -- ---- the first accepted annotate of a fresh tank, among calls in a row

@@ -1,13 +1,13 @@
 -- What a step makes is laid out as a tank should be: the arrays, the table, the bounds.
-use Prim.Native.Nat.{ℕ, zero, suc, _+_, _≤_, _<_, _^_}
+use Prim.Native.Nat.{ℕ, _+_, _≤_, _<_, _^_}
 use mathlib.Core.Path.{_≡_, refl, sym, ap, _∙_, subst}
-use mathlib.Core.Bool.{Bool, true, false}
+use mathlib.Core.Bool.{Bool, true}
 use mathlib.Core.List.{List, [], _∷_}
 use native.Mathlib.Omega.{arith}
 use lib.Bits.{or-lt}
-use lib.Dec.{T}
-use lib.ListN.{length, getD, replicate}
+use lib.ListN.{length, replicate}
 use lib.Pow.{pow-pos}
+use Rattle.styles.proofs.Cases.{getD-blank}
 use Rattle.styles.specs.declared.Mark.{Mark}
 use Rattle.runs.specs.Runs.{Run, runs, total, setAt, Canon, Spare}
 use Rattle.runs.specs.Edits.{Joined, CanEdit}
@@ -20,18 +20,9 @@ use Rattle.tank.specs.Rules.{View}
 use Rattle.tank.specs.State.{runsOf, tableOf, viewOf, view, Laid}
 use Rattle.tank.specs.Steps.{Stepped}
 
-pub no-path : {A : Type 0} → true ≡ false → A
-no-path e = absurd (subst T e tt)
-
--- a new array holds one thing everywhere
-pub getD-same : {A : Type 0} (x : A) (k i : ℕ) → getD (replicate k x) i x ≡ x
-getD-same x zero i = refl
-getD-same x (suc k) zero = refl
-getD-same x (suc k) (suc i) = getD-same x k i
-
 pub all-spare : (k : ℕ) → Spare (replicate k 0) (replicate k 0) 0
 unfolding Spare
-all-spare k i h = (getD-same 0 k i, getD-same 0 k i)
+all-spare k i h = (getD-blank 0 k i, getD-blank 0 k i)
 
 -- where each position's set is small, all sets together are
 pub gather-small : (n : ℕ) (rs : List Run) → Canon rs → ((p : ℕ) → p < total rs → setAt rs p < 2 ^ n) → gather rs < 2 ^ n

@@ -1,7 +1,7 @@
 -- Marks that no position carries leave the table, and their bits leave every set: the tank means what it meant.
 use Prim.Native.Nat.{ℕ, zero, suc, _+_, _-_, _/_, _%_, _≤_, _<_, _^_}
 use mathlib.Core.Path.{_≡_, refl, sym, ap, _∙_}
-use mathlib.Core.Bool.{true}
+use mathlib.Core.Bool.{true, true≢false}
 use mathlib.Core.List.{List, [], _∷_, _++_}
 use native.Mathlib.Omega.{arith}
 use native.Mathlib.Nat.{pow-suc}
@@ -11,6 +11,7 @@ use lib.Count.{ones}
 use lib.ListN.{length, getD, take, replicate, length-append, length-replicate}
 use lib.Pow.{pow-mono, pow-pos}
 use lib.Seq.{take-at, getD-append-add}
+use Rattle.styles.proofs.Cases.{getD-blank}
 use Rattle.styles.specs.declared.Mark.{Mark}
 use Rattle.styles.specs.declared.Styles.{Styles}
 use Rattle.styles.specs.Answers.{stylesOf}
@@ -18,7 +19,7 @@ use Rattle.styles.specs.Marks.{blank}
 use Rattle.styles.specs.Bits.{keepBit, pick, Squeezed}
 use Rattle.styles.proofs.Built.{squeeze}
 use Rattle.styles.proofs.BitLaws.{half-less}
-use Rattle.styles.proofs.CountLaws.{pick-length}
+use Rattle.styles.proofs.CountLaws.{length-keep, pick-length}
 use Rattle.styles.proofs.SqueezeLaws.{pick-squeeze, squeeze-only}
 use Rattle.styles.proofs.UnionLaws.{squeeze-all, squeeze-none}
 use Rattle.styles.proofs.WalkLaws.{sorted-pick, pick-length-le}
@@ -31,21 +32,17 @@ use Rattle.runs.proofs.RenumberLaws.{canon-squeeze, gather-squeeze, sets-within
 use Rattle.tank.specs.declared.Tank.{Tank}
 use Rattle.tank.specs.State.{runsOf, tableOf, view, Numbers, Laid}
 use Rattle.tank.specs.Steps.{Trimmed}
-use Rattle.tank.proofs.Shape.{no-path, getD-same}
 use Rattle.tank.proofs.Unique.{table-length, inside-table}
 use Rattle.tank.proofs.ViewLaws.{view-renumbered}
 
 -- a set that keeps every mark of the table has every bit
-length-keep : (b : ℕ) (m : Mark) (ms xs : List Mark) → b < 2 → length xs ≤ length ms → length (keepBit b m xs) ≡ suc (length ms) → (b ≡ 1) × (length xs ≡ length ms)
-length-keep zero m ms xs h l e = absurd (omega arith)
-length-keep (suc b) m ms xs h l e = (omega arith, omega arith)
-
 pick-whole : (ms : List Mark) (s : ℕ) → s < 2 ^ length ms → length (pick ms s) ≡ length ms → s ≡ 2 ^ length ms - 1
 unfolding pick
 pick-whole [] s h e = omega arith
 pick-whole (m ∷ ms) s h e =
-    let k = length-keep (s % 2) m ms (pick ms (s / 2)) (omega arith) (pick-length-le ms (s / 2)) e in
-    omega (arith, k .0, pick-whole ms (s / 2) (half-less (length ms) s h) (k .1), pow-suc 2 (length ms), pow-pos (length ms))
+    let k = length-keep (s % 2) m (pick ms (s / 2)) (omega arith) in
+    let l = pick-length-le ms (s / 2) in
+    omega (arith, pick-whole ms (s / 2) (half-less (length ms) s h) (omega arith), pow-suc 2 (length ms), pow-pos (length ms))
 
 numbers-keep : (b : ℕ) (m : Mark) (xs ms : List Mark) → Numbers (m ∷ ms) → Numbers xs → Numbers (keepBit b m xs)
 unfolding Numbers
@@ -73,7 +70,7 @@ module _ {t : Tank} (f : Laid t) (e : t .touched ≡ true) where
               whole =
                   pick-whole (tableOf t) (gather (runsOf t)) (inside-table f) (l ∙ ap ones (sym g) ∙ c ∙ sym (table-length f))
                   ∙ ap (λ n. 2 ^ n - 1) (table-length f);
-              fresh = λ q. no-path (sym e ∙ q);
+              fresh = λ q. absurd (true≢false (sym e ∙ q));
             };
         is = refl;
       }
@@ -108,7 +105,7 @@ module _ {t : Tank} (f : Laid t) (e : t .touched ≡ true) where
     blanks i h =
         let k : length (pick (tableOf t) carried) + (i - kept .count) ≡ i = omega (arith, count-is) in
         ap (λ ms. getD ms i blank) table-is ∙ ap (λ x. getD (pick (tableOf t) carried ++ replicate (64 - kept .count) blank) x blank) (sym k)
-        ∙ getD-append-add (pick (tableOf t) carried) (replicate (64 - kept .count) blank) (i - kept .count) blank ∙ getD-same blank (64 - kept .count) (i - kept .count)
+        ∙ getD-append-add (pick (tableOf t) carried) (replicate (64 - kept .count) blank) (i - kept .count) blank ∙ getD-blank blank (64 - kept .count) (i - kept .count)
 
     within : (p : ℕ) → bitAnd (setAt (runsOf t) p) carried ≡ setAt (runsOf t) p
     within p =
@@ -148,7 +145,7 @@ module _ {t : Tank} (f : Laid t) (e : t .touched ≡ true) where
                       inside = omega (arith, whole, pow-pos (kept .count));
                     };
                 whole = whole;
-                fresh = λ q. no-path q;
+                fresh = λ q. absurd (true≢false q);
               };
           is =
               ap (λ b. record { length = t .length; touched = b; at = λ p. pick (take (kept .count) (kept .marks)) (setAt (runs (t .lens) sets (t .runs)) p) }) (sym e)

@@ -1,12 +1,13 @@
 -- The edits of run lists over a table of marks mean what the rules say, position by position.
 use Prim.Native.Nat.{ℕ, _+_, _-_, _≤_, _<_}
 use mathlib.Core.Path.{_≡_, refl, ap, _∙_, fun-ext}
-use mathlib.Core.Bool.{Bool, true, false, cond}
+use mathlib.Core.Bool.{Bool, true, cond}
 use mathlib.Core.List.{List}
 use native.Mathlib.Omega.{arith}
 use native.Mathlib.Decide.{decLe}
 use lib.Dec.{ltb}
 use borrow.Author.Tests.{lt-ltb, le-ltb, le-leb, lt-leb}
+use Rattle.styles.proofs.Cases.{cond-ap}
 use Rattle.styles.specs.declared.Identity.{Identity}
 use Rattle.styles.specs.declared.Mark.{Mark}
 use Rattle.styles.specs.Marks.{insertMark, removeMark}
@@ -21,16 +22,6 @@ use Rattle.tank.specs.State.{viewOf}
 -- two views are equal where they agree at each position
 pub view-ext : (u v : View) → u .length ≡ v .length → u .touched ≡ v .touched → ((p : ℕ) → u .at p ≡ v .at p) → u ≡ v
 view-ext u v l t h = λ i. record { length = l i; touched = t i; at = fun-ext h i }
-
--- two cases that are one
-pub cond-same : {A : Type 0} {x : A} (b : Bool) → cond b x x ≡ x
-cond-same true = refl
-cond-same false = refl
-
--- a function of two cases
-cond-ap : {A B : Type 0} (f : A → B) (c : Bool) (x y : A) → f (cond c x y) ≡ cond c (f x) (f y)
-cond-ap f true x y = refl
-cond-ap f false x y = refl
 
 -- ---- a test of a range, by where the position is
 module _ {A : Type 0} (a b p : ℕ) (x y : A) where

@@ -6,7 +6,7 @@ use mathlib.Core.List.{List, _++_}
 use native.Mathlib.Omega.{arith}
 use native.Mathlib.Decide.{decLt}
 use native.Mathlib.Numerals.{add-one}
-use lib.ListN.{length, getD, set, replicate, length-append, length-set, getD-replicate, length-replicate, List·getD-append, List·getD-eq-default}
+use lib.ListN.{length, getD, set, replicate, length-append, length-set, getD-replicate, length-replicate, List·getD-append}
 use lib.Seq.{getD-append-add, getD-set-same, getD-set-other, set-comm, ext-getD}
 use Rattle.runs.specs.Positions.{sumBelow}
 use Rattle.runs.proofs.SumLaws.{sum-same}
@@ -85,15 +85,7 @@ module _ {A : Type 0} where
             ∙ sym (rw e at (getD-append-add xs (replicate (m - n) z) (k - n) d ∙ getD-replicate (m - n) (k - n) z d (omega arith)))
       ])
 
-  pub blank-at : (n k : ℕ) (d : A) → getD (replicate n d) k d ≡ d
-  blank-at n k d =
-      elim (decLt k n) [
-        | yes l ↦ getD-replicate n k d d l
-        | no l ↦ List·getD-eq-default (replicate n d) d (omega (arith, length-replicate n d))
-      ]
-
 -- ---- where tanks begin
--- tank u lies below tank v
 pub below-same : (hs : List Head) (t : ℕ) (h : Head) (u : ℕ) → u ≤ t → runsBelow (set hs t h) u ≡ runsBelow hs u
 below-same hs t h u l =
     sum-same (runsIn (set hs t h)) (runsIn hs) u (λ v k. ap (λ (x : Head). x .runs) (getD-set-other hs t v h noHead (λ e. omega arith)))

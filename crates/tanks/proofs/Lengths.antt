@@ -8,6 +8,7 @@ use native.Mathlib.Omega.{arith}
 use lib.Dec.{eqb}
 use borrow.Author.Tests.{eqb-true, eqb-false, eq-eqb}
 use lib.ListN.{length, length-set, getD-replicate}
+use Rattle.styles.proofs.Cases.{cond-ap}
 use Rattle.tank.specs.Rules.{View, freshLength, freshView, runsHeld, Edit, annotating, inserting, deleting, removing, afterInsert, afterDelete, afterRemove, stripped, after, refusal, first}
 use Rattle.tank.specs.Lengths.{gained, lost, annotates}
 use Rattle.tank.proofs.Sequences as own
@@ -94,11 +95,6 @@ unfolding afterAll
 all-append h [] ys = refl
 all-append h (x ∷ xs) ys = all-append (afterAt h (x .tank) (x .edit)) xs ys
 
--- a call put before two lists, or not
-cond-append : (b : Bool) (x : own.OwnCall) (xs ys : List own.OwnCall) → cond b (x ∷ (xs ++ ys)) (xs ++ ys) ≡ cond b (x ∷ xs) xs ++ ys
-cond-append true x xs ys = refl
-cond-append false x xs ys = refl
-
 -- the calls on tank t of both
 on-append : (t : ℕ) (h : House) (xs ys : List Call) → callsOn t h (xs ++ ys) ≡ callsOn t h xs ++ callsOn t (afterAll h xs) ys
 unfolding afterAll callsOn
@@ -106,7 +102,7 @@ on-append t h [] ys = refl
 on-append t h (x ∷ xs) ys =
     let next : House = afterAt h (x .tank) (x .edit) in
     ap (λ (zs : List own.OwnCall). cond (eqb (x .tank) t) (ownCall h t (x .edit) ∷ zs) zs) (on-append t next xs ys)
-    ∙ cond-append (eqb (x .tank) t) (ownCall h t (x .edit)) (callsOn t next xs) (callsOn t (afterAll next xs) ys)
+    ∙ sym (cond-ap (λ (zs : List own.OwnCall). zs ++ callsOn t (afterAll next xs) ys) (eqb (x .tank) t) (ownCall h t (x .edit) ∷ callsOn t next xs) (callsOn t next xs))
 
 -- ---- sums over the accepted calls on tank t
 -- a call on tank u, and then a sum over calls on tank t alone

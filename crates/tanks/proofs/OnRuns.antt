@@ -9,6 +9,7 @@ use lib.Dec.{ltb, eqb}
 use lib.ListN.{length, getD, set, replicate, List·getD-map}
 use lib.Pow.{pow-pos}
 use borrow.Author.Tests.{ltb-true, eqb-true}
+use Rattle.styles.proofs.Cases.{cond-by}
 use Rattle.styles.specs.declared.Mark.{Mark}
 use Rattle.styles.specs.Marks.{Sorted}
 use Rattle.styles.specs.Bits.{pick}
@@ -215,11 +216,7 @@ module _ (ms : List Mark) (sorted : Sorted ms) where
 
         pub after-fit : AllFit ms (allAfter st ms ks t e)
         unfolding allAfter numberAt
-        after-fit = go (eqb (numberAt st ms ks t e) 0)
-          where
-            go : (b : Bool) → AllFit ms (cond b (set ks t new) ks)
-            go true = all-set (Fit ms) fresh new ks t f new-fit
-            go false = f
+        after-fit = cond-by (AllFit ms) (eqb (numberAt st ms ks t e) 0) (all-set (Fit ms) fresh new ks t f new-fit) f
 
         moved : numberAt st ms ks t e ≡ 0 → after e (tankAt h t) ≡ viewOn ms new
         unfolding numberAt

@@ -6,6 +6,7 @@ use mathlib.Core.List.{List, [], _∷_, map}
 use native.Mathlib.Omega.{arith}
 use lib.ListN.{length, take, set, replicate, getD-replicate, List·getD-append}
 use lib.Seq.{drop-cons, getD-append-add}
+use Rattle.styles.proofs.Cases.{getD-blank}
 use Rattle.styles.specs.Marks.{blank}
 use Rattle.runs.specs.Runs.{Spare}
 use Rattle.runs.specs.Positions.{sumBelow, allAt}
@@ -23,7 +24,6 @@ use Rattle.tanks.specs.Settings.{accepted, shareOf, shares, claim, claim
 use Rattle.tanks.specs.House.{smallest, openNumber, opening}
 use Rattle.tanks.specs.Pool.{noHead, noRun, noTable, runsIn, runsBelow, ownRuns, zeroFilled, tankIn, tankOf, headOf, tableIn, meaning, Sound, freshly}
 use Rattle.tanks.specs.Contracts.{Opens}
-use Rattle.tanks.proofs.LaidLaws.{blank-at}
 use Rattle.tanks.proofs.PutLaws.{tank-eq}
 use Rattle.tanks.proofs.SettingLaws.{accepted-at, accepted-sum}
 use Rattle.tanks.proofs.MeaningLaws.{views-are}
@@ -50,7 +50,7 @@ below-one (suc u) h = omega (arith, below-one u (omega arith), runs-one u (omega
 -- in form, and it means a fresh tank
 fresh-is : state.Sound fresh × (view fresh ≡ freshView)
 unfolding Spare
-fresh-is = tank.fresh-sound (replicate 514 0) (replicate 514 0) (λ i h. (blank-at 514 i 0, blank-at 514 i 0)) refl refl (replicate 64 blank) refl (λ i. blank-at 64 i blank)
+fresh-is = tank.fresh-sound (replicate 514 0) (replicate 514 0) (λ i h. (getD-blank 0 514 i, getD-blank 0 514 i)) refl refl (replicate 64 blank) refl (λ i. getD-blank blank 64 i)
 
 module _ (st : List Setting) where
   -- each tank's one run
@@ -98,7 +98,7 @@ module _ (st : List Setting) where
       each = λ u h. subst Formed (sym (tank-fresh u h)) (fresh-is .0 .formed);
       spare = λ k h.
           let e : 8 + (k - 8) ≡ k = omega (arith, below-one 8 (omega arith)) in
-          (rw e at (getD-append-add (replicate 8 (record { len = T; set = 0 })) (replicate 504 noRun) (k - 8) noRun)) ∙ blank-at 504 (k - 8) noRun;
+          (rw e at (getD-append-add (replicate 8 (record { len = T; set = 0 })) (replicate 504 noRun) (k - 8) noRun)) ∙ getD-blank noRun 504 (k - 8);
     }
 
     pub opens : Opens st (record { number = 0; tanks = freshly st })

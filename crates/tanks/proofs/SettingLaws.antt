@@ -1,7 +1,7 @@
 -- The laws of the settings' rule and of the judgement.
 use Prim.Native.Nat.{ℕ, _+_, _≤_, _<_, max}
 use mathlib.Core.Path.{_≡_, refl, sym, ap, _∙_, subst}
-use mathlib.Core.Bool.{Bool, true, false, cond, _&&_, and-eq-true-iff, true≢false}
+use mathlib.Core.Bool.{Bool, true, false, _&&_, and-eq-true-iff, true≢false}
 use mathlib.Core.List.{List}
 use native.Mathlib.Omega.{arith}
 use native.Mathlib.Decide.{decLt, decLe}
@@ -10,6 +10,7 @@ use borrow.Author.Tests.{leb-true, eqb-true, le-leb, lt-ltb, le-ltb, eqb-false, 
 use lib.ListN.{getD, length, set}
 use mathlib.Core.Logic.{_≢_}
 use lib.Seq.{getD-set-same, getD-set-other}
+use Rattle.styles.proofs.Cases.{cond-by}
 use Rattle.tanks.specs.declared.Setting.{Setting}
 use Rattle.tanks.specs.declared.Head.{Head}
 use Rattle.tanks.specs.declared.Tanks.{Tanks}
@@ -74,14 +75,10 @@ claims-cong st f g n h = sum-same (claim st f) (claim st g) n (λ u l. ap (λ (x
 pub runs-claims : (st : List Setting) (f : ℕ → ℕ) (n : ℕ) → sumBelow f n ≤ claims st f n
 runs-claims st f n = sum-least f (claim st f) n (λ u l. omega arith)
 
-pub cond-le : (b : Bool) (x y k : ℕ) → x ≤ k → y ≤ k → cond b x y ≤ k
-cond-le true x y k h g = h
-cond-le false x y k h g = g
-
 pub small-more : (st : List Setting) (hs : List Head) (t n u : ℕ) → Small st hs n → u < 8
     → claims st (heldAfter (runsIn hs) t n) u + max (heldAfter (runsIn hs) t n u) (shareOf st u) ≤ 4096
 small-more st hs t n u s h =
-    let f : (v : ℕ) → v < 8 → heldAfter (runsIn hs) t n v ≤ 512 = λ v l. cond-le (eqb v t) n (runsIn hs v) 512 (s .more) (s .runs v l) in
+    let f : (v : ℕ) → v < 8 → heldAfter (runsIn hs) t n v ≤ 512 = λ v l. cond-by (λ (x : ℕ). x ≤ 512) (eqb v t) (s .more) (s .runs v l) in
     omega (
       arith,
       sum-bound (claim st (heldAfter (runsIn hs) t n)) 512 u (λ v l. omega (arith, f v (omega arith), s .shares v (omega arith))),

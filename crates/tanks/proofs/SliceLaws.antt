@@ -3,27 +3,20 @@ use Prim.Native.Nat.{ℕ, _+_, _-_, _≤_, _<_}
 use mathlib.Core.Path.{_≡_, sym, ap, _∙_}
 use mathlib.Core.List.{List, _++_, map}
 use native.Mathlib.Omega.{arith}
-use native.Mathlib.Decide.{decLt}
-use lib.ListN.{length, getD, drop, replicate, length-append, length-drop, length-replicate, length-map, List·getD-append, List·getD-eq-default, List·getD-map}
-use lib.Seq.{length-take-le, getD-append-add, getD-take, getD-drop}
+use lib.ListN.{length, getD, drop, replicate, length-append, length-drop, length-replicate, length-map, List·getD-map}
+use lib.Seq.{length-take-le, getD-take, getD-drop}
+use Rattle.styles.proofs.Cases.{getD-padding}
 use Rattle.tanks.specs.declared.Head.{Head}
 use Rattle.tanks.specs.declared.Run.{Run}
 use Rattle.tanks.specs.Pool.{noRun, runsIn, runsBelow, ownRuns, zeroFilled}
-use Rattle.tanks.proofs.LaidLaws.{laid, laid-blanks, blank-at}
+use Rattle.tanks.proofs.LaidLaws.{laid, laid-blanks}
 
 pub length-zero-filled : (ns : List ℕ) → length ns ≤ 514 → length (zeroFilled ns) ≡ 514
 length-zero-filled ns h = omega (arith, length-append ns (replicate (514 - length ns) 0), length-replicate {A = ℕ} (514 - length ns) 0)
 
 -- zeros stand behind a list either way
 pub zero-filled-at : (ns : List ℕ) (k : ℕ) → getD (zeroFilled ns) k 0 ≡ getD ns k 0
-zero-filled-at ns k =
-    elim (decLt k (length ns)) [
-      | yes h ↦ List·getD-append ns (replicate (514 - length ns) 0) 0 k h
-      | no h ↦
-          let e : length ns + (k - length ns) ≡ k = omega arith in
-          (rw e at (getD-append-add ns (replicate (514 - length ns) 0) (k - length ns) 0)) ∙ blank-at (514 - length ns) (k - length ns) 0
-          ∙ sym (List·getD-eq-default ns 0 (omega arith))
-    ]
+zero-filled-at ns k = getD-padding 0 (514 - length ns) k ns
 
 module _ (hs : List Head) (pool : List Run) (t : ℕ) where
   pub own-at : (k : ℕ) → k < runsIn hs t → getD (ownRuns hs pool t) k noRun ≡ getD pool (runsBelow hs t + k) noRun

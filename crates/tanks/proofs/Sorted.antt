@@ -1,13 +1,13 @@
 -- Document 01: a set is given by key, then lamport, then peer. So stand the marks at every position of every tank, and in the sets that are handed out.
 use Prim.Native.Nat.{ℕ, _+_, _-_, _<_}
 use mathlib.Core.Path.{_≡_, sym, subst}
-use mathlib.Core.Bool.{Bool, true, false, cond}
+use mathlib.Core.Bool.{true}
 use mathlib.Core.List.{List, [], _∷_}
 use native.Mathlib.Omega.{arith}
 use native.Mathlib.Decide.{decLt}
 use lib.Dec.{ltb, eqb}
 use lib.ListN.{length}
-use Rattle.styles.specs.declared.Mark.{Mark}
+use Rattle.styles.proofs.Cases.{cond-by}
 use Rattle.styles.specs.Marks.{Sorted}
 use Rattle.styles.proofs.WalkLaws.{sorted-pick}
 use Rattle.styles.proofs.SetLaws.{sorted-insert, sorted-only}
@@ -40,16 +40,6 @@ pub sets-sorted : (s : Tanks) → Sound s → (t p : ℕ) → t < 8 → Sorted (
 sets-sorted s ok t p t8 = subst InOrder (sym (tank-at s t freshView t8)) (view-sorted (tankOf s t) (ok .each t t8 .laid)) p
 
 -- ---- the sets of the rules
--- either of two sorted sets is sorted, whatever the test
-either-sorted : (b : Bool) (xs ys : List Mark) → Sorted xs → Sorted ys → Sorted (cond b xs ys)
-either-sorted true xs ys h k = h
-either-sorted false xs ys h k = k
-
--- and so of two tanks
-either-order : (b : Bool) (u v : View) → InOrder u → InOrder v → InOrder (cond b u v)
-either-order true u v h k = h
-either-order false u v h k = k
-
 -- the empty set is sorted
 none-sorted : Sorted []
 unfolding Sorted
@@ -59,33 +49,32 @@ none-sorted = tt
 inherited-sorted : (pos : ℕ) (v : View) → InOrder v → Sorted (inherited pos v)
 unfolding inherited
 inherited-sorted pos v h =
-    either-sorted (eqb pos 0) [] _ none-sorted
-    (either-sorted (eqb pos (v .length)) [] _ none-sorted (sorted-only _ (v .at (pos - 1)) (h (pos - 1))))
+    cond-by Sorted (eqb pos 0) none-sorted (cond-by Sorted (eqb pos (v .length)) none-sorted (sorted-only _ (v .at (pos - 1)) (h (pos - 1))))
 
 -- the set for an insertion
 for-insert : (pos : ℕ) (v : View) → InOrder v → Sorted (forInsert pos v)
 unfolding forInsert
-for-insert pos v h = either-sorted (v .touched) (inherited pos v) [] (inherited-sorted pos v h) none-sorted
+for-insert pos v h = cond-by Sorted (v .touched) (inherited-sorted pos v h) none-sorted
 
 -- ---- each edit keeps every position sorted
 edit-sorted : (e : Edit) (v : View) → InOrder v → InOrder (after e v)
 unfolding after afterAnnotate afterInsert afterDelete afterRemove stripped
-edit-sorted (annotating a b m) v h = λ p. either-sorted (within a b p) _ (v .at p) (sorted-insert m (v .at p) (h p)) (h p)
+edit-sorted (annotating a b m) v h = λ p. cond-by Sorted (within a b p) (sorted-insert m (v .at p) (h p)) (h p)
 edit-sorted (inserting pos len) v h =
-    either-order (v .touched) _ v
-    (λ p. either-sorted (ltb p pos) (v .at p) _ (h p) (either-sorted (ltb p (pos + len)) (inherited pos v) _ (inherited-sorted pos v h) (h (p - len))))
+    cond-by InOrder (v .touched)
+    (λ p. cond-by Sorted (ltb p pos) (h p) (cond-by Sorted (ltb p (pos + len)) (inherited-sorted pos v h) (h (p - len))))
     h
 edit-sorted (deleting a b) v h =
-    either-order (v .touched) _ v (λ p. either-sorted (ltb p a) (v .at p) _ (h p) (h (p + (b - a)))) h
+    cond-by InOrder (v .touched) (λ p. cond-by Sorted (ltb p a) (h p) (h (p + (b - a)))) h
 edit-sorted (removing id last) v h =
-    λ p. either-sorted (within (backFrom id last v) (last + 1) p) _ (v .at p) (sorted-only _ (v .at p) (h p)) (h p)
+    λ p. cond-by Sorted (within (backFrom id last v) (last + 1) p) (sorted-only _ (v .at p) (h p)) (h p)
 
 -- so do calls in a row, refused ones among them
 calls-sorted : (cs : List own.OwnCall) (v : View) → InOrder v → InOrder (own.afterCalls cs v)
 unfolding own.afterCalls
 calls-sorted [] v h = h
 calls-sorted (c ∷ cs) v h =
-    calls-sorted cs (own.afterOne c v) (either-order (own.acceptedBy c v) (after (c .edit) v) v (edit-sorted (c .edit) v h) h)
+    calls-sorted cs (own.afterOne c v) (cond-by InOrder (own.acceptedBy c v) (edit-sorted (c .edit) v h) h)
 
 -- a fresh tank has no marks
 fresh-sorted : InOrder freshView
@@ -104,7 +93,7 @@ answer-sorted : (h : House) (t pos len : ℕ) → (t < 8 → InOrder (tankAt h t
 unfolding insertedSetAt
 answer-sorted h t pos len ok =
     elim (decLt t 8) [
-      | yes l ↦ either-sorted (eqb (refusalAt h t (inserting pos len)) 0) (forInsert pos (tankAt h t)) [] (for-insert pos (tankAt h t) (ok l)) none-sorted
+      | yes l ↦ cond-by Sorted (eqb (refusalAt h t (inserting pos len)) 0) (for-insert pos (tankAt h t) (ok l)) none-sorted
       | no l ↦ rw (refusal-past h t (inserting pos len) (omega arith)) none-sorted
     ]
 

@@ -9,6 +9,7 @@ use native.Mathlib.Decide.{decLt, decLe, ℕ-discrete}
 use borrow.Author.Tests.{ltb-false, leb-false, eq-eqb, ne-eqb}
 use lib.ListN.{length, replicate, length-set}
 use lib.Seq.{getD-set-same, getD-set-other}
+use Rattle.styles.proofs.Cases.{cond-by}
 use Rattle.styles.specs.declared.Identity.{Identity}
 use Rattle.runs.specs.Positions.{sumBelow}
 use Rattle.runs.proofs.SumLaws.{sum-least}
@@ -20,7 +21,7 @@ use Rattle.tanks.specs.declared.Tanks.{Tanks}
 use Rattle.tanks.specs.Settings.{shareOf, limitOf, accepted, claim, claims, heldAfter, judgement}
 use Rattle.tanks.specs.House.{House, tankAt, held, smallest, opening, refusalAt, withTank, afterAt, insertedSetAt, removedFirstAt, Call, afterAll, reached, Ten}
 use Rattle.tanks.specs.Pool.{runsIn, meaning, Sound, freshly}
-use Rattle.tanks.proofs.SettingLaws.{cond-le, accepted-at, claims-cong, runs-claims, judge-9, judge-10, judge-0, second-zero, at-each, held-set, judged-limits, judged-sum}
+use Rattle.tanks.proofs.SettingLaws.{accepted-at, claims-cong, runs-claims, judge-9, judge-10, judge-0, second-zero, at-each, held-set, judged-limits, judged-sum}
 use Rattle.tanks.proofs.MeaningLaws.{held-is, tanks-length}
 use Rattle.tanks.proofs.CallLaws.{refusal-in, refusal-past, after-refused, after-done}
 use Rattle.tanks.proofs.OpeningLaws.{opens, opens-2}
@@ -117,11 +118,12 @@ ten-then h t e p = refusal-in h t e (p .tank) ∙ rw (p .own) (judge-10 (h .sett
 own-most : (e : Edit) (v : View) → refusal e v ≤ 8
 unfolding refusal
 own-most e v =
-    cond-le (empty e) 3 _ 8 (omega arith)
-    (cond-le (over e v) 4 _ 8 (omega arith)
-    (cond-le (long e v) 5 _ 8 (omega arith)
-    (cond-le (notNumber e) 6 _ 8 (omega arith)
-    (cond-le (clashes e v) 7 _ 8 (omega arith) (cond-le (full e v) 8 0 8 (omega arith) (omega arith))))))
+    let most : ℕ → Type 0 = λ x. x ≤ 8 in
+    cond-by most (empty e) (omega arith)
+    (cond-by most (over e v) (omega arith)
+    (cond-by most (long e v) (omega arith)
+    (cond-by most (notNumber e) (omega arith)
+    (cond-by most (clashes e v) (omega arith) (cond-by most (full e v) (omega arith) (omega arith))))))
 
 -- where the tank's own rules refuse, that is the number
 own-first : (h : House) (t : ℕ) (e : Edit) → t < 8 → refusal e (tankAt h t) ≢ 0 → refusalAt h t e ≡ refusal e (tankAt h t)
@@ -190,7 +192,7 @@ share-free h t e kept t8 le =
 delete-most : (a b : ℕ) (v : View) → refusal (deleting a b) v ≤ 4
 unfolding refusal long notNumber clashes full
 delete-most a b v =
-    cond-le (empty (deleting a b)) 3 _ 4 (omega arith) (cond-le (over (deleting a b) v) 4 0 4 (omega arith) (omega arith))
+    cond-by (λ (x : ℕ). x ≤ 4) (empty (deleting a b)) (omega arith) (cond-by (λ (x : ℕ). x ≤ 4) (over (deleting a b) v) (omega arith) (omega arith))
 
 delete-no-more : (a b : ℕ) (v : View) → refusal (deleting a b) v ≡ 0 → runsHeld (after (deleting a b) v) ≤ runsHeld v
 unfolding after empty over

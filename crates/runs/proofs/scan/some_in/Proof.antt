@@ -14,7 +14,7 @@ use Rattle.runs.specs.Positions.{anyAt}
 use Rattle.runs.specs.Scan.{passes, CanScan}
 use Rattle.runs.proofs.Copies.{clip}
 use Rattle.runs.proofs.Laws.{total-more, total-mono}
-use Rattle.runs.proofs.ScanLaws.{any-yes, any-no, at-run, and-false}
+use Rattle.runs.proofs.ScanLaws.{any-yes, any-no, at-run, second-fails}
 use Rattle.runs.proofs.scan.some_in.Statement.{statement}
 use Rattle.runs.proofs.scan.some_in.Tie as tie
 use Rattle.runs.proofs.scan.some_in.Reads as reads
@@ -51,7 +51,7 @@ module _ {test : ℕ → Bool} {lens sets : List ℕ} {n from to k start : ℕ} 
               | yes g ↦ inv .clear p a b g
               | no g ↦
                   let some : 0 < clip from to start (getD lens k 0) = omega arith in
-                  on-run p (omega arith) h ∙ and-false (ltb 0 (clip from to start (getD lens k 0))) (test (getD sets k 0)) (lt-ltb 0 (clip from to start (getD lens k 0)) some) e
+                  on-run p (omega arith) h ∙ second-fails (ltb 0 (clip from to start (getD lens k 0))) (test (getD sets k 0)) (lt-ltb 0 (clip from to start (getD lens k 0)) some) e
             ];
       }
 
