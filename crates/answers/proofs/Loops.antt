@@ -23,22 +23,13 @@ module _ (list : List ℕ) (i : ℕ) where
   unfolding stretchesSay
   stretch-more h = ap stretchesSay taken
     where
-      at-1 : suc i ≡ i + 1
-      at-1 = omega arith
-
-      at-2 : suc (i + 1) ≡ i + 2
-      at-2 = omega arith
-
-      at-3 : suc (i + 2) ≡ i + 3
-      at-3 = omega arith
-
       step : (j k : ℕ) → suc j ≡ k → j < length list → drop j list ≡ getD list j 0 ∷ drop k list
       step j k e l = drop-cons list j 0 l ∙ ap (λ (m : ℕ). getD list j 0 ∷ drop m list) e
 
       taken : drop i list ≡ getD list i 0 ∷ getD list (i + 1) 0 ∷ getD list (i + 2) 0 ∷ drop (i + 3) list
       taken =
-          step i (i + 1) at-1 (omega arith)
-          ∙ ap (λ (l : List ℕ). getD list i 0 ∷ l) (step (i + 1) (i + 2) at-2 (omega arith) ∙ ap (λ (l : List ℕ). getD list (i + 1) 0 ∷ l) (step (i + 2) (i + 3) at-3 (omega arith)))
+          step i (i + 1) (omega arith) (omega arith)
+          ∙ ap (λ (l : List ℕ). getD list i 0 ∷ l) (step (i + 1) (i + 2) (omega arith) (omega arith) ∙ ap (λ (l : List ℕ). getD list (i + 1) 0 ∷ l) (step (i + 2) (i + 3) (omega arith) (omega arith)))
 
 -- fewer are none
 few : (l : List ℕ) → length l < 3 → stretchesSay l ≡ []

@@ -6,17 +6,12 @@ use Prim.Native.Nat.{ℕ, _+_, _≤_}
 use native.Mathlib.Decide.{decLt}
 use native.Mathlib.Omega.{arith}
 use lib.Dec.{leb}
-use lib.ListN.{length, take, drop, length-append, length-take, length-drop}
+use lib.ListN.{length, take}
 use borrow.Author.Tests.{le-leb, lt-leb}
 use Rattle.text.specs.Number.{put}
-use Rattle.text.proofs.Putting.{take-put}
+use Rattle.text.proofs.Putting.{length-put, take-put}
 use Rattle.script.specs.Writing.{freeAt}
 use Rattle.answers.specs.Waiting.{Pieces, Waiting, waiting, pieceRoom, with, withAll, Short, Adds, front, sent}
-
-length-put : (d t : List ℕ) (k : ℕ) → k + length t ≤ length d → length (put d k t) ≡ length d
-length-put d t k h =
-    omega
-    (arith, length-append (take k d ++ t) (drop (k + length t) d), length-append (take k d) t, length-take k d, length-drop (k + length t) d)
 
 free-inside : (at : ℕ) (d t : List ℕ) → pieceRoom ≤ length d → length t ≤ pieceRoom → freeAt pieceRoom at d + length t ≤ length d
 free-inside at d t r h =
@@ -36,7 +31,7 @@ kept w [] room inside short = sym (append-nil (front w))
 kept w (t ∷ ts) room inside short =
     let k = freeAt pieceRoom (w .at) (w .buffer) in
     let fits = free-inside (w .at) (w .buffer) t room (short .0) in
-    let same = length-put (w .buffer) t k fits in
+    let same = length-put (w .buffer) k t fits in
     lost-by
     (leb (w .at + pieceRoom) (length (w .buffer)))
     (w .at)

@@ -136,7 +136,7 @@ pub cut-reads : (x : Course) (inputs : List (List ℕ)) → NoneEmpty inputs →
 cut-reads x inputs some = (place-reads x inputs some, said-reads x inputs some)
 
 -- reads, and reads behind them
-reads-append : (x : Course) (inputs more : List (List ℕ)) → afterReads x (inputs ++ more) ≡ afterReads (afterReads x inputs) more
+pub reads-append : (x : Course) (inputs more : List (List ℕ)) → afterReads x (inputs ++ more) ≡ afterReads (afterReads x inputs) more
 unfolding afterReads
 reads-append x [] more = refl
 reads-append x (input ∷ inputs) more = reads-append (written (afterRead x input)) inputs more

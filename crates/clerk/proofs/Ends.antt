@@ -18,6 +18,7 @@ use Rattle.clerk.specs.declared.Eaten.{Eaten}
 use Rattle.clerk.specs.declared.Stand.{Stand}
 use Rattle.clerk.specs.Course.{Course, malformedSays, afterBytes, saidEnding, endedAs, atEnd, afterRead, written, afterReads, courseOf, Eats, Closes, Reads, Leads, mostReads, RunsFrom, going, RunsWhole}
 use Rattle.clerk.proofs.Bytes.{standing}
+use Rattle.clerk.proofs.Cuts.{reads-append}
 
 module _ {s : Tanks} {stand : Stand} (d : List ℕ) {r : Eaten} (out : List ℕ) {k : ℕ} (ok : Sound s) (goes : stand .over ≡ false)
     (stands : (r .tanks ≡ s) × (r .stand ≡ record { reader = stand .reader; at = k; over = true })) where
@@ -69,12 +70,6 @@ reads-some {s} {stand} {d} {out} {input} n x =
     }
 
 -- ---- reads one after another
--- one read more
-reads-more : (x : Course) (inputs : List (List ℕ)) (input : List ℕ) → afterReads x (inputs ++ (input ∷ [])) ≡ written (afterRead (afterReads x inputs) input)
-unfolding afterReads
-reads-more x [] input = refl
-reads-more x (i ∷ inputs) input = reads-more (written (afterRead x i)) inputs input
-
 pub leads-none : (x : Course) → Leads 0 x x
 unfolding afterReads
 leads-none x = record { inputs = []; count = refl; is = refl }
@@ -86,6 +81,7 @@ module _ {s : Tanks} {reader : Reader} {stand : Stand} {d out : List ℕ} {r : E
     (came : Leads n x (going s reader d)) (read : Reads s stand d r out) where
   -- where the run is when the answers to one read more are written out
   pub leads-more : {y : Course} → y ≡ written (courseOf (r .tanks) (r .stand) out) → Leads (n + 1) x y
+  unfolding afterReads
   leads-more e =
       record {
         inputs = came .inputs ++ (read .input ∷ []);
@@ -94,7 +90,7 @@ module _ {s : Tanks} {reader : Reader} {stand : Stand} {d out : List ℕ} {r : E
             e
             ∙ ap written (read .is ∙ ap (λ (st : Stand). afterRead (courseOf s st d) (read .input)) fresh)
             ∙ ap (λ (c : Course). written (afterRead c (read .input))) (came .is)
-            ∙ sym (reads-more x (came .inputs) (read .input));
+            ∙ sym (reads-append x (came .inputs) (read .input ∷ []));
       }
 
   pub leads-on : r .stand .over ≡ false → Leads (n + 1) x (going (r .tanks) (r .stand .reader) out)

@@ -102,10 +102,6 @@ pub anchor-none : (left : List Anchor) → left ≡ [] → anchorsSay left ≡ [
 unfolding anchorsSay
 anchor-none left e = ap anchorsSay e
 
-pub take-none : (i : ℕ) (l : List Anchor) → l ≡ [] → take i l ≡ []
-take-none zero l e = refl
-take-none (suc i) l e = ap (take (suc i)) e
-
 -- as many as there are
 pub take-whole : (n : ℕ) (xs ys : List Anchor) → xs ≡ ys → n ≡ length ys → take n xs ≡ ys
 take-whole n xs ys e k = ap (take n) e ∙ ap (λ (m : ℕ). take m ys) k ∙ take-length ys

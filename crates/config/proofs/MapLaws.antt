@@ -1,7 +1,7 @@
 -- Laws of maps: a sound map is determined by its meaning, and what an entry stored at its place makes of both. Assumes nothing.
 use mathlib.Core.Path.{_≡_, refl, sym, ap, _∙_}
 use mathlib.Core.Bool.{true, false}
-use mathlib.Core.List.{List, [], _∷_, _++_, map}
+use mathlib.Core.List.{List, [], _∷_, map, map-append}
 use mathlib.Core.Option.{none, some, orElse}
 use Prim.Native.Nat.{ℕ, zero, suc, _+_, _-_, _≤_, _<_}
 use native.Mathlib.Decide.{decLt, ℕ-discrete}
@@ -97,10 +97,6 @@ map-set f [] i a = refl
 map-set f (x ∷ xs) zero a = refl
 map-set {B = B} f (x ∷ xs) (suc i) a = ap (λ (r : List B). f x ∷ r) (map-set f xs i a)
 
-map-last : {A B : Type 0} (f : A → B) (l : List A) (a : A) → map f (l ++ (a ∷ [])) ≡ map f l ++ (f a ∷ [])
-map-last f [] a = refl
-map-last {B = B} f (x ∷ xs) a = ap (λ (r : List B). f x ∷ r) (map-last f xs a)
-
 named-entry : (k : List ℕ) (s : StyleConfig) → namedOf (entryOf k s) ≡ record { name = k; style = s }
 named-entry k s = λ i. record { name = name-entry k s i; style = s }
 
@@ -165,7 +161,7 @@ module _ (m : StyleConfigMap) (s : Sound m) (k : List ℕ) (v : StyleConfig) (sh
       let es : List Named = configured m .entries in
       let l : length es ≡ m .count = length-configured m s in
       let a : map namedOf (take (m .count + 1) (set (m .entries) (m .count) (entryOf k v))) ≡ entered k v es =
-      rw (add-one (m .count), take-suc-set (m .entries) (m .count) (entryOf k v) (omega arith), map-last namedOf (take (m .count) (m .entries)) (entryOf k v), named-entry k v)
+      rw (add-one (m .count), take-suc-set (m .entries) (m .count) (entryOf k v) (omega arith), map-append namedOf (take (m .count) (m .entries)) (entryOf k v ∷ []), named-entry k v)
       (sym (entered-place k v es .1 (omega arith))) in
       let r : refuses k (configured m) ≡ false = accepts-new k (configured m) short plain (known-place k es .1 (omega arith)) (omega arith) in
       record {

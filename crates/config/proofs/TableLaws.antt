@@ -1,6 +1,6 @@
 -- Laws of the table: each definition that goes down the entries is known by the place of the name. Assumes nothing.
 use mathlib.Core.Path.{_≡_, refl}
-use mathlib.Core.Bool.{Bool, true, false, cond, _||_, not, and-eq-true-iff}
+use mathlib.Core.Bool.{Bool, true, false, cond, not, and-eq-true-iff, or-true}
 use mathlib.Core.List.{List, [], _∷_, _++_}
 use mathlib.Core.Option.{none, some}
 use Prim.Native.Nat.{ℕ, suc, _≤_, _<_}
@@ -108,10 +108,6 @@ once-entered k s =
     rw (e, known-entered (x .name) k s (same-flip (x .name) k e) xs, b .0) (r (b .1)))
 
 -- Refusals
-
-or-true : (a : Bool) → (a || true) ≡ true
-or-true true = refl
-or-true false = refl
 
 pub refuses-long : (k : List ℕ) (t : Table) → 32 < length k → refuses k t ≡ true
 refuses-long k t h = rw (lt-ltb 32 (length k) h)

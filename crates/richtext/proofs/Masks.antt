@@ -4,7 +4,7 @@ use mathlib.Core.Bool.{not}
 use Prim.Native.Nat.{ℕ, zero, suc, _*_, _/_, _%_, _<_}
 use native.Mathlib.Omega.{arith}
 use native.Mathlib.Nat.{zero-mul, one-mul}
-use lib.Bits.{bitAnd, and-high}
+use lib.Bits.{bitAnd}
 use lib.Dec.{eqb}
 use borrow.Author.Tests.{ne-eqb}
 
@@ -16,9 +16,3 @@ weighed (suc (suc d)) p h k = absurd (omega arith)
 
 pub mask-test : (n w : ℕ) → 0 < w → bitAnd n w ≡ (n / w % 2) * w → not (eqb (bitAnd n w) 0) ≡ eqb (n / w % 2) 1
 mask-test n w h e = rw e (weighed (n / w % 2) w (omega arith) h)
-
-pub mask2 : (n : ℕ) → not (eqb (bitAnd n 2) 0) ≡ eqb (n / 2 % 2) 1
-mask2 n = mask-test n 2 (omega arith) (and-high n 1 1)
-
-pub mask4 : (n : ℕ) → not (eqb (bitAnd n 4) 0) ≡ eqb (n / 4 % 2) 1
-mask4 n = mask-test n 4 (omega arith) (and-high n 1 2)

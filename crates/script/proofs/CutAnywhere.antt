@@ -1,6 +1,6 @@
 -- However an input is cut, the reader comes to the same: bytes with no newline among them and those behind them are as good as both at once.
 use mathlib.Core.Path.{_≡_, refl, sym, ap, ap₂, _∙_}
-use mathlib.Core.Bool.{Bool, true, false, cond}
+use mathlib.Core.Bool.{Bool, false, cond, true≢false}
 use mathlib.Core.List.{List, [], _∷_, _++_, append-assoc}
 use Prim.Native.Nat.{ℕ}
 use native.Mathlib.Decide.{decLt, ℕ-discrete}
@@ -16,12 +16,9 @@ use Rattle.text.proofs.Finding.{front-past, front-none, held-here, held-past}
 no-end-cons : (c : ℕ) (cs : List ℕ) → hasEnd (c ∷ cs) ≡ false → (c ≡ 10 → ⊥) × (hasEnd cs ≡ false)
 no-end-cons c cs e =
     elim (ℕ-discrete c 10) [
-      | yes h ↦ let z : true ≡ false = sym (held-here 10 c cs h) ∙ e in absurd (apart z)
+      | yes h ↦ absurd (true≢false (sym (held-here 10 c cs h) ∙ e))
       | no h ↦ (h, sym (held-past 10 c cs h) ∙ e)
     ]
-  where
-    apart : true ≡ false → ⊥
-    apart z = let y : _≡_ {A = ℕ} 0 1 = cc in omega arith
 
 -- bytes with no newline among them
 pub front-all : (a : List ℕ) → hasEnd a ≡ false → lineFront a ≡ a

@@ -15,7 +15,7 @@ use mir.Val.{SFits}
 use Rattle.text.specs.declared.Parsed.{Parsed}
 use Rattle.text.specs.Number.{decimalOf, decimalText}
 use Rattle.text.specs.Bytes.{startsOf, sameOf}
-use Rattle.text.proofs.Laws.{decimal-back, decimal-only, hex-back}
+use Rattle.text.proofs.Laws.{passed, decimal-back, decimal-only, hex-back}
 use Rattle.text.proofs.Integers.{integer-back}
 use Rattle.text.proofs.Prefix.{starts-split, split-starts, same-true}
 use Rattle.styles.specs.declared.Value.{Value}
@@ -30,21 +30,16 @@ use Rattle.script.specs.Writing.{kindOf, valueWord}
 -- ---- a field's number
 within-only : (p : Parsed) (most n : ℕ) → withinOf most p ≡ Parsed.Number n → (p ≡ Parsed.Number n) × (n ≤ most)
 within-only Parsed.Bad most n e = let z : _≡_ {A = ℕ} 0 1 = cc in absurd (omega arith)
-within-only (Parsed.Number k) most n e = go (leb k most) refl e
-  where
-    go : (b : Bool) → leb k most ≡ b → cond b (Parsed.Number k) Parsed.Bad ≡ Parsed.Number n → (Parsed.Number k ≡ Parsed.Number n) × (n ≤ most)
-    go true h f = let q : k ≡ n = cc in (f, omega (arith, leb-true k most h))
-    go false h f = let z : _≡_ {A = ℕ} 0 1 = cc in absurd (omega arith)
-
-by-start : (b : Bool) (p : Parsed) (n : ℕ) → cond b p Parsed.Bad ≡ Parsed.Number n → (b ≡ true) × (p ≡ Parsed.Number n)
-by-start true p n e = (refl, e)
-by-start false p n e = let z : _≡_ {A = ℕ} 0 1 = cc in absurd (omega arith)
+within-only (Parsed.Number k) most n e =
+    let o = passed (leb k most) n (Parsed.Number k) e in
+    let q : k ≡ n = cc (o .1) in
+    (o .1, omega (arith, leb-true k most (o .0)))
 
 -- a line is accepted only where it is the field's name and the number's decimal text, and the number is in width
 pub number-only : (f : Field) (most n : ℕ) (line : List ℕ) → numberOf f most line ≡ Parsed.Number n → (line ≡ nameOf f ++ decimalText n) × (n ≤ most)
 unfolding numberOf
 number-only f most n line e =
-    let s = by-start (startsOf line (nameOf f)) (withinOf most (decimalOf (drop (length (nameOf f)) line))) n e in
+    let s = passed (startsOf line (nameOf f)) n (withinOf most (decimalOf (drop (length (nameOf f)) line))) e in
     let w = within-only (decimalOf (drop (length (nameOf f)) line)) most n (s .1) in
     (starts-split line (nameOf f) (s .0) ∙ ap (λ (t : List ℕ). nameOf f ++ t) (decimal-only (drop (length (nameOf f)) line) n (w .0)), w .1)
 

@@ -4,20 +4,16 @@ use mathlib.Core.Bool.{Bool, true, false, cond}
 use mathlib.Core.List.{List, _++_}
 use Prim.Native.Nat.{ℕ, zero, suc, _+_, _-_, _≤_}
 use native.Mathlib.Omega.{arith}
-use lib.ListN.{length, take, drop, replicate, length-drop, length-append}
-use lib.Seq.{take-all, take-append-seam}
+use lib.ListN.{length, take, drop, replicate, length-append}
+use lib.Seq.{take-append-seam}
 use Rattle.text.specs.Number.{put}
 use Rattle.text.specs.Bytes.{startsOf}
-use Rattle.text.proofs.Prefix.{starts-length}
+use Rattle.text.proofs.Prefix.{starts-length, rest-part}
 use Rattle.script.specs.declared.Field.{Field}
 use Rattle.script.specs.declared.Name.{Name}
 use Rattle.script.specs.declared.Start.{Start}
 use Rattle.script.specs.Grammar.{nameOf, spelledOf, spelling}
 use Rattle.script.specs.Reading.{startOf, afterName}
-
--- the end of a slice from a place on is what is left of it
-pub rest-part : (k : ℕ) (l : List ℕ) → take (length l - k) (drop k l) ≡ drop k l
-rest-part k l = take-all (length l - k) (drop k l) (simp length-drop (omega arith))
 
 -- a name spells its bytes, is as long as they are, and is within its places
 module _ {n : Name} (t : List ℕ) (e : n ≡ spelling t) where

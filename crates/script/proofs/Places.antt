@@ -12,13 +12,10 @@ use Rattle.script.specs.declared.Field.{Field}
 use Rattle.script.specs.Grammar.{fieldsOf, fieldAt}
 
 -- Done in the places behind a list changes no answer
-padding : (n i : ℕ) → getD (replicate n Field.Done) i Field.Done ≡ Field.Done
-padding zero i = refl
-padding (suc n) zero = refl
-padding (suc n) (suc i) = padding n i
-
 pub getD-padding : (n i : ℕ) (fs : List Field) → getD (fs ++ replicate n Field.Done) i Field.Done ≡ getD fs i Field.Done
-getD-padding n i [] = padding n i
+getD-padding zero i [] = refl
+getD-padding (suc n) zero [] = refl
+getD-padding (suc n) (suc i) [] = getD-padding n i []
 getD-padding n zero (f ∷ fs) = refl
 getD-padding n (suc i) (f ∷ fs) = getD-padding n i fs
 

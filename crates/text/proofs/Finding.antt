@@ -3,13 +3,13 @@ use mathlib.Core.Path.{_≡_, refl, sym, ap, _∙_}
 use mathlib.Core.Bool.{true}
 use mathlib.Core.List.{List, [], _∷_}
 use Prim.Native.Nat.{ℕ, suc, _+_, _-_, _≤_, _<_}
-use native.Mathlib.Decide.{decLt, ℕ-discrete}
+use native.Mathlib.Decide.{ℕ-discrete}
 use native.Mathlib.Numerals.{add-one}
 use native.Mathlib.Omega.{arith}
-use lib.Dec.{ltb}
+use lib.Dec.{ltb, leb·suc-suc}
 use lib.ListN.{length, getD, take, drop, length-take, length-drop, drop-of-length-le}
 use lib.Seq.{drop-cons}
-use borrow.Author.Tests.{eq-eqb, ne-eqb, lt-ltb, le-ltb}
+use borrow.Author.Tests.{eq-eqb, ne-eqb, lt-ltb}
 use Rattle.text.specs.Bytes.{upTo, holds}
 
 module _ (b x : ℕ) (xs : List ℕ) where
@@ -56,13 +56,6 @@ module _ (b : ℕ) (l : List ℕ) (from to : ℕ) (e : to ≡ from + length (upT
   front-inside h = omega (arith, front-length b (drop from l), length-drop from l)
 
 -- it is there where not all bytes stand in front of it
-by-one : (a b : ℕ) → ltb a b ≡ ltb (suc a) (suc b)
-by-one a b =
-    elim (decLt a b) [
-      | yes h ↦ lt-ltb a b h ∙ sym (lt-ltb (suc a) (suc b) (omega arith))
-      | no h ↦ le-ltb a b (omega arith) ∙ sym (le-ltb (suc a) (suc b) (omega arith))
-    ]
-
 pub held-by-length : (b : ℕ) (l : List ℕ) → holds b l ≡ ltb (length (upTo b l)) (length l)
 unfolding holds upTo
 held-by-length b [] = refl
@@ -70,7 +63,7 @@ held-by-length b (x ∷ xs) =
     elim (ℕ-discrete x b) [
       | yes e ↦ held-here b x xs e ∙ sym (lt-ltb (length (upTo b (x ∷ xs))) (suc (length xs)) (omega (arith, ap length (front-here b x xs e))))
       | no e ↦
-          held-past b x xs e ∙ held-by-length b xs ∙ by-one (length (upTo b xs)) (length xs)
+          held-past b x xs e ∙ held-by-length b xs ∙ sym (leb·suc-suc (suc (length (upTo b xs))) (length xs))
           ∙ sym (ap (λ (t : List ℕ). ltb (length t) (suc (length xs))) (front-past b x xs e))
     ]
 

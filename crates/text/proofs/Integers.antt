@@ -3,12 +3,12 @@ use mathlib.Core.Path.{_≡_, refl, sym, ap, _∙_}
 use mathlib.Core.Bool.{Bool, true, false, cond}
 use mathlib.Core.List.{List, [], _∷_, _++_}
 use Prim.Native.Nat.{ℕ, suc, _+_, _-_, _^_, _≤_, _<_}
-use native.Mathlib.Numerals.{add-one}
+use native.Mathlib.Numerals.{add-one, sub-one}
 use native.Mathlib.Omega.{arith}
 use lib.Dec.{ltb, eqb}
 use lib.IntN.{ℤ, pos, negsuc}
-use lib.ListN.{length, set, take, drop, length-drop}
-use lib.Seq.{take-all, take-suc-set, drop-set-lt, append-snoc}
+use lib.ListN.{length, set, take, drop}
+use lib.Seq.{take-suc-set, drop-set-lt, append-snoc}
 use borrow.Author.Tests.{lt-ltb, le-ltb, ne-eqb, ltb-true, ltb-false, eqb-true}
 use mir.Syntax.{w64}
 use mir.Val.{SFits, toZ}
@@ -28,10 +28,6 @@ empty (c ∷ t) h = absurd (omega arith)
 pub plus-good : (n : ℕ) → n < 2 ^ 63 → Signed.Number (toZ w64 n) ≡ plusOf (Parsed.Number n)
 unfolding plusOf
 plus-good n h = ap Signed.Number (toZ-pos w64 h) ∙ sym (simp (lt-ltb n (2 ^ 63) h))
-
--- all but the first byte
-pub tail-part : (t : List ℕ) → take (length t - 1) (drop 1 t) ≡ drop 1 t
-tail-part t = take-all (length t - 1) (drop 1 t) (simp length-drop (omega arith))
 
 -- what `plusOf` and `minusOf` accept
 plus-of : (p : Parsed) (z : ℤ) → plusOf p ≡ Signed.Number z → (n : ℕ) × (p ≡ Parsed.Number n) × (z ≡ pos n) × (n < 2 ^ 63)
@@ -76,10 +72,7 @@ integer-back (pos n) h =
     let d = decimal-back n (omega (arith, h .sfits)) in
     rw (ne-eqb _ _ (first-glyph (decimalText n) n d)) (rw d (simp (lt-ltb n (2 ^ 63) (h .sfits))))
 integer-back (negsuc n) h =
-    rw (decimal-back (suc n) (omega (arith, h .sfits))) (simp (le-ltb (suc n) 1 (omega arith), le-ltb (2 ^ 63) (suc n) (omega (arith, h .sfits))) (ap (λ (k : ℕ). Signed.Number (negsuc k)) (pred-of n)))
-  where
-    pred-of : (k : ℕ) → suc k - 1 ≡ k
-    pred-of k = omega arith
+    rw (decimal-back (suc n) (omega (arith, h .sfits))) (simp (le-ltb (suc n) 1 (omega arith), le-ltb (2 ^ 63) (suc n) (omega (arith, h .sfits))) (ap (λ (k : ℕ). Signed.Number (negsuc k)) (sub-one (suc n))))
 
 -- ---- printing: a minus, and the text after it
 pub minus-put : (d s : List ℕ) (at : ℕ) → at < length d → put (set d at 45) (at + 1) s ≡ put d at (45 ∷ s)

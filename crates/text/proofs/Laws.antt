@@ -1,11 +1,13 @@
 -- The parsers are exact: a text is accepted where it is the text of a number below 2^64, and the answer is that number. So what is accepted is what is printed (`same-text`).
 use mathlib.Core.Path.{_≡_, refl, sym, ap, _∙_, subst}
-use mathlib.Core.Bool.{Bool, true, false, cond, _&&_}
+use mathlib.Core.Bool.{Bool, true, false, cond, _&&_, false≢true}
 use mathlib.Core.List.{List, [], _∷_, _++_}
 use Prim.Native.Nat.{ℕ, zero, suc, _+_, _-_, _*_, _/_, _%_, _^_, _≤_, _<_}
-use native.Mathlib.Nat.{div-div-eq-div-mul, div-one, div-eq-of-lt, div-le-self, div-add-mod', mul-add-div-right, add-mul-mod-self-right, mod-eq-of-lt, mod-lt, pow-zero, pow-suc, pow-succ', pow-le-pow-right, one-le-pow, le-div-iff-mul-le, div-lt-iff-lt-mul, one-mul, add-comm}
+use native.Mathlib.Nat.{div-div-eq-div-mul, div-one, div-eq-of-lt, div-le-self, div-add-mod', mod-eq-of-lt, mod-lt, pow-zero, pow-suc, pow-succ', pow-le-pow-right, one-le-pow, le-div-iff-mul-le, div-lt-iff-lt-mul, one-mul}
 use native.Mathlib.Decide.{decLt}
+use native.Mathlib.Numerals.{sub-one}
 use native.Mathlib.Omega.{arith}
+use lib.Arith.{digits-div, digits-mod}
 use lib.Dec.{ltb, eqb}
 use lib.ListN.{length, getD, length-append}
 use borrow.Author.Tests.{lt-ltb, le-ltb, eq-eqb, ne-eqb, ltb-true, eqb-true, eqb-false}
@@ -66,12 +68,6 @@ pub record Read (b v n : ℕ) (cs : List ℕ) : Type 0 where
   pub back : cs ≡ digits b (length cs) n
 
 module _ (b : ℕ) (one : 1 ≤ b) (few : b ≤ 16) where
-  over : (v d : ℕ) → d < b → (v * b + d) / b ≡ v
-  over v d h = mul-add-div-right {m = b} one v d ∙ (let e : d / b ≡ 0 = div-eq-of-lt h in omega arith)
-
-  under : (v d : ℕ) → d < b → (v * b + d) % b ≡ d
-  under v d h = ap (λ (x : ℕ). x % b) (add-comm (v * b) d) ∙ add-mul-mod-self-right d v b ∙ mod-eq-of-lt h
-
   next-front : (n k : ℕ) → n / b ^ suc k ≡ n / b ^ k / b
   next-front n k = ap (λ (m : ℕ). n / m) (pow-suc b k) ∙ sym (div-div-eq-div-mul n (b ^ k) b)
 
@@ -83,9 +79,9 @@ module _ (b : ℕ) (one : 1 ≤ b) (few : b ≤ 16) where
       let r = reads cs (v * b + digitOf c) n (o .fits) (o .rest) in
       record {
         below = r .below;
-        front = next-front n (length cs) ∙ ap (λ (q : ℕ). q / b) (r .front) ∙ over v (digitOf c) (o .small);
+        front = next-front n (length cs) ∙ ap (λ (q : ℕ). q / b) (r .front) ∙ digits-div v (o .small);
         back = ap (λ (l : List ℕ). c ∷ l) (r .back)
-            ∙ ap (λ (g : ℕ). g ∷ digits b (length cs) n) (sym (o .is-glyph) ∙ ap (λ (d : ℕ). glyph d) (sym (under v (digitOf c) (o .small)) ∙ ap (λ (q : ℕ). q % b) (sym (r .front))))
+            ∙ ap (λ (g : ℕ). g ∷ digits b (length cs) n) (sym (o .is-glyph) ∙ ap (λ (d : ℕ). glyph d) (sym (digits-mod v (o .small)) ∙ ap (λ (q : ℕ). q % b) (sym (r .front))))
             ∙ sym (digits-front b (length cs) n);
       }
 
@@ -123,19 +119,13 @@ pos-first b n k one h = omega (arith, one-mul (b ^ k), le-div-iff-mul-le {k = b 
 first-small : (b n k : ℕ) → 1 ≤ b → n < b ^ suc k → n / b ^ k < b
 first-small b n k one h = div-lt-iff-lt-mul {k = b ^ k} {x = n} {y = b} (one-le-pow k b one) .1 (omega (arith, pow-succ' b k))
 
-pred-is : (k : ℕ) → suc k - 1 ≡ k
-pred-is k = omega arith
-
 -- ---- decimals
 -- what `decimalOf` asks of its text besides the digits
 no-lead : (t u w : Bool) (n : ℕ) (p : Parsed) → cond t Parsed.Bad (cond u (cond w Parsed.Bad p) p) ≡ Parsed.Number n → (t ≡ false) × (u ≡ true → w ≡ false) × (p ≡ Parsed.Number n)
 no-lead true u w n p e = let z : _≡_ {A = ℕ} 0 1 = cc in absurd (omega arith)
 no-lead false true true n p e = let z : _≡_ {A = ℕ} 0 1 = cc in absurd (omega arith)
 no-lead false true false n p e = (refl, (λ _. refl), e)
-no-lead false false w n p e = (refl, (λ z. absurd (false-true z)), e)
-  where
-    false-true : false ≡ true → ⊥
-    false-true z = let y : _≡_ {A = ℕ} 0 1 = cc in omega arith
+no-lead false false w n p e = (refl, (λ z. absurd (false≢true z)), e)
 
 -- what is accepted is the text of its answer
 pub decimal-reads : (t : List ℕ) (n : ℕ) → decimalOf t ≡ Parsed.Number n → Text 10 1 t n × (n < 2 ^ 64)
@@ -152,7 +142,7 @@ decimal-reads (c ∷ cs) n e =
           none-front 10 n (suc (length cs)) (omega arith) (r .front),
           λ h.
               elim (decLt 0 (n / 10 ^ length cs)) [
-                | yes k ↦ subst (λ (m : ℕ). 10 ^ m ≤ n) (sym (pred-is (length cs))) (pos-first 10 n (length cs) (omega arith) k)
+                | yes k ↦ subst (λ (m : ℕ). 10 ^ m ≤ n) (sym (sub-one (suc (length cs)))) (pos-first 10 n (length cs) (omega arith) k)
                 | no k ↦
                     let q : n / 10 ^ length cs ≡ 0 = omega arith in
                     let z : c ≡ 48 = head ∙ ap (λ (x : ℕ). glyph (x % 10)) q in
@@ -175,7 +165,7 @@ decimal-accepts (c ∷ cs) n x h =
           let q : ℕ = n / 10 ^ length cs in
           let whole : c ∷ cs ≡ glyph (q % 10) ∷ digits 10 (length cs) n = x .spelled ∙ digits-front 10 (length cs) n in
           let head : c ≡ glyph (q % 10) = cc in
-          let low : 1 ≤ q = first-pos 10 n (length cs) (omega arith) (subst (λ (m : ℕ). 10 ^ m ≤ n) (pred-is (length cs)) (x .fewest .2 k)) in
+          let low : 1 ≤ q = first-pos 10 n (length cs) (omega arith) (subst (λ (m : ℕ). 10 ^ m ≤ n) (sub-one (suc (length cs))) (x .fewest .2 k)) in
           let high : q < 10 = first-small 10 n (length cs) (omega arith) (x .fewest .1) in
           let is-c : c ≡ 48 + q = head ∙ ap (λ (d : ℕ). glyph d) (mod-eq-of-lt high) ∙ glyph-low q high in
           simp (le-ltb (suc (length cs)) 1 (omega arith), lt-ltb 1 (suc (length cs)) k, ne-eqb c 48 (λ z. omega arith)) p
@@ -183,14 +173,15 @@ decimal-accepts (c ∷ cs) n x h =
     ]
 
 -- ---- sixteen hexadecimal digits
-is-sixteen : (t : Bool) (n : ℕ) (p : Parsed) → cond t p Parsed.Bad ≡ Parsed.Number n → (t ≡ true) × (p ≡ Parsed.Number n)
-is-sixteen true n p e = (refl, e)
-is-sixteen false n p e = let z : _≡_ {A = ℕ} 0 1 = cc in absurd (omega arith)
+-- what is good behind a test passed it
+pub passed : (t : Bool) (n : ℕ) (p : Parsed) → cond t p Parsed.Bad ≡ Parsed.Number n → (t ≡ true) × (p ≡ Parsed.Number n)
+passed true n p e = (refl, e)
+passed false n p e = let z : _≡_ {A = ℕ} 0 1 = cc in absurd (omega arith)
 
 pub hex-reads : (t : List ℕ) (n : ℕ) → hexOf t ≡ Parsed.Number n → Text 16 16 t n × (n < 2 ^ 64)
 unfolding hexOf
 hex-reads t n e =
-    let o = is-sixteen (eqb (length t) 16) n (numberIn 16 t) e in
+    let o = passed (eqb (length t) 16) n (numberIn 16 t) e in
     let l : length t ≡ 16 = eqb-true _ _ (o .0) in
     let r = reads 16 (omega arith) (omega arith) t 0 n (omega arith) (number-from 16 (omega arith) t ∙ o .1) in
     (record { fewest = (omega arith, none-front 16 n (length t) (omega arith) (r .front), λ h. absurd (omega arith)); spelled = r .back }, r .below)
@@ -245,7 +236,7 @@ fewest-from (suc f) n h =
             omega arith,
             omega (arith, pow-suc 10 p, div-lt-iff-lt-mul {k = 10} {x = n} {y = 10 ^ p} (omega arith) .0 (r .1)),
             λ l.
-                subst (λ (m : ℕ). 10 ^ m ≤ n) (sym (pred-is p)) (
+                subst (λ (m : ℕ). 10 ^ m ≤ n) (sym (sub-one (suc p))) (
                 elim (decLt 1 p) [
                   | yes i ↦
                       let e : p ≡ suc (p - 1) = omega arith in

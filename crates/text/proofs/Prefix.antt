@@ -1,12 +1,12 @@
--- A text that starts with another, or is another: the loop's steps, and what the answer says.
+-- A text that starts with another, or is another: the loop's steps, and what the answer says. What is left of a text from a place on.
 use mathlib.Core.Path.{_≡_, refl, sym, ap, ap₂, _∙_}
 use mathlib.Core.Bool.{Bool, true, false, false≢true}
 use mathlib.Core.List.{List, [], _∷_, _++_}
-use Prim.Native.Nat.{ℕ, _+_, _≤_, _<_}
+use Prim.Native.Nat.{ℕ, _+_, _-_, _≤_, _<_}
 use native.Mathlib.Numerals.{add-one}
 use native.Mathlib.Decide.{ℕ-discrete}
 use native.Mathlib.Omega.{arith}
-use lib.ListN.{length, take, drop, getD, length-take, take-append-drop}
+use lib.ListN.{length, take, drop, getD, length-take, length-drop, take-append-drop}
 use lib.Seq.{drop-cons, drop-length, take-all, take-append-seam}
 use borrow.Author.Tests.{eq-eqb, ne-eqb}
 use Rattle.text.specs.Bytes.{startsOf, sameOf}
@@ -62,6 +62,10 @@ starts-split s p e = sym (take-append-drop (length p) s) ∙ ap (λ (l : List �
 
 pub split-starts : (p t : List ℕ) → startsOf (p ++ t) p ≡ true
 split-starts p t = front-starts (p ++ t) p (take-append-seam p t)
+
+-- the end of a slice from a place on is what is left of it
+pub rest-part : (k : ℕ) (l : List ℕ) → take (length l - k) (drop k l) ≡ drop k l
+rest-part k l = take-all (length l - k) (drop k l) (simp length-drop (omega arith))
 
 -- ---- `sameOf` is equality
 pub same-refl : (s : List ℕ) → sameOf s s ≡ true

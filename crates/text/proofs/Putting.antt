@@ -4,12 +4,15 @@ use mathlib.Core.List.{List, _++_, append-assoc}
 use Prim.Native.Nat.{ℕ, _+_, _≤_}
 use native.Mathlib.Omega.{arith}
 use lib.ListN.{length, take, drop, length-append}
-use lib.Seq.{length-take-le, take-at, drop-append-add}
+use lib.Seq.{length-take-le, take-at, drop-append-add, sets-eq, length-sets}
 use Rattle.text.specs.Number.{put}
 
 module _ (d : List ℕ) (at : ℕ) (s : List ℕ) (room : at + length s ≤ length d) where
   length-front : length (take at d ++ s) ≡ at + length s
   length-front = simp (length-append, length-take-le at d (omega arith))
+
+  pub length-put : length (put d at s) ≡ length d
+  length-put = ap length (sym (sets-eq s d at room)) ∙ length-sets d at s
 
   pub take-put : take (at + length s) (put d at s) ≡ take at d ++ s
   take-put = take-at (take at d ++ s) (drop (at + length s) d) (at + length s) length-front

@@ -1,13 +1,9 @@
--- How far a loop has come: the building, the sum, and the house that the edits leave; and small whole numbers.
+-- How far a loop has come: the building, the sum, and the house that the edits leave.
 use native.Mathlib.Numerals.{add-one}
 use native.Mathlib.Nat.{mod-add-mod}
 use native.Mathlib.Omega.{arith}
 use Prim.Native.Nat.{ℕ, _+_, _%_, _^_, _≤_, _<_}
 use mathlib.Core.Path.{_≡_, refl, sym, ap, _∙_}
-use lib.IntN.{pos}
-use mir.Syntax.{w64}
-use mir.Facts.{toZ-pos}
-use mir.Val.{toZ}
 use Rattle.runs.specs.Positions.{sumBelow}
 use Rattle.runs.proofs.SumLaws.{sum-more}
 use Rattle.tank.specs.Rules.{Edit}
@@ -57,7 +53,3 @@ left-none edit h = refl
 pub left-next : (edit : ℕ → Edit) (n : ℕ) (h : House) → afterAt h 0 (edit n) ≡ rules.left edit (n + 1) h
 unfolding rules.left
 left-next edit n h = rw add-one refl
-
--- ---- A small number is itself as a signed one
-pub small : (n : ℕ) → n ≤ 64 → toZ w64 n ≡ pos n
-small n h = toZ-pos w64 (omega (arith, h))

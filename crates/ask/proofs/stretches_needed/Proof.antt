@@ -5,8 +5,6 @@ use Rattle.ask.specs.Asks.{noList}
 use Rattle.ask.proofs.AskLaws.{past, inside}
 use Rattle.ask.proofs.stretches_needed.Statement.{statement}
 use Rattle.ask.proofs.stretches_needed.Tie as tie
-use Rattle.ask.proofs.stretches_needed.Reads as reads
-use Rattle.ask.proofs.stretches_needed.Lts as lts
 
 returns : tie.Need-returns
 returns c =

@@ -6,8 +6,6 @@ use Rattle.ask.specs.Asks.{noList}
 use Rattle.ask.proofs.AskLaws.{past, inside, listed}
 use Rattle.ask.proofs.whole_needed.Statement.{statement}
 use Rattle.ask.proofs.whole_needed.Tie as tie
-use Rattle.ask.proofs.whole_needed.Reads as reads
-use Rattle.ask.proofs.whole_needed.Lts as lts
 
 returns : tie.Need-returns
 returns c =

@@ -38,7 +38,7 @@ returns c =
     let w = c .before .before .before .before .before .before .before .before .before .before .before .before .before .loop in
     let e = c .before .before .before .before .before .before .before .before .before .turn in
     let over = ap {B = Course} (λ (b : Bool). record { house = meaning (e .result .tanks); reader = stateOf (e .result .stand .reader); waits = waiting (e .last .1 .1 .0) 0; over = b }) (sym (c .before .if1 .taken)) in
-    runs-as _ (e .ensures .sound) (c .standing .ensures) (leads-more _ (c .before .before .before .before .before .before .before .before .before .before .before .fresh .ensures) (w .inv .3) (e .ensures) over) (λ x. absurd (true≢false x))
+    runs-as _ (e .ensures .sound) (c .standing .ensures) (leads-more _ (c .before .before .before .before .before .before .before .before .before .before .before .fresh .ensures) (w .inv .3) (e .ensures) over) (λ q. absurd (true≢false q))
 
 loop-less : tie.Need-loop-less Inv-loop μ-loop
 loop-less c = omega arith

@@ -6,8 +6,6 @@ use Rattle.lists.specs.Lists.{wholeNumber, wholeList}
 use Rattle.lists.proofs.ListLaws.{handed-part, handed-count}
 use Rattle.lists.proofs.iter.Statement.{statement}
 use Rattle.lists.proofs.iter.Tie as tie
-use Rattle.lists.proofs.iter.Reads as reads
-use Rattle.lists.proofs.iter.Lts as lts
 
 slice-aggregate-result : tie.Need-slice-aggregate-result
 slice-aggregate-result c =

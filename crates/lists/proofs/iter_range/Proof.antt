@@ -6,8 +6,6 @@ use Rattle.lists.specs.Lists.{rangeNumber, rangeList}
 use Rattle.lists.proofs.ListLaws.{handed-part, handed-count}
 use Rattle.lists.proofs.iter_range.Statement.{statement}
 use Rattle.lists.proofs.iter_range.Tie as tie
-use Rattle.lists.proofs.iter_range.Reads as reads
-use Rattle.lists.proofs.iter_range.Lts as lts
 
 slice-aggregate-result : tie.Need-slice-aggregate-result
 slice-aggregate-result c =

@@ -6,8 +6,6 @@ use Rattle.lists.specs.Lists.{rangeList, rangeRefusal}
 use Rattle.lists.proofs.ListLaws.{needed-some, handed-none, handed-short, handed-full, list-is, can-list}
 use Rattle.lists.proofs.list_range.Statement.{statement}
 use Rattle.lists.proofs.list_range.Tie as tie
-use Rattle.lists.proofs.list_range.Reads as reads
-use Rattle.lists.proofs.list_range.Lts as lts
 
 returns : tie.Need-returns
 returns c =

@@ -7,8 +7,6 @@ use Rattle.lists.specs.Lists.{wholeList}
 use Rattle.lists.proofs.ListLaws.{handed-short, handed-full, list-is, can-list}
 use Rattle.lists.proofs.list_whole.Statement.{statement}
 use Rattle.lists.proofs.list_whole.Tie as tie
-use Rattle.lists.proofs.list_whole.Reads as reads
-use Rattle.lists.proofs.list_whole.Lts as lts
 
 returns : tie.Need-returns
 returns c =

@@ -7,8 +7,6 @@ use Rattle.tank.specs.State.{view}
 use Rattle.lists.proofs.ListLaws.{needed-empty, needed-over, needed-is, list-is}
 use Rattle.lists.proofs.stretches_needed.Statement.{statement}
 use Rattle.lists.proofs.stretches_needed.Tie as tie
-use Rattle.lists.proofs.stretches_needed.Reads as reads
-use Rattle.lists.proofs.stretches_needed.Lts as lts
 
 returns : tie.Need-returns
 returns c = let s = c .before in needed-empty (s .args .start) (s .args .end) (view (s .args .t)) (c .if1 .taken)

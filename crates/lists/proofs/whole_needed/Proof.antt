@@ -7,8 +7,6 @@ use Rattle.tank.specs.State.{view}
 use Rattle.lists.proofs.ListLaws.{list-is}
 use Rattle.lists.proofs.whole_needed.Statement.{statement}
 use Rattle.lists.proofs.whole_needed.Tie as tie
-use Rattle.lists.proofs.whole_needed.Reads as reads
-use Rattle.lists.proofs.whole_needed.Lts as lts
 
 need-marked-requires : tie.Need-need-marked-requires
 need-marked-requires c κs =

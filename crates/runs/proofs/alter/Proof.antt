@@ -8,9 +8,6 @@ use Rattle.runs.proofs.EditLaws.{inside-self, inside-copy, can-copy, ro
 use Rattle.runs.proofs.BehindLaws.{count-copy, behind-on}
 use Rattle.runs.proofs.alter.Statement.{statement}
 use Rattle.runs.proofs.alter.Tie as tie
-use Rattle.runs.proofs.alter.Reads as reads
-use Rattle.runs.proofs.alter.Lts as lts
-use Rattle.runs.proofs.copy.Reads as copy-reads
 
 copy-requires : tie.Need-copy-requires
 unfolding runs altered Canon

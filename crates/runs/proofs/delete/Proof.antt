@@ -8,9 +8,6 @@ use Rattle.runs.proofs.EditLaws.{inside-self, inside-copy, can-copy, ro
 use Rattle.runs.proofs.BehindLaws.{count-copy, behind-on}
 use Rattle.runs.proofs.delete.Statement.{statement}
 use Rattle.runs.proofs.delete.Tie as tie
-use Rattle.runs.proofs.delete.Reads as reads
-use Rattle.runs.proofs.delete.Lts as lts
-use Rattle.runs.proofs.copy.Reads as copy-reads
 
 copy-requires : tie.Need-copy-requires
 unfolding runs deleted Canon

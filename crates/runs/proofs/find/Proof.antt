@@ -8,8 +8,6 @@ use Rattle.runs.specs.Runs.{sums}
 use Rattle.runs.proofs.SumLaws.{sum-more, sum-up}
 use Rattle.runs.proofs.find.Statement.{statement}
 use Rattle.runs.proofs.find.Tie as tie
-use Rattle.runs.proofs.find.Reads as reads
-use Rattle.runs.proofs.find.Lts as lts
 
 abbrev Inv-loop : tie.InvT-loop
 Inv-loop lens n pos i₀ start₀ i start = (i ≤ n) × (start ≡ sums lens i) × (start ≤ pos)

@@ -8,10 +8,6 @@ use Rattle.runs.proofs.EditLaws.{inside-self, inside-copy, inside-push,
 use Rattle.runs.proofs.BehindLaws.{count-push, count-copy, behind-on}
 use Rattle.runs.proofs.insert.Statement.{statement}
 use Rattle.runs.proofs.insert.Tie as tie
-use Rattle.runs.proofs.insert.Reads as reads
-use Rattle.runs.proofs.insert.Lts as lts
-use Rattle.runs.proofs.copy.Reads as copy-reads
-use Rattle.runs.proofs.push.Reads as push-reads
 
 copy-requires : tie.Need-copy-requires
 unfolding runs inserted Canon

@@ -4,10 +4,6 @@ use Prim.Native.Nat.{_-_, _≤_}
 use Rattle.tanks.specs.Pool.{Sound}
 use Rattle.shares_run.proofs.filled.Statement.{statement}
 use Rattle.shares_run.proofs.filled.Tie as tie
-use Rattle.shares_run.proofs.filled.Reads as reads
-use Rattle.shares_run.proofs.filled.Lts as lts
-use Rattle.shares_run.proofs.mark.Reads as mark-reads
-use Rattle.tanks.proofs.Tanks.annotate.Reads as annotate-reads
 
 abbrev Inv-loop : tie.InvT-loop
 Inv-loop tank start n u₀ i₀ u i = (i ≤ n) × (start ≤ 10) × (n ≤ 100) × Sound u

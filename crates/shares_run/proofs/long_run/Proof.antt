@@ -4,9 +4,6 @@ use Prim.Native.Nat.{_-_, _≤_}
 use Rattle.tanks.specs.Pool.{Sound}
 use Rattle.shares_run.proofs.long_run.Statement.{statement}
 use Rattle.shares_run.proofs.long_run.Tie as tie
-use Rattle.shares_run.proofs.long_run.Reads as reads
-use Rattle.shares_run.proofs.long_run.Lts as lts
-use Rattle.shares_run.proofs.turn.Reads as turn-reads
 
 abbrev Inv-loop : tie.InvT-loop
 Inv-loop turns r₀ i₀ r i = (i ≤ turns) × Sound (r .tanks)

@@ -5,8 +5,6 @@ use native.Mathlib.Nat.{mod-lt}
 use native.Mathlib.Omega.{arith}
 use Rattle.shares_run.proofs.part.Statement.{statement}
 use Rattle.shares_run.proofs.part.Tie as tie
-use Rattle.shares_run.proofs.part.Reads as reads
-use Rattle.shares_run.proofs.part.Lts as lts
 
 rem-result : tie.Need-rem-result
 rem-result c = search needs

@@ -9,9 +9,6 @@ use Rattle.tanks.specs.Pool.{noRun, freshly}
 use Rattle.tanks.proofs.LaidLaws.{laid, laid-more-front}
 use Rattle.tanks.proofs.fresh.Statement.{statement}
 use Rattle.tanks.proofs.fresh.Tie as tie
-use Rattle.tanks.proofs.fresh.Reads as reads
-use Rattle.tanks.proofs.fresh.Lts as lts
-use Rattle.styles.proofs.table.blank.Reads as blank-reads
 
 abbrev Inv-loop : tie.InvT-loop
 Inv-loop settings pool₀ u₀ pool u = (u ≤ 8) × (pool ≡ laid pool₀ 0 (λ _. record { len = 4611686018427387903; set = 0 }) u)

@@ -4,10 +4,6 @@ use mathlib.Core.Path.{sym, _∙_}
 use Rattle.tanks.proofs.OpeningLaws.{opens, opens-2}
 use Rattle.tanks.proofs.open.Statement.{statement}
 use Rattle.tanks.proofs.open.Tie as tie
-use Rattle.tanks.proofs.open.Reads as reads
-use Rattle.tanks.proofs.open.Lts as lts
-use Rattle.tanks.proofs.fresh.Reads as fresh-reads
-use Rattle.tanks.proofs.settings.accepts.Reads as accepts-reads
 
 accepts-requires : tie.Need-accepts-requires
 accepts-requires c κs = search needs

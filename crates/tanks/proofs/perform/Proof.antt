@@ -11,14 +11,6 @@ use Rattle.tanks.specs.declared.Performed.{Performed}
 use Rattle.tanks.specs.Contracts.{setBeside, firstBeside, PerformedAs}
 use Rattle.tanks.proofs.perform.Statement.{statement}
 use Rattle.tanks.proofs.perform.Tie as tie
-use Rattle.tanks.proofs.perform.Reads as reads
-use Rattle.tanks.proofs.perform.Lts as lts
-use Rattle.styles.proofs.table.no_marks.Reads as no-marks-reads
-use Rattle.tank.proofs.Tank.annotate.Reads as annotate-reads
-use Rattle.tank.proofs.Tank.delete.Reads as delete-reads
-use Rattle.tank.proofs.Tank.insert.Reads as insert-reads
-use Rattle.tank.proofs.Tank.remove_style_scanning_backward.Reads as remove-style-scanning-backward-reads
-use Rattle.tanks.proofs.plain.Reads as plain-reads
 
 -- an edit that answers its number alone
 as-plain : (e : Edit) (x : Tank) (n : ℕ) (y : Tank) (r : Performed) → Called e x n y

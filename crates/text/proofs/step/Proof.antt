@@ -8,11 +8,6 @@ use Rattle.text.specs.Number.{digitOf}
 use Rattle.text.proofs.Steps.{bad-digit, bad-glyph, bad-wide, good, fits, fits-not}
 use Rattle.text.proofs.step.Statement.{statement}
 use Rattle.text.proofs.step.Tie as tie
-use Rattle.text.proofs.step.Reads as reads
-use Rattle.text.proofs.step.Lts as lts
-use Rattle.text.proofs.digit.Reads as digit-reads
-use Rattle.text.proofs.glyph.Reads as glyph-reads
-use Rattle.text.proofs.widths.wide8.Reads as wide-reads
 
 glyph-is : {c d g w : ℕ} → d ≡ digitOf c → g ≡ glyph d → w ≡ c → glyph (digitOf c) ≡ c → g ≡ w
 glyph-is {c} {d} {g} {w} a b e f = b ∙ ap (λ (x : ℕ). glyph x) a ∙ f ∙ sym e

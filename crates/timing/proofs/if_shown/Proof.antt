@@ -2,7 +2,8 @@
 use borrow.Author.Needs.{needs}
 use native.Mathlib.Omega.{arith}
 use mathlib.Core.Path.{sym, _∙_}
-use Rattle.timing.proofs.Laws.{small}
+use mir.Syntax.{w64}
+use mir.Facts.{toZ-pos}
 use Rattle.timing.proofs.if_shown.Statement.{statement}
 use Rattle.timing.proofs.if_shown.Tie as tie
 
@@ -10,13 +11,13 @@ returns-3 : tie.Need-returns-3
 returns-3 c =
     let n = c .before .before .before .before .before .args .n in
     let e = sym (c .before .same-value .ensures) ∙ c .if1 .taken in
-    rw (c .before .before .before .s .given .1, rw (small n (omega arith)) at e)
+    rw (c .before .before .before .s .given .1, rw (toZ-pos w64 {n = n} (omega arith)) at e)
 
 returns-4 : tie.Need-returns-4
 returns-4 c =
     let n = c .before .before .before .before .before .args .n in
     let e = sym (c .before .same-value .ensures) ∙ c .if1 .left in
-    rw (c .before .before .before .s .given .1, rw (small n (omega arith)) at e)
+    rw (c .before .before .before .s .given .1, rw (toZ-pos w64 {n = n} (omega arith)) at e)
 
 pub if-shown-spec : {M : Type 1} → statement M
 if-shown-spec =

@@ -2,7 +2,8 @@
 use borrow.Author.Needs.{needs}
 use native.Mathlib.Omega.{arith}
 use Prim.Native.Nat.{_+_}
-use Rattle.timing.proofs.Laws.{small}
+use mir.Syntax.{w64}
+use mir.Facts.{toZ-pos}
 use Rattle.timing.proofs.mark.Statement.{statement}
 use Rattle.timing.proofs.mark.Tie as tie
 
@@ -10,4 +11,4 @@ pub mark-spec : {M : Type 1} → statement M
 mark-spec =
     tie.close
     (tie.spec (λ c. search needs) (λ c. search needs) (λ c. search needs) (λ c. search needs) (λ c. search needs) (λ c. search needs)
-    (λ c. rw (small (c .args .b + 1) (omega arith))))
+    (λ c. rw (toZ-pos w64 {n = c .args .b + 1} (omega arith))))

@@ -1,11 +1,12 @@
 -- An anchor to a turn; what is left to say stays the same.
 use borrow.Author.Needs.{needs}
 use lib.ListN.{length, take}
-use mathlib.Core.Path.{_≡_}
+use lib.Seq.{take-nil}
+use mathlib.Core.Path.{_≡_, ap, _∙_}
 use native.Mathlib.Omega.{arith}
 use Rattle.answers.proofs.Laws.{Left, left-all, left-more, left-none}
 use Rattle.answers.specs.Replies.{anchorsSay}
-use Rattle.clerk.proofs.Lists.{anchor-more, anchor-none, take-none}
+use Rattle.clerk.proofs.Lists.{anchor-more, anchor-none}
 use Rattle.lists.specs.Anchors.{Stands, Steps, rest}
 use Rattle.clerk.proofs.listing.put_anchors.Statement.{statement}
 use Rattle.clerk.proofs.listing.put_anchors.Tie as tie
@@ -25,7 +26,7 @@ returns c =
     let w = c .before .before .before .before .loop in
     let t = c .before .before .before .before .before .before .args .t in
     let over = rw (c .enum-told .given .1) at (c .before .before .next-anchor .ensures) in
-    left-none (anchor-none (take (w .i) (rest t (w .c))) (take-none (w .i) (rest t (w .c)) over)) (w .inv .2)
+    left-none (anchor-none (take (w .i) (rest t (w .c))) (ap (take (w .i)) over ∙ take-nil (w .i))) (w .inv .2)
 
 loop-again : tie.Need-loop-again Inv-loop μ-loop
 unfolding Steps

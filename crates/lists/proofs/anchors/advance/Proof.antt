@@ -7,8 +7,6 @@ use Rattle.lists.specs.declared.anchors.Anchor.{Anchor}
 use Rattle.lists.proofs.AnchorListLaws.{step-end, step-cursor}
 use Rattle.lists.proofs.anchors.advance.Statement.{statement}
 use Rattle.lists.proofs.anchors.advance.Tie as tie
-use Rattle.lists.proofs.anchors.advance.Reads as reads
-use Rattle.lists.proofs.anchors.advance.Lts as lts
 
 returns : tie.Need-returns
 returns c =

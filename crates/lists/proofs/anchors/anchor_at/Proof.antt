@@ -8,8 +8,6 @@ use Rattle.lists.specs.Anchors.{noAnchor}
 use Rattle.lists.proofs.AnchorListLaws.{step-end, step-anchor}
 use Rattle.lists.proofs.anchors.anchor_at.Statement.{statement}
 use Rattle.lists.proofs.anchors.anchor_at.Tie as tie
-use Rattle.lists.proofs.anchors.anchor_at.Reads as reads
-use Rattle.lists.proofs.anchors.anchor_at.Lts as lts
 
 returns : tie.Need-returns
 returns c =

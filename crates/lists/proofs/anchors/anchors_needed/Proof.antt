@@ -5,8 +5,6 @@ use borrow.Author.Needs.{needs}
 use Rattle.lists.proofs.CursorLaws.{Tallied, tallied-first, tallied-next, tallied-end}
 use Rattle.lists.proofs.anchors.anchors_needed.Statement.{statement}
 use Rattle.lists.proofs.anchors.anchors_needed.Tie as tie
-use Rattle.lists.proofs.anchors.anchors_needed.Reads as reads
-use Rattle.lists.proofs.anchors.anchors_needed.Lts as lts
 
 abbrev Inv-loop : tie.InvT-loop
 Inv-loop t c₀ count₀ c count = Tallied t c count

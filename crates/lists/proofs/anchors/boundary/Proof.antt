@@ -2,8 +2,6 @@
 use borrow.Author.Needs.{needs}
 use Rattle.lists.proofs.anchors.boundary.Statement.{statement}
 use Rattle.lists.proofs.anchors.boundary.Tie as tie
-use Rattle.lists.proofs.anchors.boundary.Reads as reads
-use Rattle.lists.proofs.anchors.boundary.Lts as lts
 
 returns : tie.Need-returns
 returns c =

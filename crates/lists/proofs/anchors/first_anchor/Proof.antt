@@ -3,8 +3,6 @@ use borrow.Author.Needs.{needs}
 use Rattle.lists.proofs.CursorLaws.{first-is}
 use Rattle.lists.proofs.anchors.first_anchor.Statement.{statement}
 use Rattle.lists.proofs.anchors.first_anchor.Tie as tie
-use Rattle.lists.proofs.anchors.first_anchor.Reads as reads
-use Rattle.lists.proofs.anchors.first_anchor.Lts as lts
 
 pub first-anchor-spec : {M : Type 1} → statement M
 first-anchor-spec =

@@ -4,8 +4,6 @@ use borrow.Author.Needs.{needs}
 use Rattle.lists.proofs.CursorLaws.{next-fits, follows}
 use Rattle.lists.proofs.anchors.following.Statement.{statement}
 use Rattle.lists.proofs.anchors.following.Tie as tie
-use Rattle.lists.proofs.anchors.following.Reads as reads
-use Rattle.lists.proofs.anchors.following.Lts as lts
 
 add-at : tie.Need-add-boundary-2
 add-at c =

@@ -5,8 +5,6 @@ use Rattle.lists.specs.Anchors.{anchors}
 use Rattle.lists.proofs.AnchorListLaws.{judged-lower, judged-short, judged-full}
 use Rattle.lists.proofs.anchors.judged.Statement.{statement}
 use Rattle.lists.proofs.anchors.judged.Tie as tie
-use Rattle.lists.proofs.anchors.judged.Reads as reads
-use Rattle.lists.proofs.anchors.judged.Lts as lts
 
 returns : tie.Need-returns
 returns c = let s = c .before in judged-lower (anchors (view (s .args .t))) (s .args .lower) (s .args .room) (c .if1 .taken)

@@ -3,8 +3,6 @@ use lib.Bits.{and-le-l}
 use borrow.Author.Needs.{needs}
 use Rattle.lists.proofs.anchors.lacking.Statement.{statement}
 use Rattle.lists.proofs.anchors.lacking.Tie as tie
-use Rattle.lists.proofs.anchors.lacking.Reads as reads
-use Rattle.lists.proofs.anchors.lacking.Lts as lts
 
 pub lacking-spec : {M : Type 1} → statement M
 lacking-spec = tie.close (tie.spec (λ c. and-le-l (c .args .set) (c .args .other)) (λ c. search needs))

@@ -4,8 +4,6 @@ use borrow.Author.Needs.{needs}
 use Rattle.lists.proofs.CursorLaws.{left-count}
 use Rattle.lists.proofs.anchors.left_at.Statement.{statement}
 use Rattle.lists.proofs.anchors.left_at.Tie as tie
-use Rattle.lists.proofs.anchors.left_at.Reads as reads
-use Rattle.lists.proofs.anchors.left_at.Lts as lts
 
 returns : tie.Need-returns
 returns c =

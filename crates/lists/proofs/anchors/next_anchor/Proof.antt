@@ -5,8 +5,6 @@ use borrow.Author.Needs.{needs}
 use Rattle.lists.proofs.CursorLaws.{end-place, end-mark, start-mark, takes-end, takes-start, takes-none}
 use Rattle.lists.proofs.anchors.next_anchor.Statement.{statement}
 use Rattle.lists.proofs.anchors.next_anchor.Tie as tie
-use Rattle.lists.proofs.anchors.next_anchor.Reads as reads
-use Rattle.lists.proofs.anchors.next_anchor.Lts as lts
 
 sub-anchor-of : tie.Need-sub-anchor-of
 sub-anchor-of c =

@@ -4,8 +4,6 @@ use borrow.Author.Needs.{needs}
 use Rattle.lists.proofs.CursorLaws.{settles-here, settles-end, settles-next}
 use Rattle.lists.proofs.anchors.settled.Statement.{statement}
 use Rattle.lists.proofs.anchors.settled.Tie as tie
-use Rattle.lists.proofs.anchors.settled.Reads as reads
-use Rattle.lists.proofs.anchors.settled.Lts as lts
 
 returns : tie.Need-returns
 returns c = let s = c .before .before in settles-here (s .pre .0 .formed .laid) (s .args .c) (s .pre .1) (omega arith)

@@ -8,8 +8,6 @@ use Rattle.lists.specs.Anchors.{anchors}
 use Rattle.lists.proofs.AnchorListLaws.{count-room}
 use Rattle.lists.proofs.anchors.turns.Statement.{statement}
 use Rattle.lists.proofs.anchors.turns.Tie as tie
-use Rattle.lists.proofs.anchors.turns.Reads as reads
-use Rattle.lists.proofs.anchors.turns.Lts as lts
 
 returns : tie.Need-returns
 returns c =

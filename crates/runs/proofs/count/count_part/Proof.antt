@@ -16,11 +16,6 @@ use Rattle.runs.proofs.EditLaws.{copied-is}
 use Rattle.runs.proofs.TallyLaws.{tally-pushed}
 use Rattle.runs.proofs.count.count_part.Statement.{statement}
 use Rattle.runs.proofs.count.count_part.Tie as tie
-use Rattle.runs.proofs.count.count_part.Reads as reads
-use Rattle.runs.proofs.count.count_part.Lts as lts
-use Rattle.runs.proofs.change.Reads as change-reads
-use Rattle.runs.proofs.clip.Reads as clip-reads
-use Rattle.runs.proofs.count.more.Reads as more-reads
 
 record Tallied (t : Tally) (lens sets : List ℕ) (m from to bits gone : ℕ) (u : Tally) (k start : ℕ) : Type 0 where
   within : k ≤ m

@@ -4,8 +4,6 @@ use native.Mathlib.Omega.{arith}
 use Rattle.runs.proofs.TallyLaws.{tally-is, tally-none, tally-first, tally-same, tally-new}
 use Rattle.runs.proofs.count.more.Statement.{statement}
 use Rattle.runs.proofs.count.more.Tie as tie
-use Rattle.runs.proofs.count.more.Reads as reads
-use Rattle.runs.proofs.count.more.Lts as lts
 
 returns : tie.Need-returns
 returns c = (omega arith, λ rs out d e j. e ∙ tally-none rs _ _ (c .if1 .taken) ∙ tally-is rs _ _ d j)

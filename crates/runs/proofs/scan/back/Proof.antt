@@ -16,11 +16,6 @@ use Rattle.runs.proofs.Laws.{total-more, total-mono}
 use Rattle.runs.proofs.ScanLaws.{back-missed, back-over}
 use Rattle.runs.proofs.scan.back.Statement.{statement}
 use Rattle.runs.proofs.scan.back.Tie as tie
-use Rattle.runs.proofs.scan.back.Reads as reads
-use Rattle.runs.proofs.scan.back.Lts as lts
-use Rattle.runs.proofs.clip.Reads as clip-reads
-use Rattle.runs.proofs.scan.here.Reads as here-reads
-use Rattle.runs.proofs.sooner.Reads as sooner-reads
 
 record Walked (lens sets : List ℕ) (n mask last k start from : ℕ) : Type 0 where
   within : k ≤ n

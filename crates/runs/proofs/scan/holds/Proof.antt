@@ -7,9 +7,6 @@ use Rattle.runs.specs.Scan.{passes}
 use Rattle.runs.proofs.ScanLaws.{some-bit, no-bit}
 use Rattle.runs.proofs.scan.holds.Statement.{statement}
 use Rattle.runs.proofs.scan.holds.Tie as tie
-use Rattle.runs.proofs.scan.holds.Reads as reads
-use Rattle.runs.proofs.scan.holds.Lts as lts
-use Rattle.styles.proofs.bits.top_in.Reads as top-in-reads
 
 returns : tie.Need-returns
 unfolding passes

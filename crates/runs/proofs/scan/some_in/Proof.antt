@@ -17,10 +17,6 @@ use Rattle.runs.proofs.Laws.{total-more, total-mono}
 use Rattle.runs.proofs.ScanLaws.{any-yes, any-no, at-run, second-fails}
 use Rattle.runs.proofs.scan.some_in.Statement.{statement}
 use Rattle.runs.proofs.scan.some_in.Tie as tie
-use Rattle.runs.proofs.scan.some_in.Reads as reads
-use Rattle.runs.proofs.scan.some_in.Lts as lts
-use Rattle.runs.proofs.clip.Reads as clip-reads
-use Rattle.runs.proofs.scan.here.Reads as here-reads
 
 record Scanned (test : ℕ → Bool) (lens sets : List ℕ) (n from to k start : ℕ) : Type 0 where
   within : k ≤ n

@@ -10,9 +10,6 @@ use Rattle.runs.specs.Gather.{Renumbered}
 use Rattle.runs.proofs.MapLaws.{renumber-none, renumber-more}
 use Rattle.runs.proofs.sets.open_sets.Statement.{statement}
 use Rattle.runs.proofs.sets.open_sets.Tie as tie
-use Rattle.runs.proofs.sets.open_sets.Reads as reads
-use Rattle.runs.proofs.sets.open_sets.Lts as lts
-use Rattle.styles.proofs.bits.open_bit.Reads as open-bit-reads
 
 abbrev Inv-loop : tie.InvT-loop
 Inv-loop sets₀ n i k₀ sets k = (k ≤ n) × Renumbered (λ s r. r ≡ openBit i s) k sets₀ sets

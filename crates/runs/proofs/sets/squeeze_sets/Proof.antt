@@ -8,9 +8,6 @@ use Rattle.runs.specs.Gather.{Renumbered}
 use Rattle.runs.proofs.MapLaws.{renumber-none, renumber-more}
 use Rattle.runs.proofs.sets.squeeze_sets.Statement.{statement}
 use Rattle.runs.proofs.sets.squeeze_sets.Tie as tie
-use Rattle.runs.proofs.sets.squeeze_sets.Reads as reads
-use Rattle.runs.proofs.sets.squeeze_sets.Lts as lts
-use Rattle.styles.proofs.bits.squeeze_set.Reads as squeeze-set-reads
 
 abbrev Inv-loop : tie.InvT-loop
 Inv-loop sets₀ n mask k₀ sets k = (k ≤ n) × Renumbered (Squeezed mask) k sets₀ sets

@@ -10,8 +10,6 @@ use Rattle.runs.specs.Gather.{gather}
 use Rattle.runs.proofs.GatherLaws.{gather-more}
 use Rattle.runs.proofs.sets.union_of.Statement.{statement}
 use Rattle.runs.proofs.sets.union_of.Tie as tie
-use Rattle.runs.proofs.sets.union_of.Reads as reads
-use Rattle.runs.proofs.sets.union_of.Lts as lts
 
 abbrev Inv-loop : tie.InvT-loop
 Inv-loop sets n k₀ all₀ k all = (k ≤ n) × ((lens : List ℕ) → all ≡ gather (runs lens sets k))

@@ -15,12 +15,6 @@ use Rattle.runs.proofs.Laws.{total-more, total-mono}
 use Rattle.runs.proofs.ListLaws.{clipped-more, clipped-grows, front-write, front-length}
 use Rattle.runs.proofs.stretches.list.Statement.{statement}
 use Rattle.runs.proofs.stretches.list.Tie as tie
-use Rattle.runs.proofs.stretches.list.Reads as reads
-use Rattle.runs.proofs.stretches.list.Lts as lts
-use Rattle.runs.proofs.later.Reads as later-reads
-use Rattle.runs.proofs.sooner.Reads as sooner-reads
-use Rattle.runs.proofs.stretches.marks_of.Reads as marks-of-reads
-use Rattle.runs.proofs.stretches.write.Reads as write-reads
 
 record Listed (lens sets : List ℕ) (n from to least : ℕ) (out₀ out : List ℕ) (k start at : ℕ) : Type 0 where
   within : k ≤ n

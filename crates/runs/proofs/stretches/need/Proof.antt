@@ -16,12 +16,6 @@ use Rattle.runs.proofs.Laws.{total-more, total-mono}
 use Rattle.runs.proofs.ListLaws.{clipped-more, clipped-most, entry-most}
 use Rattle.runs.proofs.stretches.need.Statement.{statement}
 use Rattle.runs.proofs.stretches.need.Tie as tie
-use Rattle.runs.proofs.stretches.need.Reads as reads
-use Rattle.runs.proofs.stretches.need.Lts as lts
-use Rattle.runs.proofs.later.Reads as later-reads
-use Rattle.runs.proofs.sooner.Reads as sooner-reads
-use Rattle.runs.proofs.stretches.marks_of.Reads as marks-of-reads
-use Rattle.runs.proofs.stretches.width.Reads as width-reads
 
 record Needed (lens sets : List ℕ) (n from to least k start count : ℕ) : Type 0 where
   within : k ≤ n

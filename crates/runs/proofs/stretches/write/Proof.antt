@@ -9,9 +9,6 @@ use Rattle.runs.specs.Stretches.{entry}
 use Rattle.runs.proofs.ListLaws.{entry-none, entry-some, write-three, write-none}
 use Rattle.runs.proofs.stretches.write.Statement.{statement}
 use Rattle.runs.proofs.stretches.write.Tie as tie
-use Rattle.runs.proofs.stretches.write.Reads as reads
-use Rattle.runs.proofs.stretches.write.Lts as lts
-use Rattle.runs.proofs.stretches.width.Reads as width-reads
 
 returns : tie.Need-returns
 returns c =

@@ -1,23 +1,20 @@
 -- What is kept is the line.
-use mathlib.Core.Path.{_≡_, sym, ap, _∙_}
+use mathlib.Core.Path.{sym, ap, _∙_}
 use mathlib.Core.List.{List}
 use Prim.Native.Nat.{ℕ, _≤_}
 use native.Mathlib.Omega.{arith}
-use lib.ListN.{length, take}
+use lib.ListN.{length}
 use lib.Seq.{length-take-le}
 use borrow.Author.Needs.{needs}
 use Rattle.script.specs.declared.Line.{Line}
 use Rattle.script.specs.Reading.{lineOf}
-use Rattle.script.specs.Lines.{heldOf, Keeps}
-use Rattle.script.proofs.CutLaws.{take-min}
+use Rattle.script.specs.Lines.{Keeps}
+use Rattle.script.proofs.CutLaws.{kept-front}
 use Rattle.script.proofs.lines.kept_read.Statement.{statement}
 use Rattle.script.proofs.lines.kept_read.Tie as tie
 
 inside : {l : Line} {n : ℕ} → Keeps l n → n ≤ length (l .text)
 inside k = omega (arith, k .count, k .sized)
-
-is-held : {l : Line} {n : ℕ} → Keeps l n → take n (l .text) ≡ heldOf l
-is-held {l} {n} k = ap (λ (j : ℕ). take j (l .text)) (k .count) ∙ take-min (l .count) 65 (l .text) (omega (arith, k .sized))
 
 array-share-prefix-t : tie.Need-array-share-prefix-t
 array-share-prefix-t c = inside (c .before .kept .ensures)
@@ -26,7 +23,7 @@ slice-aggregate-read-line : tie.Need-slice-aggregate-read-line
 slice-aggregate-read-line c = sym (length-take-le _ _ (inside (c .before .before .kept .ensures)))
 
 returns : tie.Need-returns
-returns c = c .read-line .ensures ∙ ap (λ (t : List ℕ). lineOf (c .before .before .before .before .args .call) t) (is-held (c .before .before .before .kept .ensures))
+returns c = c .read-line .ensures ∙ ap (λ (t : List ℕ). lineOf (c .before .before .before .before .args .call) t) (kept-front (c .before .before .before .kept .ensures))
 
 pub kept-read-spec : {M : Type 1} → statement M
 kept-read-spec = tie.close (tie.spec (λ c κs. search needs) array-share-prefix-t slice-aggregate-read-line (λ c κs. search needs) returns)

@@ -16,16 +16,6 @@ use Rattle.tanks.proofs.AnswerLaws.{done-refused, done-by}
 use Rattle.tanks.proofs.WriteLaws.{withPool, part, lowest, run-step, read-kept, part-all, run-own, run-behind, run-blank, Inside, inside, put-at-last}
 use Rattle.tanks.proofs.Tanks.edit.Statement.{statement}
 use Rattle.tanks.proofs.Tanks.edit.Tie as tie
-use Rattle.tanks.proofs.Tanks.edit.Reads as reads
-use Rattle.tanks.proofs.Tanks.edit.Lts as lts
-use Rattle.tanks.proofs.perform.Reads as perform-reads
-use Rattle.tanks.proofs.pool.head_of.Reads as head-of-reads
-use Rattle.tanks.proofs.pool.spots.Reads as spots-reads
-use Rattle.tanks.proofs.pool.table_in.Reads as table-in-reads
-use Rattle.tanks.proofs.pool.taken.Reads as taken-reads
-use Rattle.tanks.proofs.pool.turn.Reads as turn-reads
-use Rattle.tanks.proofs.refused.Reads as refused-reads
-use Rattle.tanks.proofs.settings.verdict.Reads as verdict-reads
 
 abbrev Inv-loop : tie.InvT-loop
 Inv-loop tank self₀ t done x m number s k₀ self k =

@@ -4,8 +4,6 @@ use Rattle.tanks.specs.declared.YesNo.{YesNo}
 use Rattle.tanks.proofs.AskLaws.{asked-past, asked-in, touched-said}
 use Rattle.tanks.proofs.Tanks.has_style.Statement.{statement}
 use Rattle.tanks.proofs.Tanks.has_style.Tie as tie
-use Rattle.tanks.proofs.Tanks.has_style.Reads as reads
-use Rattle.tanks.proofs.Tanks.has_style.Lts as lts
 
 returns : tie.Need-returns
 returns c = asked-past YesNo.Refused YesNo.Says (c .before .args .tank) _ (c .if1 .taken)

@@ -4,8 +4,6 @@ use Rattle.tanks.specs.declared.Count.{Count}
 use Rattle.tanks.proofs.AskLaws.{asked-past, asked-in, runs-said}
 use Rattle.tanks.proofs.Tanks.runs.Statement.{statement}
 use Rattle.tanks.proofs.Tanks.runs.Tie as tie
-use Rattle.tanks.proofs.Tanks.runs.Reads as reads
-use Rattle.tanks.proofs.Tanks.runs.Lts as lts
 
 returns : tie.Need-returns
 returns c = asked-past Count.Refused Count.Counts (c .before .args .tank) _ (c .if1 .taken)

@@ -7,9 +7,6 @@ use Rattle.tanks.proofs.SettingLaws.{sound-held, taken}
 use Rattle.tanks.proofs.AnswerLaws.{taken-in, taken-past}
 use Rattle.tanks.proofs.Tanks.take.Statement.{statement}
 use Rattle.tanks.proofs.Tanks.take.Tie as tie
-use Rattle.tanks.proofs.Tanks.take.Reads as reads
-use Rattle.tanks.proofs.Tanks.take.Lts as lts
-use Rattle.tanks.proofs.pool.taken.Reads as taken-reads
 
 mul-taken : tie.Need-mul-taken
 mul-taken c = search needs

@@ -5,10 +5,6 @@ use Rattle.runs.proofs.SumLaws.{sum-next}
 use Rattle.tanks.specs.Pool.{runsIn}
 use Rattle.tanks.proofs.pool.spots.Statement.{statement}
 use Rattle.tanks.proofs.pool.spots.Tie as tie
-use Rattle.tanks.proofs.pool.spots.Reads as reads
-use Rattle.tanks.proofs.pool.spots.Lts as lts
-use Rattle.tanks.proofs.pool.larger.Reads as larger-reads
-use Rattle.tanks.proofs.pool.start.Reads as start-reads
 
 start-requires : tie.Need-start-requires
 start-requires c κs = search needs

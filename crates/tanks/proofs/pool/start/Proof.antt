@@ -8,8 +8,6 @@ use Rattle.runs.proofs.SumLaws.{sum-more, sum-next}
 use Rattle.tanks.specs.Pool.{runsIn, runsBelow}
 use Rattle.tanks.proofs.pool.start.Statement.{statement}
 use Rattle.tanks.proofs.pool.start.Tie as tie
-use Rattle.tanks.proofs.pool.start.Reads as reads
-use Rattle.tanks.proofs.pool.start.Lts as lts
 
 abbrev Inv-loop : tie.InvT-loop
 Inv-loop t heads at₀ u₀ at u = (u ≤ t) × (at ≡ runsBelow heads u)

@@ -12,9 +12,6 @@ use Rattle.tanks.proofs.SliceLaws.{own-laid}
 use Rattle.tanks.proofs.PutLaws.{tank-eq}
 use Rattle.tanks.proofs.pool.taken.Statement.{statement}
 use Rattle.tanks.proofs.pool.taken.Tie as tie
-use Rattle.tanks.proofs.pool.taken.Reads as reads
-use Rattle.tanks.proofs.pool.taken.Lts as lts
-use Rattle.tanks.proofs.pool.start.Reads as start-reads
 
 abbrev Inv-loop : tie.InvT-loop
 Inv-loop t pool at h n marks lens₀ sets₀ i₀ lens sets i =

@@ -3,8 +3,6 @@ use borrow.Author.Needs.{needs}
 use native.Mathlib.Omega.{arith}
 use Rattle.tanks.proofs.pool.turn.Statement.{statement}
 use Rattle.tanks.proofs.pool.turn.Tie as tie
-use Rattle.tanks.proofs.pool.turn.Reads as reads
-use Rattle.tanks.proofs.pool.turn.Lts as lts
 
 sub-result : tie.Need-sub-result
 sub-result c = search needs

@@ -12,9 +12,6 @@ use Rattle.runs.proofs.SumLaws.{sum-more}
 use Rattle.tanks.proofs.SettingLaws.{keeps-facts, all-keep-grown, accepts-not, accepts-last}
 use Rattle.tanks.proofs.settings.accepts.Statement.{statement}
 use Rattle.tanks.proofs.settings.accepts.Tie as tie
-use Rattle.tanks.proofs.settings.accepts.Reads as reads
-use Rattle.tanks.proofs.settings.accepts.Lts as lts
-use Rattle.tanks.proofs.settings.keeps_rule.Reads as keeps-rule-reads
 
 abbrev Inv-loop : tie.InvT-loop
 Inv-loop settings sum₀ u₀ sum u = (u ≤ 8) × (sum ≡ shares settings u) × (sum ≤ 512 * u) × (allKeepRule settings u ≡ true)

@@ -10,10 +10,6 @@ use Rattle.tanks.specs.Pool.{runsIn}
 use Rattle.tanks.proofs.SettingLaws.{small-more}
 use Rattle.tanks.proofs.settings.claimed.Statement.{statement}
 use Rattle.tanks.proofs.settings.claimed.Tie as tie
-use Rattle.tanks.proofs.settings.claimed.Reads as reads
-use Rattle.tanks.proofs.settings.claimed.Lts as lts
-use Rattle.tanks.proofs.settings.held_after.Reads as held-after-reads
-use Rattle.tanks.proofs.settings.larger.Reads as larger-reads
 
 abbrev Inv-loop : tie.InvT-loop
 Inv-loop t n settings heads sum₀ u₀ sum u = (u ≤ 8) × (sum ≡ claims settings (heldAfter (runsIn heads) t n) u)

@@ -2,8 +2,6 @@
 use borrow.Author.Tests.{eq-eqb, ne-eqb}
 use Rattle.tanks.proofs.settings.held_after.Statement.{statement}
 use Rattle.tanks.proofs.settings.held_after.Tie as tie
-use Rattle.tanks.proofs.settings.held_after.Reads as reads
-use Rattle.tanks.proofs.settings.held_after.Lts as lts
 
 returns : tie.Need-returns
 returns c = simp (eq-eqb _ _ (c .if1 .taken))

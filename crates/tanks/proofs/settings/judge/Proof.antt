@@ -6,9 +6,6 @@ use Rattle.tanks.specs.Pool.{runsIn}
 use Rattle.tanks.proofs.SettingLaws.{judged-small, judge-9, judge-10, judge-0}
 use Rattle.tanks.proofs.settings.judge.Statement.{statement}
 use Rattle.tanks.proofs.settings.judge.Tie as tie
-use Rattle.tanks.proofs.settings.judge.Reads as reads
-use Rattle.tanks.proofs.settings.judge.Lts as lts
-use Rattle.tanks.proofs.settings.claimed.Reads as claimed-reads
 
 mul-if1 : tie.Need-mul-if1
 mul-if1 c = search needs

@@ -3,8 +3,6 @@ use borrow.Author.Tests.{le-leb, lt-leb}
 use Rattle.tanks.proofs.SettingLaws.{keeps-last}
 use Rattle.tanks.proofs.settings.keeps_rule.Statement.{statement}
 use Rattle.tanks.proofs.settings.keeps_rule.Tie as tie
-use Rattle.tanks.proofs.settings.keeps_rule.Reads as reads
-use Rattle.tanks.proofs.settings.keeps_rule.Lts as lts
 
 returns : tie.Need-returns
 returns c = simp (lt-leb _ _ (c .if1 .taken))

@@ -5,9 +5,6 @@ use mathlib.Core.Path.{_≡_}
 use borrow.Author.Tests.{ne-eqb}
 use Rattle.tanks.proofs.settings.verdict.Statement.{statement}
 use Rattle.tanks.proofs.settings.verdict.Tie as tie
-use Rattle.tanks.proofs.settings.verdict.Reads as reads
-use Rattle.tanks.proofs.settings.verdict.Lts as lts
-use Rattle.tanks.proofs.settings.judge.Reads as judge-reads
 
 returns : tie.Need-returns
 returns c = rw (ne-eqb (c .before .args .number) 0 (λ z. omega arith))
