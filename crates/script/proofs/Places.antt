@@ -1,23 +1,14 @@
 -- Places of an op's fields: sixteen are enough for every op.
 use mathlib.Core.Path.{_≡_, refl}
 use mathlib.Core.Bool.{true}
-use mathlib.Core.List.{List, [], _∷_, _++_}
-use Prim.Native.Nat.{ℕ, zero, suc, _≤_}
+use Prim.Native.Nat.{ℕ, _≤_}
 use native.Mathlib.Omega.{arith}
 use lib.Dec.{leb}
 use borrow.Author.Tests.{leb-true}
-use lib.ListN.{length, getD, replicate, List·getD-eq-default}
+use lib.ListN.{length, List·getD-eq-default}
 use Rattle.script.specs.declared.Op.{Op}
 use Rattle.script.specs.declared.Field.{Field}
 use Rattle.script.specs.Grammar.{fieldsOf, fieldAt}
-
--- Done in the places behind a list changes no answer
-pub getD-padding : (n i : ℕ) (fs : List Field) → getD (fs ++ replicate n Field.Done) i Field.Done ≡ getD fs i Field.Done
-getD-padding zero i [] = refl
-getD-padding (suc n) zero [] = refl
-getD-padding (suc n) (suc i) [] = getD-padding n i []
-getD-padding n zero (f ∷ fs) = refl
-getD-padding n (suc i) (f ∷ fs) = getD-padding n i fs
 
 few-fields : (op : Op) → leb (length (fieldsOf op)) 16 ≡ true
 few-fields Op.Nothing = refl

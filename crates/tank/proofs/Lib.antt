@@ -20,3 +20,4 @@ pub mod InsertLaws
 pub mod RemoveLaws
 pub mod Sequences
 pub mod OnRuns
+pub mod Tests

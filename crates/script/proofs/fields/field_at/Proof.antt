@@ -6,12 +6,13 @@ use lib.ListN.{length, getD}
 use borrow.Author.Needs.{needs}
 use Rattle.script.specs.declared.Field.{Field}
 use Rattle.script.specs.Grammar.{fieldsOf}
-use Rattle.script.proofs.Places.{getD-padding, past-fields}
+use Rattle.styles.proofs.Cases.{getD-padding}
+use Rattle.script.proofs.Places.{past-fields}
 use Rattle.script.proofs.fields.field_at.Statement.{statement}
 use Rattle.script.proofs.fields.field_at.Tie as tie
 
 returns : tie.Need-returns
-returns c = let a = c .before .before .before .args in ap (λ (l : List Field). getD l (a .place) Field.Done) (c .before .fields .ensures) ∙ getD-padding (16 - length (fieldsOf (a .op))) (a .place) (fieldsOf (a .op))
+returns c = let a = c .before .before .before .args in ap (λ (l : List Field). getD l (a .place) Field.Done) (c .before .fields .ensures) ∙ getD-padding Field.Done (16 - length (fieldsOf (a .op))) (a .place) (fieldsOf (a .op))
 
 returns-2 : tie.Need-returns-2
 returns-2 c = sym (past-fields (c .before .args .op) (c .before .args .place) (c .if1 .left))
