@@ -1,7 +1,7 @@
 // A whole tank's anchors: a cursor by value that runs through them, their count, and the list that fills what a caller lends.
 ghost use mathlib.Core.Path.{_≡_};
 ghost use lib.ListN.{drop, getD, length};
-ghost use Prim.Native.Nat.{_+_, _<_, _≤_};
+ghost use Prim.Native.Nat.{_<_, _≤_};
 ghost use Rattle.styles.specs.Marks.{blank};
 ghost use Rattle.lists.specs.Anchors.{anchorOf, anchors, anchorsAfter, noAnchor, leftAt, rest, Stands, Steps, Follows, Settles};
 ghost use Rattle.runs.specs.Runs.{lackingBits};

@@ -20,7 +20,7 @@ use Rattle.styles.specs.Values.{valueNan}
 use Rattle.styles.proofs.MaskLaws.{has-key-bits, shows-bits, mask-less}
 use Rattle.styles.proofs.SameLaws.{same-pick}
 use Rattle.styles.proofs.UnionLaws.{pick-none}
-use Rattle.runs.specs.Runs.{runs, total, setAt, sums}
+use Rattle.runs.specs.Runs.{total, setAt, sums}
 use Rattle.runs.specs.Gather.{gather}
 use Rattle.runs.specs.Positions.{anyAt, allAt}
 use Rattle.runs.specs.Scan.{meets, shows, commonAt}

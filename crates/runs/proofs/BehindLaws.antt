@@ -7,8 +7,7 @@ use native.Mathlib.Decide.{decLt}
 use lib.ListN.{length, getD, set, drop}
 use lib.Seq.{ext-getD, drop-set-lt, drop-drop, getD-drop}
 use Rattle.runs.specs.Runs.{Run, run, runs, total, setAt, Canon, SameBehind, Spare}
-use Rattle.runs.specs.Edits.{Joined}
-use Rattle.runs.specs.Positions.{followedAt}
+use Rattle.runs.specs.Edits.{Joined, Appended}
 use Rattle.runs.proofs.Laws.{length-runs, push-longer}
 use Rattle.runs.proofs.EditLaws.{copy-longer, one-joined, pushed-is, copied-is}
 
@@ -24,13 +23,13 @@ behind-new lens sets n l s = record { lens-stay = drop-set-lt (n + 1) lens n l (
 
 -- ---- one call after another: the count never falls
 pub count-push : (lens sets lens′ sets′ : List ℕ) (n m l s : ℕ) → Canon (runs lens sets n)
-    → Joined (total (runs lens sets n) + l) (followedAt (total (runs lens sets n)) (setAt (runs lens sets n)) (λ q. s)) (runs lens′ sets′ m) → n ≤ m
+    → Appended (runs lens sets n) l (λ q. s) (runs lens′ sets′ m) → n ≤ m
 count-push lens sets lens′ sets′ n m l s c j =
     omega (arith, ap length (pushed-is (runs lens sets n) l s c j), length-runs lens sets n, length-runs lens′ sets′ m, push-longer (runs lens sets n) l s)
 
 pub count-copy : (f : ℕ → ℕ) (lens sets lens′ sets′ : List ℕ) (n m from to : ℕ) (rs : List Run)
     → Canon (runs lens sets n)
-    → Joined (total (runs lens sets n) + (min to (total rs) - from)) (followedAt (total (runs lens sets n)) (setAt (runs lens sets n)) (λ q. f (setAt rs (from + q)))) (runs lens′ sets′ m)
+    → Appended (runs lens sets n) (min to (total rs) - from) (λ q. f (setAt rs (from + q))) (runs lens′ sets′ m)
     → n ≤ m
 count-copy f lens sets lens′ sets′ n m from to rs c j =
     omega (arith, ap length (copied-is f (runs lens sets n) from to rs c j), length-runs lens sets n, length-runs lens′ sets′ m, copy-longer f (runs lens sets n) from to rs)

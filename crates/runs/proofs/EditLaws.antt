@@ -11,8 +11,8 @@ use lib.Bits.{bitOr, bitAnd, or-zero-r, and-zero-r}
 use native.Mathlib.Nat.{sub-zero}
 use borrow.Author.Tests.{lt-ltb, le-ltb, le-leb, lt-leb}
 use Rattle.runs.specs.Runs.{Run, total, setAt, Canon, changing, runs}
-use Rattle.runs.specs.Edits.{Joined, CanPush, CanCopy, CanEdit}
-use Rattle.runs.specs.Positions.{followedAt, alteredAt, deletedAt, insertedAt}
+use Rattle.runs.specs.Edits.{Joined, CanPush, CanCopy, CanEdit, Appended}
+use Rattle.runs.specs.Positions.{alteredAt, deletedAt, insertedAt}
 use Rattle.runs.proofs.Copies.{pushRun, clip, copyRuns, adding, part, altered, deleted, inserted, Room}
 use Rattle.runs.proofs.Laws.{unique, at-past, total-push, push-before, push-at, canon-push, push-longer, total-copy, copy-before, copy-at, canon-copy, push-room}
 
@@ -73,7 +73,7 @@ pub joined-is : {n : ℕ} {at : ℕ → ℕ} {xs ys : List Run} → Joined n at 
 joined-is j e = rw e j
 
 -- what a push and a copy make is the joined list of the positions that were there, and those that are put behind them
-pub pushed-joined : (rs : List Run) (l s : ℕ) → Canon rs → Joined (total rs + l) (followedAt (total rs) (setAt rs) (λ q. s)) (pushRun rs l s)
+pub pushed-joined : (rs : List Run) (l s : ℕ) → Canon rs → Appended rs l (λ q. s) (pushRun rs l s)
 pushed-joined rs l s c =
     record {
       canon = canon-push rs l s c;
@@ -85,11 +85,11 @@ pushed-joined rs l s c =
           ];
     }
 
-pub pushed-is : (rs : List Run) (l s : ℕ) {out : List Run} → Canon rs → Joined (total rs + l) (followedAt (total rs) (setAt rs) (λ q. s)) out → out ≡ pushRun rs l s
+pub pushed-is : (rs : List Run) (l s : ℕ) {out : List Run} → Canon rs → Appended rs l (λ q. s) out → out ≡ pushRun rs l s
 pushed-is rs l s c j = one-joined j (pushed-joined rs l s c)
 
 module _ (f : ℕ → ℕ) (base : List Run) (from to : ℕ) (rs : List Run) (c : Canon base) where
-  pub copied-joined : Joined (total base + (min to (total rs) - from)) (followedAt (total base) (setAt base) (λ q. f (setAt rs (from + q)))) (copyRuns f base from to rs)
+  pub copied-joined : Appended base (min to (total rs) - from) (λ q. f (setAt rs (from + q))) (copyRuns f base from to rs)
   copied-joined =
       record {
         canon = canon-copy f base from to rs c;
@@ -103,7 +103,7 @@ module _ (f : ℕ → ℕ) (base : List Run) (from to : ℕ) (rs : List Run) (c 
             ];
       }
 
-  pub copied-is : {out : List Run} → Joined (total base + (min to (total rs) - from)) (followedAt (total base) (setAt base) (λ q. f (setAt rs (from + q)))) out
+  pub copied-is : {out : List Run} → Appended base (min to (total rs) - from) (λ q. f (setAt rs (from + q))) out
       → out ≡ copyRuns f base from to rs
   copied-is j = one-joined j copied-joined
 

@@ -6,8 +6,7 @@ use native.Mathlib.Omega.{arith}
 use lib.ListN.{length}
 use Rattle.runs.specs.declared.count.Tally.{Tally}
 use Rattle.runs.specs.Runs.{Run, runs, total, setAt, Canon, Other}
-use Rattle.runs.specs.Edits.{Joined}
-use Rattle.runs.specs.Positions.{followedAt}
+use Rattle.runs.specs.Edits.{Appended}
 use Rattle.runs.specs.Count.{tallyOf}
 use Rattle.runs.proofs.Copies.{pushRun, copyRuns}
 use Rattle.runs.proofs.Laws.{push-none, push-join, push-new, length-copy, length-runs}
@@ -45,7 +44,7 @@ tally-new (r ∷ rs) l s nz some d =
     tally-eq (suc (length rs) + 1) (suc (suc (length rs))) s s (omega arith) refl ∙ sym (ap tallyOf (push-new (r ∷ rs) l s nz d))
 
 -- the joined list of the result is the push
-pub tally-is : (rs : List Run) (l s : ℕ) {out : List Run} → Canon rs → Joined (total rs + l) (followedAt (total rs) (setAt rs) (λ q. s)) out
+pub tally-is : (rs : List Run) (l s : ℕ) {out : List Run} → Canon rs → Appended rs l (λ q. s) out
     → tallyOf (pushRun rs l s) ≡ tallyOf out
 tally-is rs l s c j = ap tallyOf (sym (pushed-is rs l s c j))
 
@@ -55,13 +54,13 @@ count-is t rs e = ap (λ (x : Tally). x .count) e ∙ tally-count rs
 
 -- what is counted for every joined list is counted for the push and the copy
 pub tally-pushed : {t r : Tally} (rs : List Run) (l s : ℕ) → Canon rs → t ≡ tallyOf rs
-    → ((xs out : List Run) → Canon xs → t ≡ tallyOf xs → Joined (total xs + l) (followedAt (total xs) (setAt xs) (λ q. s)) out → r ≡ tallyOf out)
+    → ((xs out : List Run) → Canon xs → t ≡ tallyOf xs → Appended xs l (λ q. s) out → r ≡ tallyOf out)
     → r ≡ tallyOf (pushRun rs l s)
 tally-pushed rs l s c e g = g rs (pushRun rs l s) c e (pushed-joined rs l s c)
 
 pub tally-copied : {t r : Tally} (f : ℕ → ℕ) (base : List Run) (from to : ℕ) (rs : List Run) → Canon base → t ≡ tallyOf base
     → ((xs out : List Run) → Canon xs → t ≡ tallyOf xs
-    → Joined (total xs + (min to (total rs) - from)) (followedAt (total xs) (setAt xs) (λ q. f (setAt rs (from + q)))) out → r ≡ tallyOf out)
+    → Appended xs (min to (total rs) - from) (λ q. f (setAt rs (from + q))) out → r ≡ tallyOf out)
     → r ≡ tallyOf (copyRuns f base from to rs)
 tally-copied f base from to rs c e g = g base (copyRuns f base from to rs) c e (copied-joined f base from to rs c)
 

@@ -12,15 +12,17 @@ pub record Joined (n : ℕ) (at : ℕ → ℕ) (rs : List Run) : Type 0 where
   pub all : total rs ≡ n
   pub sets : (p : ℕ) → p < n → setAt rs p ≡ at p
 
+-- the joined list of `base` with l positions behind it, of which the q-th has the set `more q`
+abbrev pub Appended : List Run → ℕ → (ℕ → ℕ) → List Run → Type 0
+Appended base l more rs = Joined (total base + l) (followedAt (total base) (setAt base) more) rs
+
 -- ---- What calls ask
 -- what a push onto n runs asks: two lists of one length, joined runs, room for the joined list of the result, and a sum that fits
 pub record CanPush (lens sets : List ℕ) (n l s : ℕ) : Type 0 where
   pub even : length sets ≡ length lens
   pub count : n ≤ length lens
   pub joined : Canon (runs lens sets n)
-  pub room : (out : List Run)
-      → Joined (total (runs lens sets n) + l) (followedAt (total (runs lens sets n)) (setAt (runs lens sets n)) (λ q. s)) out
-      → length out ≤ length lens
+  pub room : (out : List Run) → Appended (runs lens sets n) l (λ q. s) out → length out ≤ length lens
   pub sum : total (runs lens sets n) + l < 2 ^ 63
 
 -- what a copy of m runs onto n runs asks: the same, and a source whose sum fits
@@ -31,7 +33,7 @@ pub record CanCopy (f : ℕ → ℕ) (olens osets : List ℕ) (n : ℕ) (lens se
   pub source : total (runs lens sets m) < 2 ^ 63
   pub joined : Canon (runs olens osets n)
   pub room : (out : List Run)
-      → Joined (total (runs olens osets n) + (min to (total (runs lens sets m)) - from)) (followedAt (total (runs olens osets n)) (setAt (runs olens osets n)) (λ q. f (setAt (runs lens sets m) (from + q)))) out
+      → Appended (runs olens osets n) (min to (total (runs lens sets m)) - from) (λ q. f (setAt (runs lens sets m) (from + q))) out
       → length out ≤ length olens
   pub sum : total (runs olens osets n) + (min to (total (runs lens sets m)) - from) < 2 ^ 63
 

@@ -5,8 +5,8 @@ ghost use mathlib.Core.List.{List, []};
 ghost use Prim.Native.Nat.{_+_, _-_, _<_, _≤_, _^_, min};
 ghost use lib.ListN.{length};
 ghost use Rattle.runs.specs.Runs.{Run, runs, total, setAt, Canon, changing};
-ghost use Rattle.runs.specs.Edits.{Joined};
-ghost use Rattle.runs.specs.Positions.{followedAt, alteredAt, deletedAt, insertedAt};
+ghost use Rattle.runs.specs.Edits.{Joined, Appended};
+ghost use Rattle.runs.specs.Positions.{alteredAt, deletedAt, insertedAt};
 ghost use Rattle.runs.specs.Count.{tallyOf, CanTally};
 use super::change;
 use super::clip;
@@ -27,7 +27,7 @@ fn nothing() -> Tally
 fn more(t: Tally, len: u64, set: u64) -> Tally
     requires { ⌜ t .count + 1 < 2 ^ 64 ⌝ }
     ensures { λ r. ⌜ r .count ≤ t .count + 1 ⌝ }
-    ensures { λ r. ⌜ ((rs out : List Run) → Canon rs → t ≡ tallyOf rs → Joined (total rs + len) (followedAt (total rs) (setAt rs) (λ q. set)) out → r ≡ tallyOf out) ⌝ }
+    ensures { λ r. ⌜ ((rs out : List Run) → Canon rs → t ≡ tallyOf rs → Appended rs len (λ q. set) out → r ≡ tallyOf out) ⌝ }
 {
     if len == 0 {
         return t;
@@ -60,7 +60,7 @@ fn count_part(
 ) -> Tally
     requires { ⌜ CanTally (now lens) (now sets) m ⌝ }
     requires { ⌜ t .count + m < 2 ^ 64 ⌝ }
-    ensures { λ r. ⌜ ((rs out : List Run) → Canon rs → t ≡ tallyOf rs → Joined (total rs + (min to (total (runs (now (lens .entry)) (now (sets .entry)) m)) - from)) (followedAt (total rs) (setAt rs) (λ q. changing bits gone (setAt (runs (now (lens .entry)) (now (sets .entry)) m) (from + q)))) out → r ≡ tallyOf out) ⌝ }
+    ensures { λ r. ⌜ ((rs out : List Run) → Canon rs → t ≡ tallyOf rs → Appended rs (min to (total (runs (now (lens .entry)) (now (sets .entry)) m)) - from) (λ q. changing bits gone (setAt (runs (now (lens .entry)) (now (sets .entry)) m) (from + q))) out → r ≡ tallyOf out) ⌝ }
 {
     let mut u = t;
     let mut k = 0;

@@ -9,14 +9,14 @@ pub mod sets; // sets.rt: all sets together, and sets renumbered in place
 ghost use mathlib.Core.Path.{_≡_};
 ghost use Prim.Native.Nat.{_+_, _-_, _<_, _≤_, _^_, min, max};
 ghost use lib.ListN.{length};
-ghost use Rattle.runs.specs.Edits.{Joined, CanPush, CanCopy, CanEdit};
-ghost use Rattle.runs.specs.Positions.{followedAt, alteredAt, deletedAt, insertedAt};
+ghost use Rattle.runs.specs.Edits.{Joined, CanPush, CanCopy, CanEdit, Appended};
+ghost use Rattle.runs.specs.Positions.{alteredAt, deletedAt, insertedAt};
 ghost use Rattle.runs.specs.Runs.{runs, total, setAt, sums, Found, SameBehind, changing};
 
 // `len` positions more with the set `set`, after the runs of the first `n` entries. Returns how many runs there are then.
 pub fn push(lens: &mut [u64], sets: &mut [u64], n: usize, len: u64, set: u64) -> usize
     requires { ⌜ CanPush (now lens) (now sets) n len set ⌝ }
-    ensures { λ r. ⌜ Joined (total (runs (now (lens .entry)) (now (sets .entry)) n) + len) (followedAt (total (runs (now (lens .entry)) (now (sets .entry)) n)) (setAt (runs (now (lens .entry)) (now (sets .entry)) n)) (λ q. set)) (runs (now (lens .exit)) (now (sets .exit)) r) ⌝ }
+    ensures { λ r. ⌜ Appended (runs (now (lens .entry)) (now (sets .entry)) n) len (λ q. set) (runs (now (lens .exit)) (now (sets .exit)) r) ⌝ }
     ensures { λ r. ⌜ SameBehind r (now (lens .entry)) (now (sets .entry)) (now (lens .exit)) (now (sets .exit)) ⌝ }
 {
     if len == 0 {
@@ -78,7 +78,7 @@ pub fn copy(
     gone: u64,
 ) -> usize
     requires { ⌜ CanCopy (changing bits gone) (now olens) (now osets) n (now lens) (now sets) m from to ⌝ }
-    ensures { λ r. ⌜ Joined (total (runs (now (olens .entry)) (now (osets .entry)) n) + (min to (total (runs (now (lens .entry)) (now (sets .entry)) m)) - from)) (followedAt (total (runs (now (olens .entry)) (now (osets .entry)) n)) (setAt (runs (now (olens .entry)) (now (osets .entry)) n)) (λ q. changing bits gone (setAt (runs (now (lens .entry)) (now (sets .entry)) m) (from + q)))) (runs (now (olens .exit)) (now (osets .exit)) r) ⌝ }
+    ensures { λ r. ⌜ Appended (runs (now (olens .entry)) (now (osets .entry)) n) (min to (total (runs (now (lens .entry)) (now (sets .entry)) m)) - from) (λ q. changing bits gone (setAt (runs (now (lens .entry)) (now (sets .entry)) m) (from + q))) (runs (now (olens .exit)) (now (osets .exit)) r) ⌝ }
     ensures { λ r. ⌜ SameBehind r (now (olens .entry)) (now (osets .entry)) (now (olens .exit)) (now (osets .exit)) ⌝ }
 {
     let mut k = 0;

@@ -2,7 +2,7 @@
 
 ghost use mathlib.Core.Path.{_≡_};
 ghost use mathlib.Core.Bool.{_&&_};
-ghost use Prim.Native.Nat.{_+_, _<_};
+ghost use Prim.Native.Nat.{_+_};
 ghost use lib.Dec.{ltb, eqb};
 ghost use Rattle.runs.specs.Runs.{runs, setAt};
 ghost use Rattle.runs.specs.Positions.{anyAt, allAt, stretchTo};

@@ -2,7 +2,7 @@
 
 ghost use mathlib.Core.Path.{_≡_};
 ghost use mathlib.Core.List.{_++_};
-ghost use Prim.Native.Nat.{_+_, _≤_, _<_};
+ghost use Prim.Native.Nat.{_+_, _≤_};
 ghost use lib.Count.{ones};
 ghost use lib.ListN.{length, take, drop};
 ghost use Rattle.runs.specs.Runs.{runs, total, Canon};

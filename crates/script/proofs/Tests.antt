@@ -7,7 +7,6 @@ use Rattle.text.specs.declared.Parsed.{Parsed}
 use Rattle.text.specs.Number.{allDigits, valueIn, numberIn, decimalOf}
 use Rattle.text.specs.Signed.{signedOf, minusOf}
 use Rattle.text.specs.Bytes.{bytes, upTo, holds, startsOf, sameOf}
-use Rattle.styles.specs.declared.Value.{Value}
 use Rattle.script.specs.declared.Field.{Field}
 use Rattle.script.specs.declared.Kind.{Kind}
 use Rattle.script.specs.declared.Op.{Op}

@@ -1,6 +1,6 @@
 // Bytes, however they are cut, to lines, and lines to calls; a reader stands for what came so far.
 ghost use mathlib.Core.Path.{_≡_};
-ghost use Prim.Native.Nat.{_+_, _≤_, _<_, min};
+ghost use Prim.Native.Nat.{_≤_, min};
 ghost use lib.ListN.{length};
 ghost use Rattle.script.specs.Reading.{freshOf, lineOf};
 ghost use Rattle.script.specs.Lines.{heldOf, Keeps, emptyLine, cutOf, readerAt, stateOf, readerIn, countedOf, turnedOf, eventOf, Feeds, endingBy, endingOf};

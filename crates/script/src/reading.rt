@@ -1,7 +1,7 @@
 // What one line, without its newline, makes of the call that is being read.
 ghost use mathlib.Core.Path.{_≡_};
 ghost use mathlib.Core.List.{[], _∷_};
-ghost use Prim.Native.Nat.{_+_, _<_};
+ghost use Prim.Native.Nat.{_<_};
 ghost use Rattle.script.specs.Reading.{startOf, afterName, withinOf, numberOf, opAmong, opNamed, kindAmong, kindNamed, wholeOf, decimalOfBits, valueOf, freshOf, movedOf, badOf, withOp, withNumber, withKind, withValue, heldLine, lineOf};
 use super::Call;
 use super::Field;

@@ -9,7 +9,7 @@ use lib.Bits.{bitAnd, and-zero-l}
 use lib.ListN.{length}
 use borrow.Author.Tests.{eq-eqb, ne-eqb}
 use Rattle.styles.specs.declared.Mark.{Mark}
-use Rattle.styles.specs.Marks.{Sorted, common}
+use Rattle.styles.specs.Marks.{Sorted}
 use Rattle.styles.specs.Bits.{pick}
 use Rattle.styles.proofs.PickLaws.{pick-both}
 use Rattle.styles.proofs.UnionLaws.{pick-none}

@@ -5,7 +5,6 @@ use mathlib.Core.Bool.{true, false}
 use mathlib.Core.List.{[]}
 use native.Mathlib.Omega.{arith}
 use lib.Bits.{and-le-r}
-use lib.ListN.{length}
 use borrow.Author.Tests.{lt-ltb, le-ltb, eq-eqb, ne-eqb}
 use Rattle.styles.specs.declared.Styles.{Styles}
 use Rattle.styles.specs.Answers.{stylesOf}

@@ -6,7 +6,7 @@ use mathlib.Core.List.{List}
 use native.Mathlib.Omega.{arith}
 use native.Mathlib.Decide.{decLt}
 use lib.Bits.{or-zero-r}
-use lib.ListN.{length, getD, take}
+use lib.ListN.{getD, take}
 use lib.Pow.{pow-mono}
 use borrow.Author.Tests.{le-leb, lt-leb, ne-eqb}
 use Rattle.styles.specs.declared.Identity.{Identity}
@@ -15,7 +15,7 @@ use Rattle.styles.specs.Order.{idOf}
 use Rattle.styles.specs.Marks.{member, placeOf, blank}
 use Rattle.styles.specs.Bits.{pick, withBit}
 use Rattle.styles.proofs.StyleLaws.{absent-pick}
-use Rattle.runs.specs.Runs.{runs, setAt}
+use Rattle.runs.specs.Runs.{setAt}
 use Rattle.runs.specs.Gather.{gather}
 use Rattle.runs.specs.Positions.{stretchTo}
 use Rattle.runs.specs.Scan.{meets, CanScan}
@@ -23,7 +23,6 @@ use Rattle.runs.proofs.ScanLaws.{stretch-le, stretch-end, stretch-ext}
 use Rattle.tank.specs.declared.Tank.{Tank}
 use Rattle.tank.specs.declared.Removed.{Removed}
 use Rattle.tank.specs.Rules.{View, removing, after, backFrom, stripped, afterRemove, empty, over, long, notNumber, clashes, full, refusal, removedFirst}
-use Rattle.runs.specs.Positions.{within}
 use Rattle.tank.specs.State.{runsOf, tableOf, view, Laid, Formed, Sound, Called}
 use Rattle.tank.specs.Steps.{Trimmed, CanStrip}
 use Rattle.tank.proofs.Calls.{number-4, number-0, refused, made}

@@ -3,7 +3,7 @@ ghost use mathlib.Core.Path.{_≡_};
 ghost use mathlib.Core.Bool.{true};
 ghost use lib.Bits.{bitOr};
 ghost use lib.ListN.{getD};
-ghost use Prim.Native.Nat.{_+_, _^_};
+ghost use Prim.Native.Nat.{_^_};
 ghost use Rattle.styles.specs.Order.{idOf};
 ghost use Rattle.styles.specs.Marks.{blank, insertAt};
 ghost use Rattle.styles.specs.Bits.{openBit};

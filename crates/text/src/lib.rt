@@ -1,9 +1,9 @@
-// Numbers as text, on parts of lines: what is accepted is exactly what is printed.
+// Byte strings: words, a search, and numbers as text, of which what is accepted is exactly what is printed.
 mod widths; // widths.rt: narrower numbers as 64 bits
 
 ghost use mathlib.Core.Path.{_≡_};
 ghost use mathlib.Core.Bool.{cond};
-ghost use Prim.Native.Nat.{_+_, _-_, _*_, _≤_, _<_};
+ghost use Prim.Native.Nat.{_+_, _*_, _≤_};
 ghost use lib.ListN.{length, drop};
 ghost use Rattle.io.specs.Digits.{glyph as glyphOf};
 ghost use Rattle.text.specs.Signed.{plusOf, minusOf, signedOf, sizeOf, signedText};
@@ -167,7 +167,7 @@ pub fn starts(s: &[u8], p: &[u8]) -> bool
     true
 }
 
-// Where a byte stands first, from a place on: behind the last byte where there is none.
+// Where a byte stands first, from a place on: behind the last byte where there is none, and at that place itself where it is past the end.
 pub fn find(bytes: &[u8], from: usize, byte: u8) -> usize
     ensures { λ r. ⌜ r ≡ from + length (upTo byte (drop from (now (bytes .entry)))) ⌝ }
 {

@@ -6,8 +6,7 @@ use native.Mathlib.Omega.{arith}
 use borrow.Author.Needs.{needs}
 use lib.ListN.{length, getD}
 use Rattle.runs.specs.Runs.{Run, runs, total, setAt, Canon, changing, SameBehind}
-use Rattle.runs.specs.Edits.{Joined, CanPush, CanCopy}
-use Rattle.runs.specs.Positions.{followedAt}
+use Rattle.runs.specs.Edits.{CanPush, CanCopy, Appended}
 use Rattle.runs.proofs.Copies.{pushRun, clip, copyRuns}
 use Rattle.runs.proofs.Laws.{total-more, total-mono, canon-copy, copy-more, copy-grows, copy-holds}
 use Rattle.runs.proofs.EditLaws.{joined-is, pushed-is, copied-joined, push-can}
@@ -45,8 +44,7 @@ module _ {olens₀ osets₀ : List ℕ} {n : ℕ} {lens sets : List ℕ} {m from
       (rw turn-push (omega (arith, made .all, copy-holds lens sets (changing bits gone) (runs olens₀ osets₀ n) from to (k + 1) m (omega arith))))
 
   turn : (olens′ osets′ : List ℕ) (at′ : ℕ)
-      → Joined (total (runs olens osets at) + clip from to start (getD lens k 0))
-      (followedAt (total (runs olens osets at)) (setAt (runs olens osets at)) (λ q. changing bits gone (getD sets k 0))) (runs olens′ osets′ at′)
+      → Appended (runs olens osets at) (clip from to start (getD lens k 0)) (λ q. changing bits gone (getD sets k 0)) (runs olens′ osets′ at′)
       → length olens′ ≡ length olens → length osets′ ≡ length osets → SameBehind at′ olens osets olens′ osets′
       → Copied olens₀ osets₀ n lens sets m from to bits gone olens′ osets′ (k + 1) (start + getD lens k 0) at′
   turn olens′ osets′ at′ j l l′ b =
@@ -63,8 +61,7 @@ module _ {olens₀ osets₀ : List ℕ} {n : ℕ} {lens sets : List ℕ} {m from
 -- after the last turn the copy is whole
 whole : {olens₀ osets₀ : List ℕ} {n : ℕ} {lens sets : List ℕ} {m from to bits gone : ℕ} {olens osets : List ℕ} {k start at : ℕ}
     → CanCopy (changing bits gone) olens₀ osets₀ n lens sets m from to → Copied olens₀ osets₀ n lens sets m from to bits gone olens osets k start at → k ≡ m
-    → Joined (total (runs olens₀ osets₀ n) + (min to (total (runs lens sets m)) - from))
-    (followedAt (total (runs olens₀ osets₀ n)) (setAt (runs olens₀ osets₀ n)) (λ q. changing bits gone (setAt (runs lens sets m) (from + q)))) (runs olens osets at)
+    → Appended (runs olens₀ osets₀ n) (min to (total (runs lens sets m)) - from) (λ q. changing bits gone (setAt (runs lens sets m) (from + q))) (runs olens osets at)
 whole {olens₀} {osets₀} {n} {lens} {sets} {m} {from} {to} {bits} {gone} can inv e =
     let copy : ℕ → List Run = λ i. copyRuns (changing bits gone) (runs olens₀ osets₀ n) from to (runs lens sets i) in
     joined-is (copied-joined (changing bits gone) (runs olens₀ osets₀ n) from to (runs lens sets m) (can .joined)) (inv .done ∙ ap copy e)

@@ -7,8 +7,7 @@ use borrow.Author.Needs.{needs}
 use lib.ListN.{getD}
 use Rattle.runs.specs.declared.count.Tally.{Tally}
 use Rattle.runs.specs.Runs.{Run, runs, total, setAt, Canon, changing}
-use Rattle.runs.specs.Edits.{Joined}
-use Rattle.runs.specs.Positions.{followedAt}
+use Rattle.runs.specs.Edits.{Appended}
 use Rattle.runs.specs.Count.{tallyOf, CanTally}
 use Rattle.runs.proofs.Copies.{clip, copyRuns}
 use Rattle.runs.proofs.Laws.{total-more, total-mono, canon-copy, copy-more}
@@ -30,7 +29,7 @@ module _ {t : Tally} {lens sets : List ℕ} {m from to bits gone : ℕ} {u : Tal
 
   turn : (v : Tally) → v .count ≤ u .count + 1
       → ((rs out : List Run) → Canon rs → u ≡ tallyOf rs
-      → Joined (total rs + clip from to start (getD lens k 0)) (followedAt (total rs) (setAt rs) (λ q. changing bits gone (getD sets k 0))) out → v ≡ tallyOf out)
+      → Appended rs (clip from to start (getD lens k 0)) (λ q. changing bits gone (getD sets k 0)) out → v ≡ tallyOf out)
       → Tallied t lens sets m from to bits gone v (k + 1) (start + getD lens k 0)
   turn v h g =
       record {
@@ -46,7 +45,7 @@ module _ {t : Tally} {lens sets : List ℕ} {m from to bits gone : ℕ} {u : Tal
 -- after the last turn the copy is whole
 whole : {t : Tally} {lens sets : List ℕ} {m from to bits gone : ℕ} {u : Tally} {k start : ℕ}
     → Tallied t lens sets m from to bits gone u k start → k ≡ m → (rs out : List Run) → Canon rs → t ≡ tallyOf rs
-    → Joined (total rs + (min to (total (runs lens sets m)) - from)) (followedAt (total rs) (setAt rs) (λ q. changing bits gone (setAt (runs lens sets m) (from + q)))) out
+    → Appended rs (min to (total (runs lens sets m)) - from) (λ q. changing bits gone (setAt (runs lens sets m) (from + q))) out
     → u ≡ tallyOf out
 whole {lens = lens} {sets} {m} {from} {to} {bits} {gone} inv e rs out c d j =
     let copy : ℕ → List Run = λ i. copyRuns (changing bits gone) rs from to (runs lens sets i) in
