@@ -20,10 +20,9 @@ use Rattle.styles.specs.Values.{valueNan}
 use Rattle.styles.proofs.MaskLaws.{has-key-bits, shows-bits, mask-less}
 use Rattle.styles.proofs.SameLaws.{same-pick}
 use Rattle.styles.proofs.UnionLaws.{pick-none}
-use Rattle.runs.specs.Runs.{total, setAt, sums}
-use Rattle.runs.specs.Gather.{gather}
+use Rattle.runs.specs.Runs.{setAt, sums}
 use Rattle.runs.specs.Positions.{anyAt, allAt}
-use Rattle.runs.specs.Scan.{meets, shows, commonAt}
+use Rattle.runs.specs.Scan.{meets, shows}
 use Rattle.runs.proofs.ScanLaws.{any-ext, all-ext, can-look as can-ask}
 use lib.Dec.{eqb}
 use Rattle.tank.specs.declared.Tank.{Tank}
@@ -31,12 +30,11 @@ use Rattle.questions.specs.declared.SetAsked.{SetAsked}
 use Rattle.questions.specs.declared.Shared.{Shared}
 use Rattle.questions.specs.declared.Told.{Told}
 use Rattle.questions.specs.declared.Told.the-variants as told
-use Rattle.tank.specs.Rules.{inherited, forInsert}
+use Rattle.tank.specs.Rules.{forInsert}
 use Rattle.tank.specs.State.{runsOf, tableOf, view, Formed}
 use Rattle.questions.specs.Questions.{toldOf, setOf, sharedOf, positionRefusal, insertRefusal, yesNoRefusal, yesNo, rangeContainsKey, rangeHasKeyValue, sameRefusal, agreeing, stylesOfRange}
 use Rattle.tank.proofs.Counted.{at-inside}
-use Rattle.tank.proofs.GrowLaws.{common-there, common-inherited}
-use Rattle.tank.proofs.Shape.{can-look, view-touched}
+use Rattle.tank.proofs.Shape.{can-look}
 use Rattle.tank.proofs.Unique.{table-length, inside-table}
 
 -- ---- no set beside a number
@@ -83,21 +81,6 @@ module _ {t : Tank} (f : Formed t) where
   pub none-for-insert : (pos : ℕ) → t .touched ≡ false → pick (tableOf t) 0 ≡ forInsert pos (view t)
   unfolding forInsert view
   none-for-insert pos e = pick-none (tableOf t) ∙ sym (simp e)
-
-  module _ (pos : ℕ) (fits : pos ≤ t .length) where
-    reach : pos ≤ total (runsOf t)
-    reach = let a = f .laid .sum in omega arith
-
-    pub common-inside : commonAt (runsOf t) pos < 2 ^ t .marks
-    common-inside =
-        let a = f .laid .inside in
-        omega (arith, common-there (runsOf t) pos reach, and-le-r (commonAt (runsOf t) pos) (gather (runsOf t)))
-
-    pub common-for-insert : t .touched ≡ true → pick (tableOf t) (commonAt (runsOf t) pos) ≡ forInsert pos (view t)
-    unfolding forInsert view
-    common-for-insert e =
-        common-inherited (runsOf t) pos reach (tableOf t) (f .laid .sorted)
-        ∙ ap (inherited pos) (view-touched (f .laid) e) ∙ sym (simp e)
 
   -- ---- the yes/no questions
   module _ (a b : ℕ) (nan holds : Bool) where

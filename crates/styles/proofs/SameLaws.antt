@@ -54,3 +54,7 @@ same-pick t s u h k l =
     bool-of (sameMarks (pick t s) (pick t u)) (eqb s u)
     (λ e. eq-eqb s u (same-number t s u h k l e))
     (λ e. subst (λ (x : ℕ). sameMarks (pick t s) (pick t x) ≡ true) (eqb-true s u e) (same-marks-self (pick t s)))
+
+-- so two that pick the same marks are one
+pub pick-inj : (t : List Mark) (s u : ℕ) → Sorted t → s < 2 ^ length t → u < 2 ^ length t → pick t s ≡ pick t u → s ≡ u
+pick-inj t s u h k l e = same-number t s u h k l (subst (λ (x : List Mark). sameMarks (pick t s) x ≡ true) e (same-marks-self (pick t s)))

@@ -16,11 +16,11 @@ use Rattle.runs.proofs.EditLaws.{one-joined, altered-joined, total-altered, can
 use Rattle.tank.specs.declared.Tank.{Tank}
 use Rattle.tank.specs.State.{runsOf, tableOf, viewOf}
 use Rattle.tank.specs.Steps.{Stepped, OnRange}
-use Rattle.tank.proofs.Shape.{can-edit, over-runs}
+use Rattle.tank.proofs.Shape.{reach, can-edit, over-runs}
 
 module _ {t : Tank} {start end : ℕ} (h : OnRange t start end) where
   pub fits-runs : end ≤ total (runsOf t)
-  fits-runs = let a = h .fits in let b = h .laid .sum in omega arith
+  fits-runs = reach (h .laid) (h .fits)
 
   module _ (f : ℕ → ℕ) where
     -- what becomes of the runs

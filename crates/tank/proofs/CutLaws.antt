@@ -6,7 +6,7 @@ use mathlib.Core.List.{List}
 use native.Mathlib.Omega.{arith}
 use lib.Bits.{and-le-r}
 use lib.ListN.{length}
-use Rattle.runs.specs.Runs.{runs, total, setAt, Spare}
+use Rattle.runs.specs.Runs.{runs, setAt, Spare}
 use Rattle.runs.specs.Edits.{Joined, CanEdit}
 use Rattle.runs.specs.Positions.{deletedAt}
 use Rattle.runs.proofs.Copies.{deleted}

@@ -1,11 +1,11 @@
 -- New positions: what `grow` asks of the run edit, and what it then means.
-use Prim.Native.Nat.{ℕ, _+_, _-_, _≤_}
-use mathlib.Core.Path.{_≡_, ap, _∙_}
+use Prim.Native.Nat.{ℕ, _+_, _-_, _≤_, _<_}
+use mathlib.Core.Path.{_≡_, ap, _∙_, sym}
 use mathlib.Core.Bool.{true}
 use mathlib.Core.List.{List}
 use native.Mathlib.Omega.{arith}
 use native.Mathlib.Decide.{decLt}
-use lib.Bits.{bitAnd, and-zero-l}
+use lib.Bits.{bitAnd, and-zero-l, and-le-r}
 use lib.ListN.{length}
 use borrow.Author.Tests.{eq-eqb, ne-eqb}
 use Rattle.styles.specs.declared.Mark.{Mark}
@@ -26,10 +26,10 @@ use Rattle.runs.proofs.EditLaws.{one-joined, inserted-joined, total-inserted, c
 use Rattle.runs.proofs.GatherLaws.{set-within, gather-inserted}
 use Rattle.runs.proofs.ScanLaws.{common-end, common-inside}
 use Rattle.tank.specs.declared.Tank.{Tank}
-use Rattle.tank.specs.Rules.{inherited, afterInsert}
-use Rattle.tank.specs.State.{runsOf, tableOf, viewOf, view}
+use Rattle.tank.specs.Rules.{inherited, afterInsert, forInsert}
+use Rattle.tank.specs.State.{runsOf, tableOf, viewOf, view, Laid}
 use Rattle.tank.specs.Steps.{Stepped, CanGrow}
-use Rattle.tank.proofs.Shape.{can-edit, over-runs, view-touched, stepped}
+use Rattle.tank.proofs.Shape.{can-edit, over-runs, view-touched, stepped, reach}
 use Rattle.tank.proofs.ViewLaws.{view-inserted}
 
 -- ---- what the neighbours of pos have in common
@@ -74,9 +74,21 @@ module _ (rs : List Run) (pos : ℕ) (fits : pos ≤ total rs) where
         | no h ↦ let e : pos ≡ 0 = omega arith in rw e (pick-none ms)
       ]
 
+-- what new positions at pos get
+module _ {t : Tank} (f : Laid t) (pos : ℕ) (fits : pos ≤ t .length) where
+  pub common-small : commonAt (runsOf t) pos < 2 ^ t .marks
+  common-small =
+      let a = f .inside in
+      omega (arith, common-there (runsOf t) pos (reach f fits), and-le-r (commonAt (runsOf t) pos) (gather (runsOf t)))
+
+  pub common-for-insert : t .touched ≡ true → pick (tableOf t) (commonAt (runsOf t) pos) ≡ forInsert pos (view t)
+  unfolding forInsert view
+  common-for-insert e =
+      common-inherited (runsOf t) pos (reach f fits) (tableOf t) (f .sorted) ∙ ap (inherited pos) (view-touched f e) ∙ sym (simp e)
+
 module _ {t : Tank} (pos len set : ℕ) (h : CanGrow t pos len set) where
   fits : pos ≤ total (runsOf t)
-  fits = let a = h .fits in let b = h .laid .sum in omega arith
+  fits = reach (h .laid) (h .fits)
 
   -- what becomes of the runs
   grown-out : Joined (t .length + len) (insertedAt pos len set (setAt (runsOf t))) (inserted (runsOf t) pos len set)

@@ -4,23 +4,20 @@ use mathlib.Core.Path.{_≡_, refl, sym, ap, _∙_}
 use mathlib.Core.Bool.{true, false}
 use mathlib.Core.List.{[]}
 use native.Mathlib.Omega.{arith}
-use lib.Bits.{and-le-r}
 use borrow.Author.Tests.{lt-ltb, le-ltb, eq-eqb, ne-eqb}
 use Rattle.styles.specs.declared.Styles.{Styles}
 use Rattle.styles.specs.Answers.{stylesOf}
 use Rattle.styles.specs.Bits.{pick}
-use Rattle.runs.specs.Runs.{total}
 use Rattle.runs.specs.Gather.{gather}
 use Rattle.runs.specs.Scan.{commonAt}
 use Rattle.tank.specs.declared.Tank.{Tank}
 use Rattle.tank.specs.declared.Inserted.{Inserted}
-use Rattle.tank.specs.Rules.{inserting, after, inherited, forInsert, afterInsert, empty, over, largest, long, notNumber, clashes, full, refusal, insertedSet}
+use Rattle.tank.specs.Rules.{inserting, after, forInsert, afterInsert, empty, over, largest, long, notNumber, clashes, full, refusal, insertedSet}
 use Rattle.tank.specs.State.{runsOf, tableOf, view, Sound, Called}
 use Rattle.tank.specs.Steps.{Stepped, CanGrow}
 use Rattle.tank.proofs.AnnotateLaws.{formed-of}
 use Rattle.tank.proofs.Calls.{number-3, number-4, number-5, number-0, refused, made}
-use Rattle.tank.proofs.GrowLaws.{common-there, common-inherited}
-use Rattle.tank.proofs.Shape.{view-touched}
+use Rattle.tank.proofs.GrowLaws.{common-small, common-for-insert}
 use Rattle.tank.proofs.Unique.{table-length}
 
 -- what an insertion hands back
@@ -92,13 +89,8 @@ module _ {t : Tank} (s : Sound t) (pos len : ℕ) where
           not-long = let q = le-ltb largest (t .length + len) small in simp (e, q)
 
           module _ (set : ℕ) (q : set ≡ commonAt (runsOf t) pos) where
-            reach : pos ≤ total (runsOf t)
-            reach = let a = s .formed .laid .sum in omega arith
-
             pub set-inside : set < 2 ^ t .marks
-            set-inside =
-                let a = s .formed .laid .inside in
-                omega (arith, common-there (runsOf t) pos reach, and-le-r (commonAt (runsOf t) pos) (gather (runsOf t)))
+            set-inside = rw q (common-small (s .formed .laid) pos fits)
 
             pub can-grow : CanGrow t pos len set
             can-grow =
@@ -106,11 +98,7 @@ module _ {t : Tank} (s : Sound t) (pos len : ℕ) where
                 record { laid = s .formed .laid; touched = e; room = s .within; fits = fits; small = omega arith; common = q }
 
             set-is : pick (tableOf t) set ≡ insertedSet pos len (view t)
-            unfolding forInsert view
-            set-is =
-                let a = accepted not-long in
-                ap (pick (tableOf t)) q ∙ common-inherited (runsOf t) pos reach (tableOf t) (s .formed .laid .sorted)
-                ∙ ap (inherited pos) (view-touched (s .formed .laid) e) ∙ sym (simp (a, e))
+            set-is = let a = accepted not-long in ap (pick (tableOf t)) q ∙ common-for-insert (s .formed .laid) pos fits e ∙ sym (simp a)
 
             still : (afterInsert pos len (view t)) .touched ≡ true
             unfolding afterInsert view

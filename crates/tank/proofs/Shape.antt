@@ -42,6 +42,10 @@ module _ {t : Tank} (f : Laid t) where
       let m = f .most in
       record { lens-n = omega arith; sets-n = omega arith; small = subst (λ (n : ℕ). n < 2 ^ 63) (f .sum) (f .small) }
 
+  -- a position within the tank's length is within its runs
+  pub reach : {p : ℕ} → p ≤ t .length → p ≤ total (runsOf t)
+  reach h = let a = f .sum in omega arith
+
   -- what an edit asks of the tank's runs
   pub can-edit : t .runs ≤ 512 → {n : ℕ} {at : ℕ → ℕ} {out : List Run} → Joined n at out → (olens osets : List ℕ) → length olens ≡ 514 → length osets ≡ 514
       → length out ≤ length (runsOf t) + 2 → n < 2 ^ 63 → CanEdit n at olens osets (t .lens) (t .sets) (t .runs) (t .length)

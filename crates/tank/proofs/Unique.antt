@@ -8,7 +8,7 @@ use lib.Seq.{ext-getD, getD-take}
 use Rattle.styles.specs.Marks.{blank}
 use Rattle.styles.specs.Bits.{pick}
 use Rattle.styles.proofs.UnionLaws.{pick-all}
-use Rattle.styles.proofs.CountLaws.{pick-inj}
+use Rattle.styles.proofs.SameLaws.{pick-inj}
 use Rattle.runs.specs.Runs.{runs, setAt, Spare}
 use Rattle.runs.specs.Gather.{gather}
 use Rattle.runs.proofs.Laws.{unique, length-runs}

@@ -1,6 +1,7 @@
 -- `set_for_insert` meets its contract: nothing in an untouched tank, else what the neighbours have in common.
 use Rattle.styles.specs.Bits.{pick}
-use Rattle.questions.proofs.QuestionLaws.{none-for-insert, common-inside, common-for-insert}
+use Rattle.questions.proofs.QuestionLaws.{none-for-insert}
+use Rattle.tank.proofs.GrowLaws.{common-small, common-for-insert}
 use Rattle.tank.specs.State.{tableOf}
 use borrow.Author.Needs.{needs}
 use borrow.Author.Tests.{not-true, not-false}
@@ -20,8 +21,8 @@ returns-2 c =
     let e = c .before .before .before .before .before in
     let s = e .before .before in (
       ap (pick (tableOf (s .args .t))) (c .common-at .ensures)
-          ∙ common-for-insert (s .pre .0) (s .args .pos) (s .pre .1) (not-false _ (e .if1 .left)),
-      omega (arith, c .common-at .ensures, common-inside (s .pre .0) (s .args .pos) (s .pre .1)),
+          ∙ common-for-insert (s .pre .0 .laid) (s .args .pos) (s .pre .1) (not-false _ (e .if1 .left)),
+      omega (arith, c .common-at .ensures, common-small (s .pre .0 .laid) (s .args .pos) (s .pre .1)),
     )
 
 pub set-for-insert-spec : {M : Type 1} → statement M
