@@ -21,10 +21,11 @@ use Rattle.script.specs.Reading.{lineOf}
 use Rattle.text.proofs.Finding.{front-here, front-past, held-here, held-past}
 use Rattle.script.proofs.CutAnywhere.{read-cut, brings-cut, after-cut}
 use Rattle.script.proofs.Unique.{fed-state}
-use Rattle.answers.specs.Waiting.{Waiting, waiting, withAll, Adds}
+use Rattle.answers.specs.Waiting.{Pieces, Waiting, waiting, withAll, Short, Adds}
+use Rattle.answers.proofs.Laws.{and-then}
 use Rattle.clerk.specs.declared.Done.{Done}
-use Rattle.clerk.specs.Calls.{Performs}
-use Rattle.clerk.specs.Course.{Course, malformedSays, onEvent, afterLine, afterByte, afterBytes}
+use Rattle.clerk.specs.Calls.{saysOf, Performs}
+use Rattle.clerk.specs.Course.{Course, malformedSays, saidOn, onEvent, afterLine, saidLine, afterByte, saidByte, afterBytes, saidBytes}
 
 -- what comes behind the first newline
 abbrev behindLine : List ℕ → List ℕ
@@ -42,40 +43,103 @@ unfolding afterBytes afterByte
 over-stays x [] e = refl
 over-stays x (b ∷ more) e = ap (λ (y : Course). afterBytes y more) (rw e) ∙ over-stays x more e
 
-module _ (x : Course) where
-  byte-taken : (b : ℕ) → x .over ≡ false → afterByte x b ≡ afterLine x (b ∷ [])
-  unfolding afterByte
-  byte-taken b e = rw e
+-- a byte more says nothing
+silent-byte : (x : Course) (byte : ℕ) → x .over ≡ true → saidByte x byte ≡ []
+unfolding saidByte
+silent-byte x byte e = ap (λ (b : Bool). cond b [] (saidLine x (byte ∷ []))) e
 
+-- the run stays over
+over-byte : (x : Course) (byte : ℕ) → x .over ≡ true → afterByte x byte .over ≡ true
+unfolding afterBytes
+over-byte x byte e = ap (λ (y : Course). y .over) (over-stays x (byte ∷ []) e) ∙ e
+
+-- bytes say nothing
+pub silent-bytes : (x : Course) (input : List ℕ) → x .over ≡ true → saidBytes x input ≡ []
+unfolding saidBytes
+silent-bytes x [] e = refl
+silent-bytes x (byte ∷ more) e = ap₂ _++_ (silent-byte x byte e) (silent-bytes (afterByte x byte) more (over-byte x byte e))
+
+-- ---- Where bytes lead, and what they say
+-- a course, and what was said on the way
+abbrev both : Course → Pieces → Course × Pieces
+both x said = (x, said)
+
+-- of bytes
+abbrev heard : Course → List ℕ → Course × Pieces
+heard x input = both (afterBytes x input) (saidBytes x input)
+
+-- pieces said before
+abbrev saidFirst : Pieces → Course × Pieces → Course × Pieces
+saidFirst said p = both (p .0) (said ++ p .1)
+
+-- when the run is over, as good as none
+over-heard : (x : Course) (more : List ℕ) → x .over ≡ true → heard x more ≡ heard x []
+unfolding afterBytes saidBytes
+over-heard x more e = ap₂ both (over-stays x more e) (silent-bytes x more e)
+
+-- ---- What a line brings
+-- a function of the event, the reader's state and the call that a line brings
+abbrev brought : {A : Type 0} → (Event → State → Call → A) → State → List ℕ → A
+brought f r line = f (bringsOf r line) (afterOf r line) (readOf r line .call)
+
+module _ {A : Type 0} (f : Event → State → Call → A) (r : State) where
   -- a line counts by its bytes in front of the newline, and by whether there is one
-  line-by : Bool → List ℕ → Course
+  line-by : Bool → List ℕ → A
   line-by e front =
-      let held = take 65 (x .reader .held ++ front) in
-      let read : Read = cond e (lineOf (x .reader .call) held) (record { call = x .reader .call; progress = Progress.More }) in
-      onEvent
+      let held = take 65 (r .held ++ front) in
+      let read : Read = cond e (lineOf (r .call) held) (record { call = r .call; progress = Progress.More }) in
+      f
       (eventOf (read .progress))
-      x
-      (cond e (turnedOf (x .reader .newlines) (read .progress) (read .call)) (record { held = held; call = x .reader .call; newlines = x .reader .newlines }))
+      (cond e (turnedOf (r .newlines) (read .progress) (read .call)) (record { held = held; call = r .call; newlines = r .newlines }))
       (read .call)
 
-  same-line : (a b : List ℕ) → hasEnd a ≡ hasEnd b → lineFront a ≡ lineFront b → afterLine x a ≡ afterLine x b
+  same-brought : (a b : List ℕ) → hasEnd a ≡ hasEnd b → lineFront a ≡ lineFront b → brought f r a ≡ brought f r b
   unfolding afterOf bringsOf line-by
-  same-line a b e f = ap₂ line-by e f
+  same-brought a b e g = ap₂ line-by e g
+
+  -- its first byte may be taken before, where it is no newline
+  cut-brought : (c : ℕ) (cs : List ℕ) → hasEnd (c ∷ []) ≡ false → brought f (afterOf r (c ∷ [])) cs ≡ brought f r (c ∷ cs)
+  cut-brought c cs e =
+      ap (λ (v : Event). f v (afterOf (afterOf r (c ∷ [])) cs) (readOf (afterOf r (c ∷ [])) cs .call)) (brings-cut r (c ∷ []) cs e)
+      ∙ ap (λ (s : State). f (bringsOf r (c ∷ cs)) s (readOf (afterOf r (c ∷ [])) cs .call)) (after-cut r (c ∷ []) cs e)
+      ∙ ap (λ (q : Read). f (bringsOf r (c ∷ cs)) (afterOf r (c ∷ cs)) (q .call)) (read-cut r (c ∷ []) cs e)
+
+-- the course after such an event, and what it says
+abbrev led : Course → Event → State → Call → Course × Pieces
+led x v r c = both (onEvent v x r c) (saidOn v (x .house) r c)
+
+-- and then bytes
+abbrev heardOn : Course × Pieces → List ℕ → Course × Pieces
+heardOn p more = saidFirst (p .1) (heard (p .0) more)
+
+-- of a line
+abbrev lineLed : Course → List ℕ → Course × Pieces
+lineLed x line = brought (led x) (x .reader) line
+
+module _ (x : Course) where
+  -- of a byte
+  byteLed : ℕ → Course × Pieces
+  byteLed b = both (afterByte x b) (saidByte x b)
+
+  byte-led : (b : ℕ) → x .over ≡ false → byteLed b ≡ lineLed x (b ∷ [])
+  unfolding byteLed afterByte saidByte
+  byte-led b e = ap (λ (v : Bool). both (cond v x (afterLine x (b ∷ []))) (cond v [] (saidLine x (b ∷ [])))) e
+
+  byte-heard : (b : ℕ) (bs : List ℕ) → heard x (b ∷ bs) ≡ heardOn (byteLed b) bs
+  unfolding byteLed afterBytes saidBytes
+  byte-heard b bs = refl
 
   -- the run with one byte more of a line that goes on
   part : ℕ → Course
   part c = record { house = x .house; reader = afterOf (x .reader) (c ∷ []); waits = x .waits; over = false }
 
-  part-brings : (c : ℕ) → hasEnd (c ∷ []) ≡ false → afterLine x (c ∷ []) ≡ part c
-  unfolding bringsOf onEvent part withAll
+  part-brings : (c : ℕ) → hasEnd (c ∷ []) ≡ false → lineLed x (c ∷ []) ≡ both (part c) []
+  unfolding bringsOf onEvent saidOn part withAll
   part-brings c e = rw e
 
-  part-line : (c : ℕ) (cs : List ℕ) → hasEnd (c ∷ []) ≡ false → afterLine (part c) cs ≡ afterLine x (c ∷ cs)
+  part-line : (c : ℕ) (cs : List ℕ) → hasEnd (c ∷ []) ≡ false → lineLed (part c) cs ≡ lineLed x (c ∷ cs)
   unfolding part onEvent
-  part-line c cs e =
-      ap (λ (v : Event). onEvent v x (afterOf (afterOf (x .reader) (c ∷ [])) cs) (readOf (afterOf (x .reader) (c ∷ [])) cs .call)) (brings-cut (x .reader) (c ∷ []) cs e)
-      ∙ ap (λ (r : State). onEvent (bringsOf (x .reader) (c ∷ cs)) x r (readOf (afterOf (x .reader) (c ∷ [])) cs .call)) (after-cut (x .reader) (c ∷ []) cs e)
-      ∙ ap (λ (q : Read). onEvent (bringsOf (x .reader) (c ∷ cs)) x (afterOf (x .reader) (c ∷ cs)) (q .call)) (read-cut (x .reader) (c ∷ []) cs e)
+  part-line c cs e = cut-brought (led x) (x .reader) c cs e
 
 none-behind : (c : ℕ) → (c ≡ 10 → ⊥) → hasEnd (c ∷ []) ≡ false
 unfolding holds
@@ -88,30 +152,68 @@ behind-other c cs n =
 
 module _ (x : Course) (c : ℕ) (cs : List ℕ) (e : x .over ≡ false) where
   -- the line ends here
-  ends : c ≡ 10 → afterBytes x (c ∷ cs) ≡ afterBytes (afterLine x (c ∷ cs)) (behindLine (c ∷ cs))
-  unfolding afterBytes
+  ends : c ≡ 10 → heard x (c ∷ cs) ≡ heardOn (lineLed x (c ∷ cs)) (behindLine (c ∷ cs))
   ends h =
-      ap (λ (y : Course). afterBytes y cs) (byte-taken x c e ∙ same-line x (c ∷ []) (c ∷ cs) (held-here 10 c [] h ∙ sym (held-here 10 c cs h)) (front-here 10 c [] h ∙ sym (front-here 10 c cs h)))
-      ∙ ap (λ (t : List ℕ). afterBytes (afterLine x (c ∷ cs)) (drop (length t + 1) (c ∷ cs))) (sym (front-here 10 c cs h))
+      byte-heard x c cs
+      ∙ ap (λ (p : Course × Pieces). heardOn p cs) (byte-led x c e ∙ same-brought (led x) (x .reader) (c ∷ []) (c ∷ cs) (held-here 10 c [] h ∙ sym (held-here 10 c cs h)) (front-here 10 c [] h ∙ sym (front-here 10 c cs h)))
+      ∙ ap (λ (t : List ℕ). heardOn (lineLed x (c ∷ cs)) (drop (length t + 1) (c ∷ cs))) (sym (front-here 10 c cs h))
 
   -- it goes on
-  goes : (c ≡ 10 → ⊥) → afterBytes (part x c) cs ≡ afterBytes (afterLine (part x c) cs) (behindLine cs) → afterBytes x (c ∷ cs) ≡ afterBytes (afterLine x (c ∷ cs)) (behindLine (c ∷ cs))
-  unfolding afterBytes
+  goes : (c ≡ 10 → ⊥) → heard (part x c) cs ≡ heardOn (lineLed (part x c) cs) (behindLine cs) → heard x (c ∷ cs) ≡ heardOn (lineLed x (c ∷ cs)) (behindLine (c ∷ cs))
   goes h more =
-      ap (λ (y : Course). afterBytes y cs) (byte-taken x c e ∙ part-brings x c (none-behind c h))
+      byte-heard x c cs
+      ∙ ap (λ (p : Course × Pieces). heardOn p cs) (byte-led x c e ∙ part-brings x c (none-behind c h))
       ∙ more
-      ∙ ap (λ (y : Course). afterBytes y (behindLine cs)) (part-line x c cs (none-behind c h))
-      ∙ ap (afterBytes (afterLine x (c ∷ cs))) (sym (behind-other c cs h))
+      ∙ ap (λ (p : Course × Pieces). heardOn p (behindLine cs)) (part-line x c cs (none-behind c h))
+      ∙ ap (heardOn (lineLed x (c ∷ cs))) (sym (behind-other c cs h))
 
 -- the last byte of a read, where the line goes on
-last-byte : (x : Course) (c : ℕ) → x .over ≡ false → (c ≡ 10 → ⊥) → afterBytes x (c ∷ []) ≡ afterBytes (afterLine x (c ∷ [])) (behindLine (c ∷ []))
-unfolding afterBytes
-last-byte x c e h = byte-taken x c e ∙ sym (ap (afterBytes (afterLine x (c ∷ []))) (behind-other c [] h ∙ drop-nil (length (lineFront []) + 1)))
+last-byte : (x : Course) (c : ℕ) → x .over ≡ false → (c ≡ 10 → ⊥) → heard x (c ∷ []) ≡ heardOn (lineLed x (c ∷ [])) (behindLine (c ∷ []))
+last-byte x c e h =
+    byte-heard x c []
+    ∙ ap (λ (p : Course × Pieces). heardOn p []) (byte-led x c e)
+    ∙ sym (ap (heardOn (lineLed x (c ∷ []))) (behind-other c [] h ∙ drop-nil (length (lineFront []) + 1)))
+
+-- a line, then the bytes behind it
+line-heard : (x : Course) (c : ℕ) (cs : List ℕ) → x .over ≡ false → heard x (c ∷ cs) ≡ heardOn (lineLed x (c ∷ cs)) (behindLine (c ∷ cs))
+unfolding part
+line-heard x c [] e = elim (ℕ-discrete c 10) [ yes h ↦ ends x c [] e h | no h ↦ last-byte x c e h ]
+line-heard x c (d ∷ ds) e = elim (ℕ-discrete c 10) [ yes h ↦ ends x c (d ∷ ds) e h | no h ↦ goes x c (d ∷ ds) e h (line-heard (part x c) d ds refl) ]
 
 pub line-bytes : (x : Course) (c : ℕ) (cs : List ℕ) → x .over ≡ false → afterBytes x (c ∷ cs) ≡ afterBytes (afterLine x (c ∷ cs)) (behindLine (c ∷ cs))
-unfolding part
-line-bytes x c [] e = elim (ℕ-discrete c 10) [ yes h ↦ ends x c [] e h | no h ↦ last-byte x c e h ]
-line-bytes x c (d ∷ ds) e = elim (ℕ-discrete c 10) [ yes h ↦ ends x c (d ∷ ds) e h | no h ↦ goes x c (d ∷ ds) e h (line-bytes (part x c) d ds refl) ]
+line-bytes x c cs e = ap (λ (p : Course × Pieces). p .0) (line-heard x c cs e)
+
+-- it says what they say
+pub line-said : (x : Course) (c : ℕ) (cs : List ℕ) → x .over ≡ false → saidBytes x (c ∷ cs) ≡ saidLine x (c ∷ cs) ++ saidBytes (afterLine x (c ∷ cs)) (behindLine (c ∷ cs))
+line-said x c cs e = ap (λ (p : Course × Pieces). p .1) (line-heard x c cs e)
+
+-- ---- What is left of some bytes
+-- it leads where all of them do; where its pieces are short, those of all are
+pub record Left (x : Course) (left : List ℕ) (y : Course) (all : List ℕ) : Type 0 where
+  pub is : afterBytes x left ≡ afterBytes y all
+  pub short : Short (saidBytes x left) → Short (saidBytes y all)
+
+pub left-all : (x : Course) (all : List ℕ) → Left x all x all
+left-all x all = record { is = refl; short = λ h. h }
+
+pub left-then : {x y z : Course} {a b c : List ℕ} → Left x a y b → Left y b z c → Left x a z c
+left-then l m = record { is = l .is ∙ m .is; short = λ h. m .short (l .short h) }
+
+-- pieces put, whatever waited
+puts : (w : Waiting) (ts : Pieces) → Short ts → Adds (w .buffer) (w .at) ts (withAll w ts .at) (withAll w ts .buffer)
+puts w ts h = record { is = refl; short = h }
+
+-- short pieces, and short ones behind them
+pub both-short : (ts us : Pieces) → Short ts → Short us → Short (ts ++ us)
+both-short ts us h k = and-then (puts (waiting [] 0) ts h) (puts (withAll (waiting [] 0) ts) us k) .short
+
+-- what is left when some pieces are said
+left-by : (x : Course) (a : List ℕ) {y : Course} {b : List ℕ} (ts : Pieces) → Short ts → heard y b ≡ saidFirst ts (heard x a) → Left x a y b
+left-by x a ts h e =
+    record {
+      is = sym (ap (λ (p : Course × Pieces). p .0) e);
+      short = λ k. subst Short (sym (ap (λ (p : Course × Pieces). p .1) e)) (both-short ts (saidBytes x a) h k);
+    }
 
 -- ---- A turn of the loop over the bytes of a read
 -- a run that goes on
@@ -126,45 +228,50 @@ drop-least n l =
     ]
 
 module _ (s : Tanks) (at : ℕ) (out : List ℕ) {r : Reader} {from : ℕ} {input : List ℕ} {f : Fed} (more : from < length input) (fed : Feeds r input from f) where
-  line-taken : afterBytes (standing s r at out) (drop from input) ≡ afterBytes (afterLine (standing s r at out) (drop from input)) (drop (f .at) input)
+  behind : behindLine (drop from input) ≡ drop (f .at) input
+  behind =
+      drop-drop (length (lineFront (drop from input)) + 1) from input
+      ∙ (let e : from + (length (lineFront (drop from input)) + 1) ≡ from + length (lineFront (drop from input)) + 1 = omega arith in ap (λ (k : ℕ). drop k input) e)
+      ∙ sym (drop-least (from + length (lineFront (drop from input)) + 1) input)
+      ∙ sym (ap (λ (k : ℕ). drop k input) (fed .at))
+
+  line-taken : heard (standing s r at out) (drop from input) ≡ heardOn (lineLed (standing s r at out) (drop from input)) (drop (f .at) input)
   line-taken =
-      subst (λ (l : List ℕ). afterBytes (standing s r at out) l ≡ afterBytes (afterLine (standing s r at out) l) (behindLine l)) (sym (drop-cons input from 0 more)) (line-bytes (standing s r at out) (getD input from 0) (drop (suc from) input) refl)
-      ∙ ap (afterBytes (afterLine (standing s r at out) (drop from input))) behind
-    where
-      behind : behindLine (drop from input) ≡ drop (f .at) input
-      behind =
-          drop-drop (length (lineFront (drop from input)) + 1) from input
-          ∙ (let e : from + (length (lineFront (drop from input)) + 1) ≡ from + length (lineFront (drop from input)) + 1 = omega arith in ap (λ (k : ℕ). drop k input) e)
-          ∙ sym (drop-least (from + length (lineFront (drop from input)) + 1) input)
-          ∙ sym (ap (λ (k : ℕ). drop k input) (fed .at))
+      subst (λ (l : List ℕ). heard (standing s r at out) l ≡ heardOn (lineLed (standing s r at out) l) (behindLine l)) (sym (drop-cons input from 0 more)) (line-heard (standing s r at out) (getD input from 0) (drop (suc from) input) refl)
+      ∙ ap (heardOn (lineLed (standing s r at out) (drop from input))) behind
 
   -- what the line brings, by the event
-  line-is : (e : Event) → f .event ≡ e → afterLine (standing s r at out) (drop from input) ≡ onEvent e (standing s r at out) (stateOf (f .reader)) (readOf (stateOf r) (drop from input) .call)
+  line-is : (e : Event) → f .event ≡ e → lineLed (standing s r at out) (drop from input) ≡ led (standing s r at out) e (stateOf (f .reader)) (readOf (stateOf r) (drop from input) .call)
   line-is e h =
-      ap (λ (v : Event). onEvent v (standing s r at out) (afterOf (stateOf r) (drop from input)) (readOf (stateOf r) (drop from input) .call)) (sym (fed .event) ∙ h)
-      ∙ ap (λ (t : State). onEvent e (standing s r at out) t (readOf (stateOf r) (drop from input) .call)) (sym (fed-state fed))
+      ap (λ (v : Event). led (standing s r at out) v (afterOf (stateOf r) (drop from input)) (readOf (stateOf r) (drop from input) .call)) (sym (fed .event) ∙ h)
+      ∙ ap (λ (t : State). led (standing s r at out) e t (readOf (stateOf r) (drop from input) .call)) (sym (fed-state fed))
 
-  pub turn-nothing : f .event ≡ Event.Nothing → afterBytes (standing s (f .reader) at out) (drop (f .at) input) ≡ afterBytes (standing s r at out) (drop from input)
-  unfolding onEvent withAll
-  turn-nothing h = sym (line-taken ∙ ap (λ (y : Course). afterBytes y (drop (f .at) input)) (line-is Event.Nothing h))
+  -- and the bytes behind it
+  turned : (e : Event) → f .event ≡ e → heard (standing s r at out) (drop from input) ≡ heardOn (led (standing s r at out) e (stateOf (f .reader)) (readOf (stateOf r) (drop from input) .call)) (drop (f .at) input)
+  turned e h = line-taken ∙ ap (λ (p : Course × Pieces). heardOn p (drop (f .at) input)) (line-is e h)
 
-  pub turn-call : {d : Done} {out' : List ℕ} → f .event ≡ Event.Call → Performs (f .call .op) s (f .call) out at d out' → afterBytes (standing (d .tanks) (f .reader) (d .at) out') (drop (f .at) input) ≡ afterBytes (standing s r at out) (drop from input)
-  unfolding onEvent
+  pub turn-nothing : f .event ≡ Event.Nothing → Left (standing s (f .reader) at out) (drop (f .at) input) (standing s r at out) (drop from input)
+  unfolding onEvent saidOn withAll Short
+  turn-nothing h = left-by (standing s (f .reader) at out) (drop (f .at) input) [] tt (turned Event.Nothing h)
+
+  pub turn-call : {d : Done} {out' : List ℕ} → f .event ≡ Event.Call → Performs (f .call .op) s (f .call) out at d out' → Left (standing (d .tanks) (f .reader) (d .at) out') (drop (f .at) input) (standing s r at out) (drop from input)
+  unfolding onEvent saidOn
   turn-call {d} {out'} h p =
-      sym
-      (line-taken
-      ∙ ap (λ (y : Course). afterBytes y (drop (f .at) input)) (line-is Event.Call h ∙ ap (λ (k : Call). onEvent Event.Call (standing s r at out) (stateOf (f .reader)) k) (sym (fed .call)) ∙ sym performed))
+      left-by (standing (d .tanks) (f .reader) (d .at) out') (drop (f .at) input) (saysOf (f .call .op) (meaning s) (f .call)) (p .answer .short)
+      (turned Event.Call h
+      ∙ ap (λ (k : Call). heardOn (led (standing s r at out) Event.Call (stateOf (f .reader)) k) (drop (f .at) input)) (sym (fed .call))
+      ∙ ap (λ (y : Course). heardOn (both y (saysOf (f .call .op) (meaning s) (f .call))) (drop (f .at) input)) (sym performed))
     where
       performed : standing (d .tanks) (f .reader) (d .at) out' ≡ onEvent Event.Call (standing s r at out) (stateOf (f .reader)) (f .call)
       performed = ap₂ (λ (h : _) (w : Waiting). record { house = h; reader = stateOf (f .reader); waits = w; over = false }) (p .is) (p .answer .is)
 
-  pub turn-bad : {k : ℕ} {out' : List ℕ} → f .event ≡ Event.Bad → Adds out at (malformedSays (stateOf (f .reader))) k out' → record { house = meaning s; reader = stateOf (f .reader); waits = waiting out' k; over = true } ≡ afterBytes (standing s r at out) (drop from input)
-  unfolding onEvent
+  pub turn-bad : {k : ℕ} {out' : List ℕ} → f .event ≡ Event.Bad → Adds out at (malformedSays (stateOf (f .reader))) k out' → Left (record { house = meaning s; reader = stateOf (f .reader); waits = waiting out' k; over = true }) [] (standing s r at out) (drop from input)
+  unfolding onEvent saidOn
   turn-bad {k} {out'} h p =
-      sym
-      (line-taken
-      ∙ ap (λ (y : Course). afterBytes y (drop (f .at) input)) (line-is Event.Bad h ∙ sym said)
-      ∙ over-stays (record { house = meaning s; reader = stateOf (f .reader); waits = waiting out' k; over = true }) (drop (f .at) input) refl)
+      left-by (record { house = meaning s; reader = stateOf (f .reader); waits = waiting out' k; over = true }) [] (malformedSays (stateOf (f .reader))) (p .short)
+      (turned Event.Bad h
+      ∙ ap (λ (y : Course). heardOn (both y (malformedSays (stateOf (f .reader)))) (drop (f .at) input)) (sym said)
+      ∙ ap (saidFirst (malformedSays (stateOf (f .reader)))) (over-heard (record { house = meaning s; reader = stateOf (f .reader); waits = waiting out' k; over = true }) (drop (f .at) input) refl))
     where
       said : record { house = meaning s; reader = stateOf (f .reader); waits = waiting out' k; over = true } ≡ onEvent Event.Bad (standing s r at out) (stateOf (f .reader)) (readOf (stateOf r) (drop from input) .call)
       said = ap (λ (w : Waiting). record { house = meaning s; reader = stateOf (f .reader); waits = w; over = true }) (p .is)

@@ -11,7 +11,7 @@ use Rattle.answers.specs.Waiting.{Pieces, Waiting, withAll}
 use Rattle.answers.proofs.Laws.{with-append}
 use Rattle.clerk.specs.Course.{Course, onEvent, afterLine, afterByte, afterBytes, endedAs, atEnd, afterRead, written, afterReads}
 use Rattle.clerk.specs.Course.{Whereabouts, whereOf, saidLine, saidByte, saidBytes, saidEnding, saidAtEnd, saidRead, saidReads, NoneEmpty}
-use Rattle.clerk.proofs.Bytes.{cut-anywhere, over-stays}
+use Rattle.clerk.proofs.Bytes.{cut-anywhere, over-stays, silent-bytes}
 
 -- ---- What is said is what is put into the output
 -- by whether the run is over
@@ -142,7 +142,7 @@ reads-append x [] more = refl
 reads-append x (input ∷ inputs) more = reads-append (written (afterRead x input)) inputs more
 
 -- what they say
-said-append : (x : Course) (inputs more : List (List ℕ)) → saidReads x (inputs ++ more) ≡ saidReads x inputs ++ saidReads (afterReads x inputs) more
+pub said-append : (x : Course) (inputs more : List (List ℕ)) → saidReads x (inputs ++ more) ≡ saidReads x inputs ++ saidReads (afterReads x inputs) more
 unfolding saidReads afterReads
 said-append x [] more = refl
 said-append x (input ∷ inputs) more =
@@ -173,22 +173,6 @@ pub over-read : (x : Course) (input : List ℕ) → x .over ≡ true → afterRe
 unfolding atEnd
 over-read x [] e = ap (λ (b : Bool). cond b x (endedAs (endingOf (x .reader)) x)) e
 over-read x (byte ∷ more) e = some-taken x (byte ∷ more) (omega arith) ∙ over-stays x (byte ∷ more) e
-
--- a byte more says nothing
-silent-byte : (x : Course) (byte : ℕ) → x .over ≡ true → saidByte x byte ≡ []
-unfolding saidByte
-silent-byte x byte e = ap (λ (b : Bool). cond b [] (saidLine x (byte ∷ []))) e
-
--- the run stays over
-over-byte : (x : Course) (byte : ℕ) → x .over ≡ true → afterByte x byte .over ≡ true
-unfolding afterBytes
-over-byte x byte e = ap (λ (y : Course). y .over) (over-stays x (byte ∷ []) e) ∙ e
-
--- bytes say nothing
-silent-bytes : (x : Course) (input : List ℕ) → x .over ≡ true → saidBytes x input ≡ []
-unfolding saidBytes
-silent-bytes x [] e = refl
-silent-bytes x (byte ∷ more) e = ap₂ _++_ (silent-byte x byte e) (silent-bytes (afterByte x byte) more (over-byte x byte e))
 
 -- a read says nothing
 silent-read : (x : Course) (input : List ℕ) → x .over ≡ true → saidRead x input ≡ []

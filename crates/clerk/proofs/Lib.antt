@@ -1,5 +1,6 @@
 pub mod Bytes
 pub mod Cuts
 pub mod Ends
+pub mod Gone
 pub mod Lists
 pub mod Performing

@@ -2,7 +2,7 @@
 use mathlib.Core.Path.{_≡_}
 use mathlib.Core.Bool.{Bool, true, false, cond}
 use mathlib.Core.List.{List, [], _∷_, _++_}
-use Prim.Native.Nat.{ℕ, _-_, _^_, _<_}
+use Prim.Native.Nat.{ℕ, _-_, _^_, _≤_, _<_}
 use lib.Dec.{eqb}
 use lib.ListN.{length}
 use Rattle.tanks.specs.declared.Tanks.{Tanks}
@@ -16,7 +16,7 @@ use Rattle.script.specs.declared.Reader.{Reader}
 use Rattle.text.specs.Bytes.{bytes}
 use Rattle.script.specs.Reading.{freshOf}
 use Rattle.script.specs.Lines.{State, readerAt, stateOf, countedOf, afterOf, bringsOf, readOf, endingOf}
-use Rattle.answers.specs.Waiting.{Pieces, Waiting, waiting, withAll}
+use Rattle.answers.specs.Waiting.{Pieces, Waiting, waiting, pieceRoom, withAll, Short, front, sent}
 use Rattle.answers.specs.Replies.{lineSays}
 use Rattle.clerk.specs.declared.Eaten.{Eaten}
 use Rattle.clerk.specs.declared.Stand.{Stand}
@@ -130,27 +130,31 @@ saidReads x (input ∷ inputs) = saidRead x input ++ saidReads (written (afterRe
 abbrev pub courseOf : Tanks → Stand → List ℕ → Course
 courseOf s stand buffer = record { house = meaning s; reader = stateOf (stand .reader); waits = waiting buffer (stand .at); over = stand .over }
 
--- bytes eaten
+-- bytes eaten: they lead where the run stands afterwards, and no piece of what they say is too long
 pub record Eats (s : Tanks) (stand : Stand) (buffer : List ℕ) (input : List ℕ) (r : Eaten) (out : List ℕ) : Type 0 where
   pub sound : Sound (r .tanks)
   pub is : courseOf (r .tanks) (r .stand) out ≡ afterBytes (courseOf s stand buffer) input
+  pub short : Short (saidBytes (courseOf s stand buffer) input)
 
--- the end of the input
+-- the end of the input, in the same way
 pub record Closes (s : Tanks) (stand : Stand) (buffer : List ℕ) (r : Eaten) (out : List ℕ) : Type 0 where
   pub sound : Sound (r .tanks)
   pub is : courseOf (r .tanks) (r .stand) out ≡ atEnd (courseOf s stand buffer)
+  pub short : Short (saidAtEnd (courseOf s stand buffer))
 
--- one read, whatever its bytes were: they lead where the run stands afterwards
+-- one read, whatever its bytes were
 pub record Reads (s : Tanks) (stand : Stand) (buffer : List ℕ) (r : Eaten) (out : List ℕ) : Type 0 where
   pub input : List ℕ
   pub sound : Sound (r .tanks)
   pub is : courseOf (r .tanks) (r .stand) out ≡ afterRead (courseOf s stand buffer) input
+  pub short : Short (saidRead (courseOf s stand buffer) input)
 
--- so many reads lead from one place to another
+-- so many reads lead from one place to another, and no piece of what they say is too long
 pub record Leads (reads : ℕ) (x y : Course) : Type 0 where
   pub inputs : List (List ℕ)
   pub count : length inputs ≡ reads
   pub is : y ≡ afterReads x inputs
+  pub short : Short (saidReads x inputs)
 
 -- more reads are not made: there is no run that uses them up
 abbrev pub mostReads : ℕ
@@ -175,9 +179,10 @@ Runs s first buffer r out = RunsFrom (going s first buffer) r out
 abbrev pub beginning : List ℕ → Course
 beginning buffer = record { house = opening smallestSettings; reader = stateOf (readerAt (freshOf Op.Nothing) 0); waits = waiting buffer 0; over = false }
 
--- a run from its beginning to its end, in a buffer of its own
+-- a run from its beginning to its end, in a buffer of its own that has room for a piece
 pub record RunsWhole (r : Eaten) : Type 0 where
   pub buffer : List ℕ
+  pub room : pieceRoom ≤ length buffer
   pub out : List ℕ
   pub runs : RunsFrom (beginning buffer) r out
 
@@ -196,3 +201,8 @@ whereOf x = record { house = x .house; reader = x .reader; over = x .over }
 unfoldable pub NoneEmpty : List (List ℕ) → Type 0
 NoneEmpty [] = Unit
 NoneEmpty (input ∷ inputs) = (0 < length input) × NoneEmpty inputs
+
+-- all that goes out: what is written out while a read's answers are put, then what waits at the end of the read
+unfoldable pub gone : Course → List (List ℕ) → List ℕ
+gone x [] = []
+gone x (input ∷ inputs) = sent (x .waits) (saidRead x input) ++ front (afterRead x input .waits) ++ gone (written (afterRead x input)) inputs

@@ -1,39 +1,38 @@
--- Each turn passes at least one byte: the measure is what is left of them. What is left leads to the same as all of them did.
+-- Each turn passes at least one byte: the measure is what is left of them. What is left leads to the same as all of them did, and where nothing that it says is too long, nothing that all of them say is.
 use Prim.Native.Nat.{_-_, _≤_}
 use borrow.Author.Needs.{needs}
 use lib.ListN.{length, drop}
-use mathlib.Core.Path.{_≡_, refl, _∙_}
+use mathlib.Core.Path.{_≡_}
 use native.Mathlib.Omega.{arith}
-use Rattle.clerk.proofs.Bytes.{standing, turn-nothing, turn-call, turn-bad}
+use Rattle.clerk.proofs.Bytes.{standing, Left, left-all, left-then, turn-nothing, turn-call, turn-bad}
 use Rattle.clerk.proofs.Ends.{all-taken, eats-as}
-use Rattle.clerk.specs.Course.{afterBytes}
 use Rattle.tanks.specs.Pool.{Sound}
 use Rattle.clerk.proofs.eat.Statement.{statement}
 use Rattle.clerk.proofs.eat.Tie as tie
 
 abbrev Inv-loop : tie.InvT-loop
-Inv-loop bytes out₀ tanks₀ reader₀ at₀ from₀ out tanks reader at from = (from ≤ length bytes) × (length out ≡ length out₀) × Sound tanks × (afterBytes (standing tanks reader at out) (drop from bytes) ≡ afterBytes (standing tanks₀ reader₀ at₀ out₀) bytes)
+Inv-loop bytes out₀ tanks₀ reader₀ at₀ from₀ out tanks reader at from = (from ≤ length bytes) × (length out ≡ length out₀) × Sound tanks × Left (standing tanks reader at out) (drop from bytes) (standing tanks₀ reader₀ at₀ out₀) bytes
 
 abbrev μ-loop : tie.MeasureT-loop
 μ-loop bytes out₀ tanks₀ reader₀ at₀ from₀ out tanks reader at from = length bytes - from
 
 loop-holds : tie.Need-loop-holds Inv-loop μ-loop
-loop-holds c = (search needs, search needs, search needs, refl)
+loop-holds c = (search needs, search needs, search needs, left-all _ _)
 
 loop-less : tie.Need-loop-less Inv-loop μ-loop
 loop-less c = omega arith
 
 loop-again : tie.Need-loop-again Inv-loop μ-loop
-loop-again c = let w = c .before .before .before .before .before .loop in (search needs, search needs, search needs, turn-nothing (w .tanks) (w .at) (w .out) (c .before .before .before .before .loop-test .taken) (c .before .before .before .feed .ensures) (c .enum-told .given .1) ∙ w .inv .3)
+loop-again c = let w = c .before .before .before .before .before .loop in (search needs, search needs, search needs, left-then (turn-nothing (w .tanks) (w .at) (w .out) (c .before .before .before .before .loop-test .taken) (c .before .before .before .feed .ensures) (c .enum-told .given .1)) (w .inv .3))
 
 returns : tie.Need-returns Inv-loop μ-loop
-returns c = let w = c .before .before .before .before .before .before .before .before .before .before .loop in let s = c .before .before .before .before .before .before .before .before .before .before .before .before .before .before in eats-as _ _ _ (s .pre .0 .1) (w .inv .2) (c .standing .ensures) (turn-bad (w .tanks) (w .at) (w .out) (c .before .before .before .before .before .before .before .before .before .loop-test .taken) (c .before .before .before .before .before .before .before .before .feed .ensures) (c .before .before .before .before .before .enum-told2 .given .1) (c .before .before .before .put-bad .ensures) ∙ w .inv .3)
+returns c = let w = c .before .before .before .before .before .before .before .before .before .before .loop in let s = c .before .before .before .before .before .before .before .before .before .before .before .before .before .before in eats-as _ _ _ (s .pre .0 .1) (w .inv .2) (c .standing .ensures) (left-then (turn-bad (w .tanks) (w .at) (w .out) (c .before .before .before .before .before .before .before .before .before .loop-test .taken) (c .before .before .before .before .before .before .before .before .feed .ensures) (c .before .before .before .before .before .enum-told2 .given .1) (c .before .before .before .put-bad .ensures)) (w .inv .3))
 
 loop-less-2 : tie.Need-loop-less-2 Inv-loop μ-loop
 loop-less-2 c = omega arith
 
 loop-again-2 : tie.Need-loop-again-2 Inv-loop μ-loop
-loop-again-2 c = let w = c .before .before .before .before .before .before .before .before .before .before .before .loop in (search needs, search needs, c .before .before .before .perform .ensures .sound, turn-call (w .tanks) (w .at) (w .out) (c .before .before .before .before .before .before .before .before .before .before .loop-test .taken) (c .before .before .before .before .before .before .before .before .before .feed .ensures) (c .before .before .before .before .before .before .enum-told3 .given .1) (c .before .before .before .perform .ensures) ∙ w .inv .3)
+loop-again-2 c = let w = c .before .before .before .before .before .before .before .before .before .before .before .loop in (search needs, search needs, c .before .before .before .perform .ensures .sound, left-then (turn-call (w .tanks) (w .at) (w .out) (c .before .before .before .before .before .before .before .before .before .before .loop-test .taken) (c .before .before .before .before .before .before .before .before .before .feed .ensures) (c .before .before .before .before .before .before .enum-told3 .given .1) (c .before .before .before .perform .ensures)) (w .inv .3))
 
 returns-2 : tie.Need-returns-2 Inv-loop μ-loop
 returns-2 c = let w = c .before .before .loop in let s = c .before .before .before .before .before .before in eats-as _ _ _ (s .pre .0 .1) (w .inv .2) (c .standing2 .ensures) (all-taken (standing (w .tanks) (w .reader) (w .at) (w .out)) (w .from) (s .args .bytes .now) (omega arith) (w .inv .3))

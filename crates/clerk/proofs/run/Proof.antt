@@ -5,7 +5,7 @@ use Rattle.clerk.proofs.run.Statement.{statement}
 use Rattle.clerk.proofs.run.Tie as tie
 
 returns : tie.Need-returns
-returns c = runs-whole (c .before .before .before .before .before .«open» .ensures .is) (c .before .before .before .begin .ensures) (c .before .all .ensures)
+returns c = runs-whole (c .before .before .before .before .before .«open» .ensures .is) (c .before .before .before .begin .ensures) (search needs) (c .before .all .ensures)
 
 pub run-spec : {M : Type 1} → statement M
 run-spec = tie.close (tie.spec (λ c κs. search needs) (λ c κs. search needs) (λ c κs. search needs) (λ c. search needs) (λ c κs. search needs) returns)

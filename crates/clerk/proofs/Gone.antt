@@ -1,0 +1,60 @@
+-- Nothing that a run says is lost, and nothing of it goes out twice.
+use mathlib.Core.Path.{_≡_, refl, sym, ap, ap₂, _∙_}
+use mathlib.Core.List.{List, [], _∷_, _++_, append-assoc, flatten}
+use Prim.Native.Nat.{ℕ, _+_, _≤_}
+use native.Mathlib.Omega.{arith}
+use lib.ListN.{length, take, drop, length-append, length-take, length-drop}
+use Rattle.text.specs.Number.{put}
+use Rattle.script.specs.Writing.{freeAt}
+use Rattle.answers.specs.Waiting.{Pieces, Waiting, pieceRoom, with, withAll, Short, front, sent}
+use Rattle.answers.proofs.Sent.{nothing-lost}
+use Rattle.clerk.specs.declared.Eaten.{Eaten}
+use Rattle.clerk.specs.Course.{Course, afterRead, saidRead, written, saidReads, gone, beginning, RunsWhole}
+use Rattle.clerk.proofs.Cuts.{waits-read}
+
+-- of one read, whatever waited before it: what goes out meanwhile and what then waits are what waited before and all that is said
+pub run-nothing-lost : (x : Course) (input : List ℕ) → pieceRoom ≤ length (x .waits .buffer) → x .waits .at ≤ length (x .waits .buffer) → Short (saidRead x input) → sent (x .waits) (saidRead x input) ++ front (afterRead x input .waits) ≡ front (x .waits) ++ flatten (saidRead x input)
+run-nothing-lost x input room inside short = nothing-lost room inside (record { is = waits-read x input; short = short })
+
+-- ---- All reads of a run
+-- a text put takes no room away
+put-room : (d : List ℕ) (at : ℕ) (t : List ℕ) → length d ≤ length (put d at t)
+put-room d at t =
+    omega (arith, length-append (take at d ++ t) (drop (at + length t) d), length-append (take at d) t, length-take at d, length-drop (at + length t) d)
+
+-- nor do pieces
+room-stays : (w : Waiting) (pieces : Pieces) → length (w .buffer) ≤ length (withAll w pieces .buffer)
+unfolding withAll with
+room-stays w [] = omega arith
+room-stays w (t ∷ ts) = omega (arith, put-room (w .buffer) (freeAt pieceRoom (w .at) (w .buffer)) t, room-stays (with w t) ts)
+
+-- nor does a read
+read-room : (x : Course) (input : List ℕ) → length (x .waits .buffer) ≤ length (afterRead x input .waits .buffer)
+read-room x input = omega (arith, room-stays (x .waits) (saidRead x input), ap (λ (w : Waiting). length (w .buffer)) (waits-read x input))
+
+-- parts of short pieces
+short-parts : (ts us : Pieces) → Short (ts ++ us) → Short ts × Short us
+unfolding Short
+short-parts [] us h = (tt, h)
+short-parts (t ∷ ts) us h = let p = short-parts ts us (h .1) in ((h .0, p .0), p .1)
+
+flatten-parts : (ts us : Pieces) → flatten (ts ++ us) ≡ flatten ts ++ flatten us
+unfolding flatten
+flatten-parts [] us = refl
+flatten-parts (t ∷ ts) us = ap (λ (l : List ℕ). t ++ l) (flatten-parts ts us) ∙ sym (append-assoc t (flatten ts) (flatten us))
+
+-- from a place where nothing waits, all that goes out is all that is said
+pub reads-nothing-lost : (x : Course) (inputs : List (List ℕ)) → pieceRoom ≤ length (x .waits .buffer) → x .waits .at ≡ 0 → Short (saidReads x inputs) → gone x inputs ≡ flatten (saidReads x inputs)
+unfolding gone saidReads flatten
+reads-nothing-lost x [] room none short = refl
+reads-nothing-lost x (input ∷ inputs) room none short =
+    let p = short-parts (saidRead x input) (saidReads (written (afterRead x input)) inputs) short in
+    ap₂
+    _++_
+    (run-nothing-lost x input room (omega (arith, none)) (p .0) ∙ ap (λ (k : ℕ). take k (x .waits .buffer) ++ flatten (saidRead x input)) none)
+    (reads-nothing-lost (written (afterRead x input)) inputs (omega (arith, room, read-room x input)) refl (p .1))
+    ∙ sym (flatten-parts (saidRead x input) (saidReads (written (afterRead x input)) inputs))
+
+-- a whole run
+pub whole-nothing-lost : {r : Eaten} (w : RunsWhole r) → gone (beginning (w .buffer)) (w .runs .leads .inputs) ≡ flatten (saidReads (beginning (w .buffer)) (w .runs .leads .inputs))
+whole-nothing-lost w = reads-nothing-lost (beginning (w .buffer)) (w .runs .leads .inputs) (w .room) refl (w .runs .leads .short)
