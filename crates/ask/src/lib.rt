@@ -1,6 +1,5 @@
 // The questions and lists of eight tanks, with the tank's number in front.
 ghost use mathlib.Core.Path.{_≡_};
-ghost use mathlib.Core.Bool.{false};
 ghost use mathlib.Core.List.{[]};
 ghost use lib.ListN.{length};
 ghost use Rattle.lists.specs.Lists.{rangeList, wholeList, rangeNumber, wholeNumber, unlessRefused, filledBeside};
@@ -9,7 +8,6 @@ ghost use Rattle.lists.specs.Anchors.{anchors, anchorsNumber};
 ghost use Rattle.tanks.specs.Contracts.{Taken};
 ghost use Rattle.tanks.specs.House.{askNumber};
 ghost use Rattle.tanks.specs.Pool.{meaning, Sound};
-ghost use Rattle.questions.specs.Questions.{setOf, sharedOf};
 ghost use Rattle.ask.specs.Asks.{askAt, noList, valueAsked, marksAsked, markAsked, inheritAsked, inheritedAsked, keyAsked, allValueAsked, sameAsked, rangeNeededAsked, wholeNeededAsked, anchorsNeededAsked};
 use lists::Listed;
 use lists::anchors::Anchor;
