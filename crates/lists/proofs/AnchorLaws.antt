@@ -2,7 +2,7 @@
 use Prim.Native.Nat.{ℕ, zero, suc, _+_, _-_, _*_, _/_, _%_, _≤_, _<_, _^_, min}
 use mathlib.Core.Path.{_≡_, refl, sym, ap, ap₂, _∙_, subst}
 use mathlib.Core.Bool.{Bool, not}
-use mathlib.Core.List.{List, [], _∷_, _++_}
+use mathlib.Core.List.{List, [], _++_}
 use native.Mathlib.Omega.{arith}
 use native.Mathlib.Decide.{decLt}
 use native.Mathlib.Numerals.{add-one}
@@ -14,7 +14,7 @@ use Rattle.styles.specs.Order.{idOf}
 use Rattle.styles.specs.Marks.{Above, Sorted, member, only}
 use Rattle.styles.specs.Bits.{keepBit, pick}
 use Rattle.styles.proofs.OrderLaws.{same-self}
-use Rattle.styles.proofs.PickLaws.{pick-cons, above-pick, not-member, only-skip}
+use Rattle.styles.proofs.PickLaws.{not-member, only-skip, pick-op}
 use Rattle.styles.proofs.UnionLaws.{pick-none}
 use Rattle.runs.specs.Runs.{Run, runs, total, setAt, Other, Canon, Spare, lackingBits}
 use Rattle.runs.proofs.Laws.{at-past, total-more, total-mono}
@@ -40,14 +40,10 @@ pub lack-step : (s u : ℕ) → lackingBits s u ≡ lackingBits (s / 2) (u / 2) 
 lack-step s u = omega (arith, and-step s u, and-le-l (s / 2) (u / 2))
 
 pub pick-lacking : (t : List Mark) (s u : ℕ) → Sorted t → pick t (lackingBits s u) ≡ lacking (pick t s) (pick t u)
-unfolding pick Sorted only
-pick-lacking [] s u h = refl
-pick-lacking (m ∷ ms) s u h =
-    ap (pick (m ∷ ms)) (lack-step s u)
-    ∙ pick-cons m ms (lackingBits (s / 2) (u / 2)) (s % 2 - min (s % 2) (u % 2)) (omega arith)
-    ∙ ap (keepBit (s % 2 - min (s % 2) (u % 2)) m) (pick-lacking ms (s / 2) (u / 2) (h .1))
-    ∙ lacking-keep (s % 2) (u % 2) (s % 2 - min (s % 2) (u % 2)) m (pick ms (s / 2)) (pick ms (u / 2)) (omega arith) (omega arith) refl
-    (above-pick (idOf m) ms (s / 2) (h .0)) (above-pick (idOf m) ms (u / 2) (h .0))
+unfolding only
+pick-lacking =
+    pick-op lackingBits (λ b c. b - min b c) lacking lack-step (λ s u. omega arith) refl
+    (λ s u m xs ys h k. lacking-keep (s % 2) (u % 2) (s % 2 - min (s % 2) (u % 2)) m xs ys (omega arith) (omega arith) refl h k)
 
 -- neither lacks a bit of the other: they are one
 pub lack-none : (s u : ℕ) → lackingBits s u ≡ 0 → lackingBits u s ≡ 0 → s ≡ u

@@ -1,5 +1,5 @@
 -- The laws of run lists, and of pushes onto them and copies as the code makes them (Copies).
-use Prim.Native.Nat.{ℕ, zero, suc, _+_, _-_, _≤_, _<_, min}
+use Prim.Native.Nat.{ℕ, zero, suc, _+_, _-_, _≤_, _<_, _^_, min}
 use mathlib.Core.Path.{_≡_, refl, sym, ap, _∙_, subst}
 use mathlib.Core.List.{List, [], _∷_}
 use native.Mathlib.Omega.{arith}
@@ -260,6 +260,10 @@ module _ (lens sets : List ℕ) where
 
   pub total-mono : (k m : ℕ) → k ≤ m → total (runs lens sets k) ≤ total (runs lens sets m)
   total-mono k m h = omega (arith, total-sums lens sets k, total-sums lens sets m, sum-up (λ i. getD lens i 0) k m h)
+
+  -- in a loop over the runs: where run k ends
+  pub turn-end : {n start : ℕ} (k : ℕ) → start ≡ total (runs lens sets k) → k < n → total (runs lens sets n) < 2 ^ 63 → start + getD lens k 0 < 2 ^ 63
+  turn-end {n} k e h g = omega (arith, total-more k, total-mono (k + 1) n (omega arith))
 
   module _ (f : ℕ → ℕ) (base : List Run) (from to k : ℕ) where
     pub copy-more : copyRuns f base from to (runs lens sets (k + 1))

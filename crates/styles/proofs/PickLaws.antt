@@ -138,14 +138,23 @@ common-keep zero (suc c) m xs ys h k = rw (zero-min (suc c)) (sym (only-skip (λ
 common-keep (suc b) zero m xs ys h k = rw (min-zero (suc b), not-member (idOf m) ys k)
 common-keep (suc b) (suc c) m xs ys h k = rw (suc-min-suc b c, same-self (idOf m)) (ap (_∷_ m) (sym (only-skip (λ b. b) m xs ys h)))
 
+-- an operation on two sets that goes bit by bit picks what g makes of the marks that they pick, where one mark more is one bit more
+pub pick-op : (op bit : ℕ → ℕ → ℕ) (g : List Mark → List Mark → List Mark) → ((s u : ℕ) → op s u ≡ op (s / 2) (u / 2) * 2 + bit (s % 2) (u % 2))
+    → ((s u : ℕ) → bit (s % 2) (u % 2) < 2) → g [] [] ≡ []
+    → ((s u : ℕ) (m : Mark) (xs ys : List Mark) → Above (idOf m) xs → Above (idOf m) ys
+    → keepBit (bit (s % 2) (u % 2)) m (g xs ys) ≡ g (keepBit (s % 2) m xs) (keepBit (u % 2) m ys))
+    → (t : List Mark) (s u : ℕ) → Sorted t → pick t (op s u) ≡ g (pick t s) (pick t u)
+unfolding pick Sorted
+pick-op op bit g step low none keep [] s u h = sym none
+pick-op op bit g step low none keep (m ∷ ms) s u h =
+    ap (pick (m ∷ ms)) (step s u)
+    ∙ pick-cons m ms (op (s / 2) (u / 2)) (bit (s % 2) (u % 2)) (low s u)
+    ∙ ap (keepBit (bit (s % 2) (u % 2)) m) (pick-op op bit g step low none keep ms (s / 2) (u / 2) (h .1))
+    ∙ keep s u m (pick ms (s / 2)) (pick ms (u / 2)) (above-pick (idOf m) ms (s / 2) (h .0)) (above-pick (idOf m) ms (u / 2) (h .0))
+
 pub pick-both : (t : List Mark) (s u : ℕ) → Sorted t → pick t (bitAnd s u) ≡ common (pick t s) (pick t u)
-unfolding pick Sorted only
-pick-both [] s u h = refl
-pick-both (m ∷ ms) s u h =
-    ap (pick (m ∷ ms)) (and-step s u)
-    ∙ pick-cons m ms (bitAnd (s / 2) (u / 2)) (min (s % 2) (u % 2)) (omega arith)
-    ∙ ap (keepBit (min (s % 2) (u % 2)) m) (pick-both ms (s / 2) (u / 2) (h .1))
-    ∙ common-keep (s % 2) (u % 2) m (pick ms (s / 2)) (pick ms (u / 2)) (above-pick (idOf m) ms (s / 2) (h .0)) (above-pick (idOf m) ms (u / 2) (h .0))
+unfolding only
+pick-both = pick-op bitAnd min common and-step (λ s u. omega arith) refl (λ s u. common-keep (s % 2) (u % 2))
 
 -- ---- the order of identities, along a list
 -- what comes before an identity comes before all that come after it

@@ -4,10 +4,9 @@ use mathlib.Core.Path.{_≡_, refl, sym, ap, _∙_}
 use mathlib.Core.List.{[]}
 use native.Mathlib.Omega.{arith}
 use borrow.Author.Tests.{ne-eqb}
-use Rattle.styles.specs.declared.Identity.{Identity}
 use Rattle.styles.specs.Answers.{stylesOf}
 use Rattle.tank.specs.declared.Tank.{Tank}
-use Rattle.tank.specs.Rules.{freshView, Edit, annotating, inserting, deleting, removing, refusal, insertedSet, removedFirst}
+use Rattle.tank.specs.Rules.{freshView, Edit, annotating, inserting, deleting, removing, refusal, insertedSet, removedFirst, View, forInsert, backFrom, whenAccepted}
 use Rattle.tank.specs.State.{view, Sound}
 use Rattle.tanks.specs.declared.Done.{Done}
 use Rattle.tanks.specs.declared.Performed.{Performed}
@@ -34,48 +33,42 @@ module _ (s : Tanks) (t : ℕ) where
   pub taken-past : {x : Tank} → 8 ≤ t → (Sound x) × (view x ≡ freshView) → Taken s t x
   taken-past h new = record { is = new .1 ∙ sym (tank-past s t freshView h); sound = new .0 }
 
-  set-done : (pos len : ℕ) (x : Tank) → t < 8 → TakenOut s t x → refusalAt (meaning s) t (inserting pos len) ≡ 0
-      → insertedSet pos len (view x) ≡ insertedSetAt (meaning s) t pos len
-  unfolding insertedSetAt
-  set-done pos len x h taken z = rw (own-view x h taken, z, own-zero (inserting pos len) h z)
+  -- what stands beside an edit's number: the tank's own, where the house accepts it, and nothing beside a refusal
+  beside-done : {A : Type 0} (e : Edit) (given : View → A) (none : A) (x : Tank) → t < 8 → TakenOut s t x → refusalAt (meaning s) t e ≡ 0
+      → whenAccepted (refusal e (view x)) (given (view x)) none ≡ whenAccepted (refusalAt (meaning s) t e) (given (tankAt (meaning s) t)) none
+  beside-done e given none x h taken z = rw (own-view x h taken, z, own-zero e h z)
 
-  set-refused : (pos len : ℕ) → 0 < refusalAt (meaning s) t (inserting pos len) → [] ≡ insertedSetAt (meaning s) t pos len
-  unfolding insertedSetAt
-  set-refused pos len h = rw (ne-eqb (refusalAt (meaning s) t (inserting pos len)) 0 (λ z. omega arith))
-
-  first-done : (id : Identity) (last : ℕ) (x : Tank) → t < 8 → TakenOut s t x → refusalAt (meaning s) t (removing id last) ≡ 0
-      → removedFirst id last (view x) ≡ removedFirstAt (meaning s) t id last
-  unfolding removedFirstAt
-  first-done id last x h taken z = rw (own-view x h taken, z, own-zero (removing id last) h z)
-
-  first-refused : (id : Identity) (last : ℕ) → 0 < refusalAt (meaning s) t (removing id last) → 0 ≡ removedFirstAt (meaning s) t id last
-  unfolding removedFirstAt
-  first-refused id last h = rw (ne-eqb (refusalAt (meaning s) t (removing id last)) 0 (λ z. omega arith))
+  beside-refused : {A : Type 0} (e : Edit) (given none : A) → 0 < refusalAt (meaning s) t e → none ≡ whenAccepted (refusalAt (meaning s) t e) given none
+  beside-refused e given none h = rw (ne-eqb (refusalAt (meaning s) t e) 0 (λ z. omega arith))
 
   -- the same for every edit
   set-beside : (e : Edit) (x : Tank) → t < 8 → TakenOut s t x → refusalAt (meaning s) t e ≡ 0 → setBeside (λ pos len. insertedSet pos len (view x)) e ≡ setBeside (insertedSetAt (meaning s) t) e
+  unfolding insertedSetAt
   set-beside (annotating a b m) x h taken z = refl
-  set-beside (inserting pos len) x h taken z = set-done pos len x h taken z
+  set-beside (inserting pos len) x h taken z = beside-done (inserting pos len) (forInsert pos) [] x h taken z
   set-beside (deleting a b) x h taken z = refl
   set-beside (removing id last) x h taken z = refl
 
   first-beside : (e : Edit) (x : Tank) → t < 8 → TakenOut s t x → refusalAt (meaning s) t e ≡ 0 → firstBeside (λ id last. removedFirst id last (view x)) e ≡ firstBeside (removedFirstAt (meaning s) t) e
+  unfolding removedFirstAt
   first-beside (annotating a b m) x h taken z = refl
   first-beside (inserting pos len) x h taken z = refl
   first-beside (deleting a b) x h taken z = refl
-  first-beside (removing id last) x h taken z = first-done id last x h taken z
+  first-beside (removing id last) x h taken z = beside-done (removing id last) (backFrom id last) 0 x h taken z
 
   no-set : (e : Edit) → 0 < refusalAt (meaning s) t e → [] ≡ setBeside (insertedSetAt (meaning s) t) e
+  unfolding insertedSetAt
   no-set (annotating a b m) h = refl
-  no-set (inserting pos len) h = set-refused pos len h
+  no-set (inserting pos len) h = beside-refused (inserting pos len) (forInsert pos (tankAt (meaning s) t)) [] h
   no-set (deleting a b) h = refl
   no-set (removing id last) h = refl
 
   no-first : (e : Edit) → 0 < refusalAt (meaning s) t e → 0 ≡ firstBeside (removedFirstAt (meaning s) t) e
+  unfolding removedFirstAt
   no-first (annotating a b m) h = refl
   no-first (inserting pos len) h = refl
   no-first (deleting a b) h = refl
-  no-first (removing id last) h = first-refused id last h
+  no-first (removing id last) h = beside-refused (removing id last) (backFrom id last (tankAt (meaning s) t)) 0 h
 
   -- a refused edit
   pub done-refused : (e : Edit) (v : ℕ) (r : Done) → CalledAt s t e v s → 0 < v → (r .number ≡ v) × (r .styles ≡ stylesOf []) × (r .first ≡ 0) × (r .tanks ≡ s) → DoneAt s t e r

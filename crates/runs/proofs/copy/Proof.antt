@@ -1,5 +1,5 @@
 -- `runs::copy` meets its contract. The invariant: the output's runs are the copy of the source's first k runs, and a copy is the joined list (`copied-joined`).
-use Prim.Native.Nat.{ℕ, _+_, _-_, _≤_, _<_, _^_, min}
+use Prim.Native.Nat.{ℕ, _+_, _-_, _≤_, _<_, min}
 use mathlib.Core.Path.{_≡_, refl, sym, ap, _∙_}
 use mathlib.Core.List.{List}
 use native.Mathlib.Omega.{arith}
@@ -8,7 +8,7 @@ use lib.ListN.{length, getD}
 use Rattle.runs.specs.Runs.{Run, runs, total, setAt, Canon, changing, SameBehind}
 use Rattle.runs.specs.Edits.{CanPush, CanCopy, Appended}
 use Rattle.runs.proofs.Copies.{pushRun, clip, copyRuns}
-use Rattle.runs.proofs.Laws.{total-more, total-mono, canon-copy, copy-more, copy-grows, copy-holds}
+use Rattle.runs.proofs.Laws.{total-more, turn-end, canon-copy, copy-more, copy-grows, copy-holds}
 use Rattle.runs.proofs.EditLaws.{joined-is, pushed-is, copied-joined, push-can}
 use Rattle.runs.proofs.BehindLaws.{behind-none, count-push, behind-on}
 use Rattle.runs.proofs.copy.Statement.{statement}
@@ -25,9 +25,6 @@ record Copied (olens₀ osets₀ : List ℕ) (n : ℕ) (lens sets : List ℕ) (m
 -- a turn: what the calls ask, and the invariant after it
 module _ {olens₀ osets₀ : List ℕ} {n : ℕ} {lens sets : List ℕ} {m from to bits gone : ℕ} {olens osets : List ℕ} {k start at : ℕ}
     (can : CanCopy (changing bits gone) olens₀ osets₀ n lens sets m from to) (inv : Copied olens₀ osets₀ n lens sets m from to bits gone olens osets k start at) (in-turn : k < m) where
-  turn-end : start + getD lens k 0 < 2 ^ 63
-  turn-end = omega (arith, total-more lens sets k, total-mono lens sets (k + 1) m (omega arith))
-
   turn-canon : Canon (runs olens osets at)
   turn-canon = rw (inv .done) (canon-copy (changing bits gone) (runs olens₀ osets₀ n) from to (runs lens sets k) (can .joined))
 
@@ -78,7 +75,7 @@ unfolding runs total copyRuns
 loop-holds c = record { within = omega arith; begun = refl; done = refl; kept = refl; kept′ = refl; behind = behind-none _ _ _ }
 
 add-end : tie.Need-add-end Inv-loop μ-loop
-add-end c = omega (arith, turn-end (c .before .before .before .before .before .before .before .pre) (c .before .before .loop .inv) (c .before .loop-test .taken))
+add-end c = omega (arith, turn-end _ _ _ (c .before .before .loop .inv .begun) (c .before .loop-test .taken) (c .before .before .before .before .before .before .before .pre .source))
 
 -- what the push of a turn is handed
 handed : (c : tie.After-change Inv-loop μ-loop) → let i = c .before .before .before .before .before .before in

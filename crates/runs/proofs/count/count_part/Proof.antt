@@ -1,5 +1,5 @@
 -- `count::count_part` meets its contract. The invariant: the tally is that of the copy of the first k runs.
-use Prim.Native.Nat.{ℕ, _+_, _-_, _≤_, _<_, _^_, min}
+use Prim.Native.Nat.{ℕ, _+_, _-_, _≤_, _<_, min}
 use mathlib.Core.Path.{_≡_, refl, sym, ap, _∙_}
 use mathlib.Core.List.{List}
 use native.Mathlib.Omega.{arith}
@@ -10,7 +10,7 @@ use Rattle.runs.specs.Runs.{Run, runs, total, setAt, Canon, changing}
 use Rattle.runs.specs.Edits.{Appended}
 use Rattle.runs.specs.Count.{tallyOf, CanTally}
 use Rattle.runs.proofs.Copies.{clip, copyRuns}
-use Rattle.runs.proofs.Laws.{total-more, total-mono, canon-copy, copy-more}
+use Rattle.runs.proofs.Laws.{total-more, turn-end, canon-copy, copy-more}
 use Rattle.runs.proofs.EditLaws.{copied-is}
 use Rattle.runs.proofs.TallyLaws.{tally-pushed}
 use Rattle.runs.proofs.count.count_part.Statement.{statement}
@@ -24,9 +24,6 @@ record Tallied (t : Tally) (lens sets : List ℕ) (m from to bits gone : ℕ) (u
 
 module _ {t : Tally} {lens sets : List ℕ} {m from to bits gone : ℕ} {u : Tally} {k start : ℕ}
     (can : CanTally lens sets m) (inv : Tallied t lens sets m from to bits gone u k start) (in-turn : k < m) where
-  turn-end : start + getD lens k 0 < 2 ^ 63
-  turn-end = omega (arith, total-more lens sets k, total-mono lens sets (k + 1) m (omega arith))
-
   turn : (v : Tally) → v .count ≤ u .count + 1
       → ((rs out : List Run) → Canon rs → u ≡ tallyOf rs
       → Appended rs (clip from to start (getD lens k 0)) (λ q. changing bits gone (getD sets k 0)) out → v ≡ tallyOf out)
@@ -64,7 +61,7 @@ loop-holds c = record { within = omega arith; begun = refl; most = omega arith; 
 add-end : tie.Need-add-end Inv-loop μ-loop
 add-end c =
     let i = c .before in
-    omega (arith, turn-end (i .before .before .before .before .pre .0) (i .before .loop .inv) (i .loop-test .taken))
+    omega (arith, turn-end _ _ _ (i .before .loop .inv .begun) (i .loop-test .taken) (i .before .before .before .before .pre .0 .look .small))
 
 -- what the turn is handed
 handed : (c : tie.After-change Inv-loop μ-loop) → let i = c .before .before .before .before in

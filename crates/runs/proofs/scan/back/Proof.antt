@@ -1,5 +1,5 @@
 -- `scan::back` meets its contract. The invariant: `from` is where the stretch that ends before run k starts, as far as `last` goes.
-use Prim.Native.Nat.{ℕ, _+_, _-_, _≤_, _<_, _^_, min}
+use Prim.Native.Nat.{ℕ, _+_, _-_, _≤_, _<_, min}
 use mathlib.Core.Path.{_≡_, refl, sym, ap, _∙_}
 use mathlib.Core.Bool.{true, false, not, _&&_}
 use mathlib.Core.List.{List}
@@ -12,7 +12,7 @@ use Rattle.runs.specs.Runs.{runs, total, setAt}
 use Rattle.runs.specs.Positions.{stretchTo}
 use Rattle.runs.specs.Scan.{meets, passes, CanScan}
 use Rattle.runs.proofs.Copies.{clip}
-use Rattle.runs.proofs.Laws.{total-more, total-mono}
+use Rattle.runs.proofs.Laws.{total-more, turn-end}
 use Rattle.runs.proofs.ScanLaws.{back-missed, back-over}
 use Rattle.runs.proofs.scan.back.Statement.{statement}
 use Rattle.runs.proofs.scan.back.Tie as tie
@@ -23,9 +23,6 @@ record Walked (lens sets : List ℕ) (n mask last k start from : ℕ) : Type 0 w
   so-far : from ≡ stretchTo (λ p. meets mask (setAt (runs lens sets n) p)) (min start (last + 1))
 
 module _ {lens sets : List ℕ} {n mask last k start from : ℕ} (can : CanScan lens sets n (last + 1)) (inv : Walked lens sets n mask last k start from) (in-turn : k < n) where
-  turn-end : start + getD lens k 0 < 2 ^ 63
-  turn-end = omega (arith, total-more lens sets k, total-mono lens sets (k + 1) n (omega arith))
-
   turn : (from′ : ℕ) → from′ ≡ stretchTo (λ p. meets mask (setAt (runs lens sets n) p)) (min (start + getD lens k 0) (last + 1))
       → Walked lens sets n mask last (k + 1) (start + getD lens k 0) from′
   turn from′ e = record { within = omega arith; begun = omega (arith, total-more lens sets k); so-far = e }
@@ -58,7 +55,7 @@ loop-holds c = record { within = omega arith; begun = refl; so-far = rw zero-min
 add-end : tie.Need-add-end Inv-loop μ-loop
 add-end c =
     let i = c .before in
-    omega (arith, turn-end (i .before .before .before .before .pre) (i .before .loop .inv) (omega arith))
+    omega (arith, turn-end _ _ _ (i .before .loop .inv .begun) (omega arith) (i .before .before .before .before .pre .look .small))
 
 -- what the turn's test says
 asked : (c : tie.After-here Inv-loop μ-loop) → let i = c .before .before .before .before in

@@ -1,5 +1,5 @@
 -- `scan::some_in` meets its contract. The invariant: no position before run k passes.
-use Prim.Native.Nat.{ℕ, _+_, _-_, _≤_, _<_, _^_, max}
+use Prim.Native.Nat.{ℕ, _+_, _-_, _≤_, _<_, max}
 use mathlib.Core.Path.{_≡_, refl, sym, ap, _∙_}
 use mathlib.Core.Bool.{Bool, true, false, _&&_, and-eq-true-iff}
 use mathlib.Core.List.{List}
@@ -13,7 +13,7 @@ use Rattle.runs.specs.Runs.{runs, total, setAt}
 use Rattle.runs.specs.Positions.{anyAt}
 use Rattle.runs.specs.Scan.{passes, CanScan}
 use Rattle.runs.proofs.Copies.{clip}
-use Rattle.runs.proofs.Laws.{total-more, total-mono}
+use Rattle.runs.proofs.Laws.{total-more, turn-end}
 use Rattle.runs.proofs.ScanLaws.{any-yes, any-no, at-run, second-fails}
 use Rattle.runs.proofs.scan.some_in.Statement.{statement}
 use Rattle.runs.proofs.scan.some_in.Tie as tie
@@ -24,9 +24,6 @@ record Scanned (test : ℕ → Bool) (lens sets : List ℕ) (n from to k start :
   clear : (p : ℕ) → from ≤ p → p < to → p < start → test (setAt (runs lens sets n) p) ≡ false
 
 module _ {test : ℕ → Bool} {lens sets : List ℕ} {n from to k start : ℕ} (can : CanScan lens sets n to) (inv : Scanned test lens sets n from to k start) (in-turn : k < n) where
-  turn-end : start + getD lens k 0 < 2 ^ 63
-  turn-end = omega (arith, total-more lens sets k, total-mono lens sets (k + 1) n (omega arith))
-
   -- the positions of the turn's run have its set
   on-run : (p : ℕ) → start ≤ p → p < start + getD lens k 0 → test (setAt (runs lens sets n) p) ≡ test (getD sets k 0)
   on-run p a b = ap test (at-run lens sets n k p in-turn (omega arith) (omega arith))
@@ -71,7 +68,7 @@ loop-holds c = record { within = omega arith; begun = refl; clear = λ p a b h. 
 add-end : tie.Need-add-end Inv-loop μ-loop
 add-end c =
     let i = c .before in
-    omega (arith, turn-end (i .before .before .before .before .pre) (i .before .loop .inv) (omega arith))
+    omega (arith, turn-end _ _ _ (i .before .loop .inv .begun) (omega arith) (i .before .before .before .before .pre .look .small))
 
 -- what the turn's test says
 asked : (c : tie.After-here Inv-loop μ-loop) → let i = c .before .before .before .before in

@@ -1,5 +1,5 @@
 -- `stretches::list` meets its contract. The invariant: the list of the first k runs stands in front, and the rest of the buffer is as it was.
-use Prim.Native.Nat.{ℕ, _+_, _-_, _≤_, _<_, _^_, min, max}
+use Prim.Native.Nat.{ℕ, _+_, _-_, _≤_, _<_, min, max}
 use mathlib.Core.Path.{_≡_, refl, sym, ap, _∙_}
 use mathlib.Core.List.{List, _++_}
 use native.Mathlib.Omega.{arith}
@@ -11,7 +11,7 @@ use Rattle.runs.specs.Positions.{asNumbers}
 use Rattle.runs.specs.Stretches.{entry, inFront}
 use Rattle.runs.proofs.Clipped.{clipped, clippedList, Fits}
 use Rattle.runs.proofs.PositionLaws.{listed-is, fits-of}
-use Rattle.runs.proofs.Laws.{total-more, total-mono}
+use Rattle.runs.proofs.Laws.{total-more, turn-end}
 use Rattle.runs.proofs.ListLaws.{clipped-more, clipped-grows, front-write, front-length}
 use Rattle.runs.proofs.stretches.list.Statement.{statement}
 use Rattle.runs.proofs.stretches.list.Tie as tie
@@ -34,9 +34,6 @@ placed xs es out₀ out at e g h = rw (g, e) (front-write xs es out₀ h)
 -- a turn: what the call asks, and the invariant after it
 module _ {lens sets : List ℕ} {n from to least : ℕ} {out₀ out : List ℕ} {k start at : ℕ}
     (can : Fits least from to lens sets n out₀) (inv : Listed lens sets n from to least out₀ out k start at) (in-turn : k < n) where
-  turn-end : start + getD lens k 0 < 2 ^ 63
-  turn-end = omega (arith, total-more lens sets k, total-mono lens sets (k + 1) n (omega arith))
-
   turn-list : clippedList least from to lens sets (k + 1) ≡ clippedList least from to lens sets k ++ more least from to start (getD lens k 0) (getD sets k 0)
   turn-list = rw (inv .begun) (clipped-more least from to lens sets k)
 
@@ -86,7 +83,7 @@ loop-holds c = record { within = omega arith; begun = refl; place = refl; done =
 add-end : tie.Need-add-end Inv-loop μ-loop
 add-end c =
     let i = c .before in
-    omega (arith, turn-end (fits-of (i .before .before .before .before .before .pre)) (i .before .loop .inv) (omega arith))
+    omega (arith, turn-end _ _ _ (i .before .loop .inv .begun) (omega arith) ((fits-of (i .before .before .before .before .before .pre)) .look .small))
 
 -- what the write of a turn is handed
 handed : (c : tie.After-marks-of Inv-loop μ-loop) → let i = c .before .before .before .before .before .before in

@@ -12,7 +12,7 @@ use Rattle.runs.specs.Positions.{asNumbers}
 use Rattle.runs.specs.Stretches.{entry}
 use Rattle.runs.proofs.Clipped.{clipped, clippedList}
 use Rattle.runs.proofs.PositionLaws.{listed-is}
-use Rattle.runs.proofs.Laws.{total-more, total-mono}
+use Rattle.runs.proofs.Laws.{total-more, turn-end}
 use Rattle.runs.proofs.ListLaws.{clipped-more, clipped-most, entry-most}
 use Rattle.runs.proofs.stretches.need.Statement.{statement}
 use Rattle.runs.proofs.stretches.need.Tie as tie
@@ -23,9 +23,6 @@ record Needed (lens sets : List ℕ) (n from to least k start count : ℕ) : Typ
   place : count ≡ length (clippedList least from to lens sets k)
 
 module _ {lens sets : List ℕ} {n from to least k start count : ℕ} (can : CanTally lens sets n) (inv : Needed lens sets n from to least k start count) (in-turn : k < n) where
-  turn-end : start + getD lens k 0 < 2 ^ 63
-  turn-end = omega (arith, total-more lens sets k, total-mono lens sets (k + 1) n (omega arith))
-
   small : count < 3 * 2 ^ 62
   small = omega (arith, clipped-most least from to lens sets k)
 
@@ -59,7 +56,7 @@ loop-holds c = record { within = omega arith; begun = refl; place = refl }
 add-end : tie.Need-add-end Inv-loop μ-loop
 add-end c =
     let i = c .before in
-    omega (arith, turn-end (i .before .before .before .before .pre .0) (i .before .loop .inv) (omega arith))
+    omega (arith, turn-end _ _ _ (i .before .loop .inv .begun) (omega arith) (i .before .before .before .before .pre .0 .look .small))
 
 -- what the turn adds
 added : (c : tie.After-width Inv-loop μ-loop) → let i = c .before .before .before .before .before .before in
