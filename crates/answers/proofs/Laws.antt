@@ -29,7 +29,7 @@ unfolding withAll
 with-append w [] us = refl
 with-append w (t ∷ ts) us = with-append (with w t) ts us
 
-short-append : (ts us : Pieces) → Short ts → Short us → Short (ts ++ us)
+pub short-append : (ts us : Pieces) → Short ts → Short us → Short (ts ++ us)
 unfolding Short
 short-append [] us h k = k
 short-append (t ∷ ts) us h k = (h .0, short-append ts us (h .1) k)

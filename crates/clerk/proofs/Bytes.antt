@@ -22,7 +22,7 @@ use Rattle.text.proofs.Finding.{front-here, front-past, held-here, held-past}
 use Rattle.script.proofs.CutAnywhere.{read-cut, brings-cut, after-cut}
 use Rattle.script.proofs.Unique.{fed-state}
 use Rattle.answers.specs.Waiting.{Pieces, Waiting, waiting, withAll, Short, Adds}
-use Rattle.answers.proofs.Laws.{and-then}
+use Rattle.answers.proofs.Laws.{short-append}
 use Rattle.clerk.specs.declared.Done.{Done}
 use Rattle.clerk.specs.Calls.{saysOf, Performs}
 use Rattle.clerk.specs.Course.{Course, malformedSays, saidOn, onEvent, afterLine, saidLine, afterByte, saidByte, afterBytes, saidBytes}
@@ -199,20 +199,12 @@ left-all x all = record { is = refl; short = λ h. h }
 pub left-then : {x y z : Course} {a b c : List ℕ} → Left x a y b → Left y b z c → Left x a z c
 left-then l m = record { is = l .is ∙ m .is; short = λ h. m .short (l .short h) }
 
--- pieces put, whatever waited
-puts : (w : Waiting) (ts : Pieces) → Short ts → Adds (w .buffer) (w .at) ts (withAll w ts .at) (withAll w ts .buffer)
-puts w ts h = record { is = refl; short = h }
-
--- short pieces, and short ones behind them
-pub both-short : (ts us : Pieces) → Short ts → Short us → Short (ts ++ us)
-both-short ts us h k = and-then (puts (waiting [] 0) ts h) (puts (withAll (waiting [] 0) ts) us k) .short
-
 -- what is left when some pieces are said
 left-by : (x : Course) (a : List ℕ) {y : Course} {b : List ℕ} (ts : Pieces) → Short ts → heard y b ≡ saidFirst ts (heard x a) → Left x a y b
 left-by x a ts h e =
     record {
       is = sym (ap (λ (p : Course × Pieces). p .0) e);
-      short = λ k. subst Short (sym (ap (λ (p : Course × Pieces). p .1) e)) (both-short ts (saidBytes x a) h k);
+      short = λ k. subst Short (sym (ap (λ (p : Course × Pieces). p .1) e)) (short-append ts (saidBytes x a) h k);
     }
 
 -- ---- A turn of the loop over the bytes of a read

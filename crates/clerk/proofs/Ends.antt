@@ -17,7 +17,8 @@ use Rattle.answers.specs.Waiting.{Pieces, Waiting, waiting, pieceRoom, withAll,
 use Rattle.clerk.specs.declared.Eaten.{Eaten}
 use Rattle.clerk.specs.declared.Stand.{Stand}
 use Rattle.clerk.specs.Course.{Course, malformedSays, afterBytes, saidBytes, saidEnding, endedAs, atEnd, saidAtEnd, afterRead, saidRead, written, afterReads, saidReads, courseOf, Eats, Closes, Reads, Leads, mostReads, RunsFrom, going, RunsWhole}
-use Rattle.clerk.proofs.Bytes.{standing, Left, both-short}
+use Rattle.clerk.proofs.Bytes.{standing, Left}
+use Rattle.answers.proofs.Laws.{short-append}
 use Rattle.clerk.proofs.Cuts.{reads-append, said-append}
 
 module _ {s : Tanks} {stand : Stand} (d : List ℕ) {r : Eaten} (out : List ℕ) {k : ℕ} (ok : Sound s) (goes : stand .over ≡ false)
@@ -102,7 +103,7 @@ module _ {s : Tanks} {reader : Reader} {stand : Stand} {d out : List ℕ} {r : E
             subst
             Short
             (sym (said-append x (came .inputs) (read .input ∷ [])))
-            (both-short (saidReads x (came .inputs)) (saidReads (afterReads x (came .inputs)) (read .input ∷ [])) (came .short)
+            (short-append (saidReads x (came .inputs)) (saidReads (afterReads x (came .inputs)) (read .input ∷ [])) (came .short)
             (subst
             Short
             (ap (λ (st : Stand). saidRead (courseOf s st d) (read .input)) fresh ∙ ap (λ (c : Course). saidRead c (read .input)) (came .is) ∙ sym (append-nil (saidRead (afterReads x (came .inputs)) (read .input))))
