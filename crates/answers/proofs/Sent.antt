@@ -9,7 +9,7 @@ use lib.Dec.{leb}
 use lib.ListN.{length, take}
 use borrow.Author.Tests.{le-leb, lt-leb}
 use Rattle.text.specs.Number.{put}
-use Rattle.text.proofs.Putting.{length-put, take-put}
+use Rattle.text.proofs.Putting.{put-room, take-put}
 use Rattle.script.specs.Writing.{freeAt}
 use Rattle.answers.specs.Waiting.{Pieces, Waiting, waiting, pieceRoom, with, withAll, Short, Adds, front, sent}
 
@@ -31,7 +31,7 @@ kept w [] room inside short = sym (append-nil (front w))
 kept w (t ∷ ts) room inside short =
     let k = freeAt pieceRoom (w .at) (w .buffer) in
     let fits = free-inside (w .at) (w .buffer) t room (short .0) in
-    let same = length-put (w .buffer) k t fits in
+    let roomy = put-room (w .buffer) k t in
     lost-by
     (leb (w .at + pieceRoom) (length (w .buffer)))
     (w .at)

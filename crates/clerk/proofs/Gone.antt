@@ -1,10 +1,10 @@
 -- Nothing that a run says is lost, and nothing of it goes out twice.
 use mathlib.Core.Path.{_≡_, refl, sym, ap, ap₂, _∙_}
 use mathlib.Core.List.{List, [], _∷_, _++_, append-assoc, flatten}
-use Prim.Native.Nat.{ℕ, _+_, _≤_}
+use Prim.Native.Nat.{ℕ, _≤_}
 use native.Mathlib.Omega.{arith}
-use lib.ListN.{length, take, drop, length-append, length-take, length-drop}
-use Rattle.text.specs.Number.{put}
+use lib.ListN.{length, take}
+use Rattle.text.proofs.Putting.{put-room}
 use Rattle.script.specs.Writing.{freeAt}
 use Rattle.answers.specs.Waiting.{Pieces, Waiting, pieceRoom, with, withAll, Short, front, sent}
 use Rattle.answers.proofs.Sent.{nothing-lost}
@@ -17,12 +17,7 @@ pub run-nothing-lost : (x : Course) (input : List ℕ) → pieceRoom ≤ length 
 run-nothing-lost x input room inside short = nothing-lost room inside (record { is = waits-read x input; short = short })
 
 -- ---- All reads of a run
--- a text put takes no room away
-put-room : (d : List ℕ) (at : ℕ) (t : List ℕ) → length d ≤ length (put d at t)
-put-room d at t =
-    omega (arith, length-append (take at d ++ t) (drop (at + length t) d), length-append (take at d) t, length-take at d, length-drop (at + length t) d)
-
--- nor do pieces
+-- pieces take no room away
 room-stays : (w : Waiting) (pieces : Pieces) → length (w .buffer) ≤ length (withAll w pieces .buffer)
 unfolding withAll with
 room-stays w [] = omega arith

@@ -61,9 +61,6 @@ module _ (h : House) (t : ℕ) (v : View) (eight : length (h .tanks) ≡ 8) (t8 
   pub with-same : tankAt (withTank h t v) t ≡ v
   with-same = getD-set-same (h .tanks) t v freshView (omega arith)
 
-  pub with-other : (u : ℕ) → u ≢ t → tankAt (withTank h t v) u ≡ tankAt h u
-  with-other u ne = getD-set-other (h .tanks) t u v freshView ne
-
   held-with : (u : ℕ) → held (withTank h t v) u ≡ heldAfter (held h) t (runsHeld v) u
   held-with u = held-set runsHeld freshView v (h .tanks) t (omega arith) u
 

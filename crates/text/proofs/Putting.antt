@@ -3,16 +3,18 @@ use mathlib.Core.Path.{_≡_, sym, ap, ap₂, _∙_}
 use mathlib.Core.List.{List, _++_, append-assoc}
 use Prim.Native.Nat.{ℕ, _+_, _≤_}
 use native.Mathlib.Omega.{arith}
-use lib.ListN.{length, take, drop, length-append}
-use lib.Seq.{length-take-le, take-at, drop-append-add, sets-eq, length-sets}
+use lib.ListN.{length, take, drop, length-append, length-take, length-drop}
+use lib.Seq.{length-take-le, take-at, drop-append-add}
 use Rattle.text.specs.Number.{put}
+
+-- a text put takes no room away, wherever it is put
+pub put-room : (d : List ℕ) (at : ℕ) (s : List ℕ) → length d ≤ length (put d at s)
+put-room d at s =
+    omega (arith, length-append (take at d ++ s) (drop (at + length s) d), length-append (take at d) s, length-take at d, length-drop (at + length s) d)
 
 module _ (d : List ℕ) (at : ℕ) (s : List ℕ) (room : at + length s ≤ length d) where
   length-front : length (take at d ++ s) ≡ at + length s
   length-front = simp (length-append, length-take-le at d (omega arith))
-
-  pub length-put : length (put d at s) ≡ length d
-  length-put = ap length (sym (sets-eq s d at room)) ∙ length-sets d at s
 
   pub take-put : take (at + length s) (put d at s) ≡ take at d ++ s
   take-put = take-at (take at d ++ s) (drop (at + length s) d) (at + length s) length-front

@@ -234,10 +234,10 @@ fn length(s: Tanks) -> u64
 }
 
 // An insertion counts for the marks of its answer, another edit for the length after it.
-fn score(work: u64, marks: u64, length: u64) -> u64
-    ensures { λ r. ⌜ r ≡ cond (eqb (work / 2) 1) marks length ⌝ }
+fn score(work: u64, marks: u64, positions: u64) -> u64
+    ensures { λ r. ⌜ r ≡ cond (eqb (work / 2) 1) marks positions ⌝ }
 {
-    if work / 2 == 1 { marks } else { length }
+    if work / 2 == 1 { marks } else { positions }
 }
 
 // 1 for yes.

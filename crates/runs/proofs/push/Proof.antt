@@ -18,7 +18,7 @@ returns c = (joined-is (pushed-joined _ _ _ (c .before .pre .joined)) (sym (push
 add-lens : tie.Need-add-lens
 add-lens c =
     let a = c .before .before .before .before .before .args in
-    omega (arith, last-le (a .lens .now) (a .sets .now) (a .n) 0 0 (c .before .before .before .if2 .taken))
+    omega (arith, last-le (a .lens .now) (a .sets .now) (a .n) 0 0 (omega arith))
 
 returns-2 : tie.Need-returns-2
 returns-2 c =
