@@ -91,7 +91,7 @@ pub data Line : Type 0 where
 unfoldable pub Says : Line → House → Type 0
 unfolding reply winners
 Says (given cs) h = Unit {0}
-Says (made t e says look) h = (answer h t e ≡ says) × Looks look (tankAt (afterAt h t e) t)
+Says (made t e says seen) h = (answer h t e ≡ says) × Looks seen (tankAt (afterAt h t e) t)
 Says (would t e n) h = (refusal e (tankAt h t) ≡ 0) × (runsHeld (after e (tankAt h t)) ≡ n)
 Says (runsAre ns sum) h = (map (held h) tankNumbers ≡ ns) × (claims (h .settings) (held h) 8 ≡ sum)
 Says (containsKey t a b key says) h = keyAsked h t a b key ≡ says
@@ -101,7 +101,7 @@ Says (anchored t xs) h = anchors (tankAt h t) ≡ xs
 -- and the house that it leaves
 unfoldable pub leaves : Line → House → House
 leaves (given cs) h = afterAll h cs
-leaves (made t e says look) h = afterAt h t e
+leaves (made t e says seen) h = afterAt h t e
 leaves (would t e n) h = h
 leaves (runsAre ns sum) h = h
 leaves (containsKey t a b key says) h = h

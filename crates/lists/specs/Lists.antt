@@ -10,8 +10,8 @@ use Rattle.lists.specs.declared.Listed.{Listed}
 use Rattle.tank.specs.Rules.{View, alike, askedRange, first, whenAccepted}
 
 -- ---- What maximal stretches are
--- x is the last maximal stretch of a .. b, clipped to it: neighbouring positions with equal sets and as many marks each, which begin where
--- the range does or where the set changes; `equal p` says that p and p + 1 have equal sets, `count p` how many marks p has
+-- x is the last maximal stretch of a .. b, clipped to it: neighbouring positions with equal sets, each with as many marks as x says, which
+-- begin where the range does or where the set changes; `equal p` says that p and p + 1 have equal sets, `count p` how many marks p has
 pub record Maximal (equal : ℕ → Bool) (count : ℕ → ℕ) (a b : ℕ) (x : Stretch) : Type 0 where
   pub last : x .end ≡ b
   pub inside : a ≤ x .start

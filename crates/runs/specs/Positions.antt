@@ -42,7 +42,8 @@ unfoldable pub allAt : (ℕ → Bool) → ℕ → ℕ → Bool
 allAt test from zero = true
 allAt test from (suc p) = allAt test from p && (ltb p from || test p)
 
--- the first position of the longest stretch of positions that ends just before `end` and passes the test; `end` where there is none
+-- stretchTo test n: the first position of the longest stretch that ends just before n and all of whose positions pass the test; n where
+-- position n - 1 does not
 unfoldable pub stretchTo : (ℕ → Bool) → ℕ → ℕ
 stretchTo test zero = zero
 stretchTo test (suc p) = cond (test p) (stretchTo test p) (suc p)
@@ -57,7 +58,7 @@ starts alike (suc p) = cond (alike p) 0 1
 abbrev pub stretchCount : (ℕ → Bool) → ℕ → ℕ
 stretchCount alike n = sumBelow (starts alike) n
 
--- the positions start .. end, which have as many marks each
+-- the positions start .. end, and how many marks each of them has
 pub record Stretch : Type 0 where
   pub start : ℕ
   pub end : ℕ

@@ -1,7 +1,7 @@
 -- The operations on sets are what their names say: they keep sets sorted, carry what they should, and the winner is the greatest.
 use Prim.Native.Nat.{ℕ, zero, suc, _<_}
 use mathlib.Core.Path.{_≡_, refl, sym, ap, _∙_}
-use mathlib.Core.Bool.{Bool, true, false, cond, not, _&&_, _||_, false≢true, true≢false, and-false, or-self-left}
+use mathlib.Core.Bool.{Bool, true, false, cond, not, _&&_, _||_, false≢true, true≢false, and-false, or-self-left, or-assoc}
 use mathlib.Core.List.{List, [], _∷_}
 use native.Mathlib.Omega.{arith}
 use lib.Dec.{eqb}
@@ -15,7 +15,7 @@ use Rattle.styles.specs.declared.Stand.the-variants.{Before, Same, After
 use Rattle.styles.specs.declared.Winner.{Winner}
 use Rattle.styles.specs.declared.Winner.the-variants.{Nothing, Shows}
 use Rattle.styles.specs.Order.{stands, idOf, isBefore, isSame, less, sameId}
-use Rattle.styles.specs.Marks.{Above, Sorted, member, insertStep, insertMark, only, removeMark, common, later, better, winner}
+use Rattle.styles.specs.Marks.{Above, Sorted, member, insertStep, insertMark, eitherOf, only, removeMark, common, later, better, winner}
 use Rattle.styles.proofs.OrderLaws.{num-same, is-before-of, is-same-of, less-trans, less-flip, more-flip, same-eq, same-self}
 use Rattle.styles.proofs.PickLaws.{above-trans}
 use Rattle.styles.proofs.UnionLaws.{above-insert}
@@ -67,6 +67,13 @@ pub member-insert : (j : Identity) (m : Mark) (l : List Mark) → member j (inse
 unfolding member insertMark
 member-insert j m [] = refl
 member-insert j m (x ∷ xs) = carries-step (stands (idOf m) (idOf x)) j m x xs (insertMark m xs) refl (member-insert j m xs)
+
+-- of two sets together: what either carried
+pub member-either : (j : Identity) (a b : List Mark) → member j (eitherOf a b) ≡ (member j a || member j b)
+unfolding member eitherOf
+member-either j [] b = refl
+member-either j (x ∷ xs) b =
+    member-insert j x (eitherOf xs b) ∙ ap (_||_ (sameId j (idOf x))) (member-either j xs b) ∙ sym (or-assoc (sameId j (idOf x)) (member j xs) (member j b))
 
 -- an identity passes a test where one that is the same does
 same-passes : (f : Identity → Bool) (i j : Identity) → sameId i j ≡ true → f i ≡ f j

@@ -26,8 +26,8 @@ rankOf (m ∷ ms) (suc j) = rankOf ms j
 
 -- the answer for a rank: the place of the j-th set bit, counting from 0, or that the set has no more than j bits
 abbrev pub RankBit : ℕ → ℕ → RankedBit → Type 0
-RankBit set j Past = ones set ≤ j
-RankBit set j (At i) = NthAt set j i
+RankBit s j Past = ones s ≤ j
+RankBit s j (At i) = NthAt s j i
 
 -- where an identity stands in a sorted table, or would, and whether it is there
 abbrev pub placed : Identity → List Mark → Place

@@ -1,4 +1,5 @@
--- A set of marks is a list of them, sorted by identity: what it carries, what edits make of it, and the winner for a key.
+-- A set of marks is a list of them, sorted by identity: what it carries, what edits make of it, and the winner for a key; and
+-- a table of marks at numbered places.
 use Prim.Native.Nat.{ℕ, zero, suc, _+_}
 use mathlib.Core.Path.{_≡_}
 use mathlib.Core.Bool.{Bool, true, false, cond, _&&_, _||_, not}
@@ -112,7 +113,8 @@ shownBy w (Shows m) = valueIs w m
 abbrev pub showsValue : ℕ → Value → List Mark → Bool
 showsValue k w l = shownBy w (winner k l)
 
--- what stands in a place that no mark has
+-- ---- A place without a mark
+-- what stands there
 abbrev pub blank : Mark
 blank = record { key = 0; flags = 0; lamport = 0; peer = 0; value = Null }
 

@@ -17,7 +17,8 @@ use Rattle.styles.specs.Marks.{member, placeOf, insertAt, blank}
 use Rattle.styles.specs.Bits.{openBit}
 use Rattle.styles.proofs.BitLaws.{with-is}
 use Rattle.styles.proofs.TableLaws.{length-put}
-use Rattle.styles.proofs.UnionLaws.{open-all}
+use Rattle.styles.proofs.UnionLaws.{open-all, pick-all}
+use Rattle.runs.specs.Runs.{setAt}
 use Rattle.runs.specs.Gather.{gather}
 use Rattle.styles.proofs.Digits.{or-within}
 use Rattle.tank.specs.declared.Tank.{Tank}
@@ -26,6 +27,7 @@ use Rattle.tank.specs.Rules.{View, annotating, after, afterAnnotate, emp
 use Rattle.tank.specs.State.{runsOf, tableOf, view, Formed, Sound, Called}
 use Rattle.tank.specs.Steps.{Stepped, CanLay, CanAdmit, roomFor}
 use Rattle.tank.proofs.AdmitLaws.{place-fits}
+use Rattle.tank.proofs.Carried.{any-clash}
 use Rattle.tank.proofs.Calls.{number-3, number-4, number-6, number-7, number-8, number-0, refused, made}
 use Rattle.tank.proofs.RoomLaws.{room-known, room-new, room-clash, room-full, no-clash, known-is, place-in}
 use Rattle.tank.proofs.Unique.{table-length, marks-carried, runs-held}
@@ -88,15 +90,17 @@ module _ {t : Tank} (s : Sound t) (start end : ℕ) (m : Mark) where
         table : carried (view t) ≡ tableOf t
         table = marks-carried (s .formed)
 
+        -- the mark clashes at some position where it clashes with the table
+        clashing : clashes (annotating start end m) (view t) ≡ clash m (tableOf t)
+        unfolding clashes view
+        clashing =
+            any-clash m (tableOf t) (setAt (runsOf t)) (t .length) _ (s .formed .laid .sorted) (table ∙ sym (pick-all (tableOf t))) ∙ ap (clash m) (pick-all (tableOf t))
+
         pub refused-7 : roomFor m (tableOf t) ≡ Clash → Called (annotating start end m) t 7 t
-        unfolding clashes
-        refused-7 e =
-            refused s 6
-            (number-7 (annotating start end m) (view t) some inside not-long is-number (ap (clash m) table ∙ room-clash m (tableOf t) e))
+        refused-7 e = refused s 6 (number-7 (annotating start end m) (view t) some inside not-long is-number (clashing ∙ room-clash m (tableOf t) e))
 
         clear : clash m (tableOf t) ≡ false → clashes (annotating start end m) (view t) ≡ false
-        unfolding clashes
-        clear c = ap (clash m) table ∙ c
+        clear c = clashing ∙ c
 
         pub refused-8 : roomFor m (tableOf t) ≡ Full → Called (annotating start end m) t 8 t
         unfolding full

@@ -13,7 +13,7 @@ use Rattle.styles.specs.Order.{idOf}
 use Rattle.styles.specs.Marks.{Sorted, member, placeOf, insertMark, removeMark}
 use Rattle.styles.specs.Bits.{pick, withBit}
 use Rattle.styles.specs.Values.{valueNan}
-use Rattle.runs.specs.Runs.{Run, total, Canon, changing}
+use Rattle.runs.specs.Runs.{Run, total, setAt, Canon, changing}
 use Rattle.runs.proofs.Copies.{adding, altered, deleted, inserted}
 use Rattle.runs.specs.Gather.{gather}
 use Rattle.runs.specs.Scan.{commonAt}
@@ -21,7 +21,7 @@ use Rattle.runs.proofs.EditLaws.{canon-altered, canon-deleted, canon-inserted}
 use Rattle.runs.proofs.ScanLaws.{stretch-le}
 use Rattle.tank.specs.Rules.{Edit, annotating, inserting, deleting, removing, afterInsert, afterDelete, afterRemove, backFrom, after, empty, over, long, notNumber, clash, clashes, full, refusal, afterCall}
 use Rattle.tank.specs.State.{viewOf}
-use Rattle.tank.proofs.Carried.{gathered-is}
+use Rattle.tank.proofs.Carried.{gathered-is, any-clash}
 use Rattle.tank.proofs.GrowLaws.{common-inherited}
 use Rattle.tank.proofs.LayLaws.{adds-mark}
 use Rattle.tank.proofs.RoomLaws.{place-in, place-id, known-is}
@@ -79,7 +79,9 @@ canon-after ms (removing id last) t rs c = canon-altered rs _ (last + 1) (changi
 module _ (ms : List Mark) (sorted : Sorted ms) where
   pub refusal-on : (e : Edit) (t : Bool) (rs : List Run) → Canon rs → refusal e (viewOf t (total rs) ms rs) ≡ numberOn ms e t rs
   unfolding refusal numberOn empty over long notNumber clashes full
-  refusal-on (annotating a b m) t rs c = rw (gathered-is ms sorted rs c)
+  refusal-on (annotating a b m) t rs c =
+      let all = gathered-is ms sorted rs c in
+      rw (any-clash m ms (setAt rs) (total rs) (gather rs) sorted all, all)
   refusal-on (inserting pos len) t rs c = refl
   refusal-on (deleting a b) t rs c = refl
   refusal-on (removing id last) t rs c = refl

@@ -5,7 +5,7 @@ use mathlib.Core.Bool.{Bool, true, false, cond, _&&_, not}
 use mathlib.Core.List.{List, [], _∷_}
 use lib.Dec.{ltb, leb, eqb}
 use lib.ListN.{length}
-use Rattle.runs.specs.Positions.{alteredAt, deletedAt, insertedAt, stretchCount, stretchTo}
+use Rattle.runs.specs.Positions.{alteredAt, deletedAt, insertedAt, anyAt, stretchCount, stretchTo}
 use Rattle.styles.specs.declared.Identity.{Identity}
 use Rattle.styles.specs.declared.Mark.{Mark}
 use Rattle.styles.specs.Order.{idOf, sameId}
@@ -150,9 +150,9 @@ unfoldable pub clash : Mark → List Mark → Bool
 clash m [] = false
 clash m (x ∷ xs) = cond (sameId (idOf m) (idOf x)) (not (sameContent m x)) (clash m xs)
 
--- 7: identity carried in this tank with another value or flag byte
+-- 7: identity carried in this tank, at some position, with another value or flag byte
 unfoldable pub clashes : Edit → View → Bool
-clashes (annotating a b m) v = clash m (carried v)
+clashes (annotating a b m) v = anyAt (λ p. clash m (v .at p)) 0 (v .length)
 clashes (inserting pos len) v = false
 clashes (deleting a b) v = false
 clashes (removing id last) v = false

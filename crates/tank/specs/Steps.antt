@@ -63,13 +63,13 @@ roomFor m ms =
     (cond (leb 64 (length ms)) Full (New (placeOf (idOf m) ms)))
 
 -- what new positions at pos ask: the set that they get is what its neighbours have in common
-pub record CanGrow (t : Tank) (pos len set : ℕ) : Type 0 where
+pub record CanGrow (t : Tank) (pos len s : ℕ) : Type 0 where
   pub laid : Laid t
   pub touched : t .touched ≡ true
   pub room : t .runs ≤ 512
   pub fits : pos ≤ t .length
   pub small : t .length + len < 2 ^ 63
-  pub common : set ≡ commonAt (runsOf t) pos
+  pub common : s ≡ commonAt (runsOf t) pos
 
 -- what taking mark i off a range asks
 pub record CanStrip (t : Tank) (start end i : ℕ) : Type 0 where

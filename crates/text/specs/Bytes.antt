@@ -12,7 +12,7 @@ abbrev pub bytesFrom : ℕ → ℕ → String → List ℕ
 bytesFrom zero i s = []
 bytesFrom (suc k) i s = code (charAt s i) ∷ bytesFrom k (suc i) s
 
--- all bytes of a word of the document
+-- all bytes of a text in ASCII, where a character is a byte
 abbrev pub bytes : String → List ℕ
 bytes s = bytesFrom (len s) 0 s
 

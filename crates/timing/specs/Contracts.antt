@@ -10,7 +10,7 @@ pub record MeansHouse (h : House) (s : Tanks) : Type 0 where
   pub is : meaning s ≡ h
   pub sound : Sound s
 
--- so many runs that a marked one has a neighbour, and that there is room for two more
+-- a size that `sized` can give
 pub record Sized (runs : ℕ) : Type 0 where
   pub three : 3 ≤ runs
   pub room : runs ≤ 503

@@ -33,11 +33,11 @@ marked marks = min 63 (max 1 marks)
 -- ---- The tank that the work starts from: runs of ten positions each, and the unmarked rest
 -- mark b
 abbrev pub markB : ℕ → Mark
-markB b = record { key = b + 1; flags = 132; lamport = b + 10; peer = 1; value = Whole (pos (b + 1)) }
+markB b = record { key = b + 1; flags = 0x84; lamport = b + 10; peer = 1; value = Whole (pos (b + 1)) }
 
 -- the mark that annotate and removal are timed with
 abbrev pub extra : Mark
-extra = record { key = 777; flags = 132; lamport = 1; peer = 1; value = Null }
+extra = record { key = 777; flags = 0x84; lamport = 1; peer = 1; value = Null }
 
 -- all room for tank 0
 abbrev pub settings : List Setting
@@ -56,7 +56,7 @@ steps step (suc n) h = step n (steps step n h)
 abbrev pub onAll : ℕ → ℕ → House → House
 onAll runs b = annotated (runs % 2 * 10) (runs * 10 - 10) (markB b)
 
--- mark b on one of the runs that are even or odd as their number is
+-- mark b on the run with the number runs % 2 + 2 j: one of every other run, of which the last is the last marked one
 abbrev pub otherRun : ℕ → ℕ → ℕ → House → House
 otherRun runs b j = annotated ((runs % 2 + j * 2) * 10) ((runs % 2 + j * 2) * 10 + 10) (markB b)
 
