@@ -5,42 +5,37 @@ use mathlib.Core.List.{List, []}
 use lib.Dec.{ltb, leb}
 use Rattle.styles.specs.declared.Mark.{Mark}
 use Rattle.styles.specs.declared.Ranked.{Ranked}
-use Rattle.styles.specs.declared.Ranked.the-variants as ranked
 use Rattle.styles.specs.declared.Value.{Value}
 use Rattle.styles.specs.declared.Winner.{Winner}
-use Rattle.styles.specs.declared.Winner.the-variants as won
 use Rattle.styles.specs.Answers.{stylesOf, rankOf}
 use Rattle.styles.specs.Marks.{winner, hasKey, showsValue, sameMarks}
 use Rattle.styles.specs.Values.{valueNan}
 use Rattle.runs.specs.Positions.{anyAt, allAt}
 use Rattle.questions.specs.declared.Asked.{Asked}
-use Rattle.questions.specs.declared.Asked.the-variants as asked
 use Rattle.questions.specs.declared.SetAsked.{SetAsked}
 use Rattle.questions.specs.declared.Shared.{Shared}
 use Rattle.questions.specs.declared.Shown.{Shown}
-use Rattle.questions.specs.declared.Shown.the-variants as shown
 use Rattle.questions.specs.declared.Told.{Told}
-use Rattle.questions.specs.declared.Told.the-variants as told
 use Rattle.tank.specs.Rules.{View, forInsert, askedRange}
 
 -- ---- Answers: for each case its number, 0 or a refusal's, and what stands beside it
 -- yes or no; refused: the number, with neither beside it
 abbrev pub toldOf : ℕ → Bool → Told
-toldOf zero true = told.Yes
-toldOf zero false = told.No
-toldOf (suc n) b = told.Refused (suc n)
+toldOf zero true = Told.Yes
+toldOf zero false = Told.No
+toldOf (suc n) b = Told.Refused (suc n)
 
 -- the winning mark's value, null included, and nothing without one; refused: no value
 abbrev pub shownOf : ℕ → Winner → Shown
-shownOf zero won.Nothing = shown.Nothing
-shownOf zero (won.Shows m) = shown.Shows (m .value)
-shownOf (suc n) w = shown.Refused (suc n)
+shownOf zero Winner.Nothing = Shown.Nothing
+shownOf zero (Winner.Shows m) = Shown.Shows (m .value)
+shownOf (suc n) w = Shown.Refused (suc n)
 
 -- the mark of a rank, and nothing past the last; refused: no mark
 abbrev pub askedOf : ℕ → Ranked → Asked
-askedOf zero ranked.Nothing = asked.Nothing
-askedOf zero (ranked.Found m) = asked.Found m
-askedOf (suc n) m = asked.Refused (suc n)
+askedOf zero Ranked.Nothing = Asked.Nothing
+askedOf zero (Ranked.Found m) = Asked.Found m
+askedOf (suc n) m = Asked.Refused (suc n)
 
 -- a set; refused: the empty one
 abbrev pub setOf : ℕ → List Mark → SetAsked

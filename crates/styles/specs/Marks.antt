@@ -14,7 +14,7 @@ use Rattle.styles.specs.declared.Winner.{Winner}
 use Rattle.styles.specs.declared.Winner.the-variants.{Nothing, Shows}
 use lib.Dec.{eqb, ltb, leb}
 use lib.ListN.{take, drop}
-use Rattle.styles.specs.Values.{sameValue, shown}
+use Rattle.styles.specs.Values.{sameValue, showsAs}
 use Rattle.styles.specs.Order.{stands, then, numbers, isBefore, idOf, less, sameId}
 
 -- the same content: the flag byte and the very same value
@@ -102,7 +102,7 @@ winner k (m ∷ ms) = cond (keyIs k m) (better m (winner k ms)) (winner k ms)
 
 -- the mark's value shows as w
 abbrev pub valueIs : Value → Mark → Bool
-valueIs w m = shown (m .value) w
+valueIs w m = showsAs (m .value) w
 
 -- a winner's value shows as w; no mark shows nothing
 abbrev pub shownBy : Value → Winner → Bool

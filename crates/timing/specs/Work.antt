@@ -16,9 +16,7 @@ use Rattle.tanks.specs.declared.Setting.{Setting}
 use Rattle.tanks.specs.House.{House, tankAt, smallest, opening, afterAt, insertedSetAt}
 use Rattle.tanks.specs.Contracts.{setBeside}
 use Rattle.questions.specs.declared.Told.{Told}
-use Rattle.questions.specs.declared.Told.the-variants as told
 use Rattle.questions.specs.declared.Shown.{Shown}
-use Rattle.questions.specs.declared.Shown.the-variants as shown
 use Rattle.ask.specs.Asks.{keyAsked, valueAsked}
 
 -- ---- Sizes
@@ -128,15 +126,15 @@ editScore work runs h k = counted work (editAt work runs k) h
 
 -- 1 for yes
 abbrev pub oneIfYes : Told → ℕ
-oneIfYes (told.Refused n) = 0
-oneIfYes told.No = 0
-oneIfYes told.Yes = 1
+oneIfYes (Told.Refused n) = 0
+oneIfYes Told.No = 0
+oneIfYes Told.Yes = 1
 
 -- n where the whole number n is shown
 abbrev pub ifShown : ℕ → Shown → ℕ
-ifShown n (shown.Refused m) = 0
-ifShown n shown.Nothing = 0
-ifShown n (shown.Shows v) = cond (sameValue v (Whole (pos n))) n 0
+ifShown n (Shown.Refused m) = 0
+ifShown n Shown.Nothing = 0
+ifShown n (Shown.Shows v) = cond (sameValue v (Whole (pos n))) n 0
 
 -- turn k of works 8 and 9: a key that no mark has
 abbrev pub keyScore : ℕ → ℕ → House → ℕ → ℕ
