@@ -19,7 +19,7 @@ use Rattle.styles.specs.Order.{stands, idOf, isBefore}
 use Rattle.styles.specs.Marks.{Above, Sorted, later, better, winner, blank}
 use Rattle.styles.specs.Bits.{keepBit, pick, hasBit}
 use Rattle.styles.proofs.OrderLaws.{num-same}
-use Rattle.styles.proofs.PickLaws.{above-pick}
+use Rattle.styles.proofs.PickLaws.{keep-by, above-pick}
 use Rattle.styles.proofs.BitLaws.{half-shr}
 use Rattle.styles.proofs.CountLaws.{length-keep}
 
@@ -85,15 +85,10 @@ winner-last k (x ∷ xs) m h =
     ap (λ (w : Winner). cond (eqb (x .key) k) (better x w) w) (winner-last k xs m (h .1))
     ∙ winner-step k x m (winner k xs) (eqb (x .key) k) (eqb (m .key) k) refl refl (above-last (idOf x) xs m (h .0))
 
-sorted-keep : (b : ℕ) (m : Mark) (ms : List Mark) → Above (idOf m) ms → Sorted ms → Sorted (keepBit b m ms)
-unfolding Sorted
-sorted-keep zero m ms h k = k
-sorted-keep (suc b) m ms h k = (h, k)
-
 pub sorted-pick : (t : List Mark) (s : ℕ) → Sorted t → Sorted (pick t s)
 unfolding Sorted pick
 sorted-pick [] s h = tt
-sorted-pick (m ∷ ms) s h = sorted-keep (s % 2) m (pick ms (s / 2)) (above-pick (idOf m) ms (s / 2) (h .0)) (sorted-pick ms (s / 2) (h .1))
+sorted-pick (m ∷ ms) s h = let k = sorted-pick ms (s / 2) (h .1) in keep-by Sorted (s % 2) k (above-pick (idOf m) ms (s / 2) (h .0), k)
 
 above-take : (j : Identity) (n : ℕ) (t : List Mark) → Above j t → Above j (take n t)
 unfolding Above
