@@ -143,18 +143,18 @@ best-key k x xs (Shows y) e h =
     (λ f. (
       h .0,
       each-cons (λ m. m .key ≡ k → later y m ≡ false) x xs
-      (λ g. later-is y x (sym xy) ∙ ap isBefore (less-flip (idOf x) (idOf y) (is-before-of (stands (idOf x) (idOf y)) (sym (later-is x y xy) ∙ f))))
-      (h .1),
+          (λ g. later-is y x (sym xy) ∙ ap isBefore (less-flip (idOf x) (idOf y) (is-before-of (stands (idOf x) (idOf y)) (sym (later-is x y xy) ∙ f))))
+          (h .1),
     ))
     (λ f. (
       e,
       each-cons (λ m. m .key ≡ k → later x m ≡ false) x xs (λ g. not-self x)
-      (λ i d l g.
-      let z : Mark = getD xs i d in
-      later-is x z (e ∙ sym g)
-      ∙ not-less (stands (idOf x) (idOf y)) (stands (idOf x) (idOf z)) (idOf x) (idOf y) (idOf z) refl refl
-      (sym (later-is x y xy) ∙ f)
-      (sym (later-is y z (h .0 ∙ sym g)) ∙ h .1 i d l g)),
+          (λ i d l g.
+          let z : Mark = getD xs i d in
+          later-is x z (e ∙ sym g)
+          ∙ not-less (stands (idOf x) (idOf y)) (stands (idOf x) (idOf z)) (idOf x) (idOf y) (idOf z) refl refl
+          (sym (later-is x y xy) ∙ f)
+          (sym (later-is y z (h .0 ∙ sym g)) ∙ h .1 i d l g)),
     ))
 
 -- the winner is the best
