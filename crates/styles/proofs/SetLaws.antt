@@ -16,9 +16,10 @@ use Rattle.styles.specs.declared.Winner.{Winner}
 use Rattle.styles.specs.declared.Winner.the-variants.{Nothing, Shows}
 use Rattle.styles.specs.Order.{stands, idOf, isBefore, isSame, less, sameId}
 use Rattle.styles.specs.Marks.{Above, Sorted, member, insertStep, insertMark, only, removeMark, common, later, better, winner}
-use Rattle.styles.proofs.OrderLaws.{num-same, is-before-of, is-same-of, less-trans, less-flip, more-flip, same-flip, same-eq, same-self}
+use Rattle.styles.proofs.OrderLaws.{is-before-of, is-same-of, less-trans, less-flip, more-flip, same-flip, same-eq, same-self}
 use Rattle.styles.proofs.PickLaws.{above-trans}
 use Rattle.styles.proofs.UnionLaws.{above-insert}
+use Rattle.styles.proofs.WalkLaws.{later-of}
 
 -- ---- sets stay sorted
 sorted-step : (s : Stand) (m x : Mark) (xs rest : List Mark) → stands (idOf m) (idOf x) ≡ s → Sorted (x ∷ xs) → (s ≡ After → Above (idOf x) rest) → Sorted rest
@@ -103,11 +104,6 @@ pub member-common : (j : Identity) (a b : List Mark) → member j (common a b) �
 member-common j a b = member-only (λ i. member i b) j a
 
 -- ---- the winner
--- for marks of one key, later is the order of identities
-later-is : (a b : Mark) → a .key ≡ b .key → later a b ≡ less (idOf a) (idOf b)
-unfolding stands
-later-is a b e = rw (num-same (a .key) (b .key) e)
-
 not-less : (s t : Stand) (a b c : Identity) → stands a b ≡ s → stands a c ≡ t → isBefore s ≡ false → less b c ≡ false → isBefore t ≡ false
 not-less Before t a b c e f h k = absurd (true≢false h)
 not-less Same t a b c e f h k = ap isBefore (sym f) ∙ ap (λ (x : Identity). less x c) (same-eq a b e) ∙ k
@@ -121,7 +117,7 @@ Best k l Nothing = (i : ℕ) (d : Mark) → i < length l → getD l i d .key ≡
 Best k l (Shows w) = (w .key ≡ k) × ((i : ℕ) (d : Mark) → i < length l → getD l i d .key ≡ k → later w (getD l i d) ≡ false)
 
 not-self : (m : Mark) → later m m ≡ false
-not-self m = later-is m m refl ∙ ap isBefore (same-self (idOf m))
+not-self m = later-of m m refl ∙ ap isBefore (same-self (idOf m))
 
 -- what holds of the first mark and of each of the rest holds of each
 each-cons : (P : Mark → Type 0) (x : Mark) (xs : List Mark) → P x → ((i : ℕ) (d : Mark) → i < length xs → P (getD xs i d))
@@ -143,7 +139,7 @@ best-key k x xs (Shows y) e h =
     (λ f. (
       h .0,
       each-cons (λ m. m .key ≡ k → later y m ≡ false) x xs
-          (λ g. later-is y x (sym xy) ∙ ap isBefore (less-flip (idOf x) (idOf y) (is-before-of (stands (idOf x) (idOf y)) (sym (later-is x y xy) ∙ f))))
+          (λ g. later-of y x (sym xy) ∙ ap isBefore (less-flip (idOf x) (idOf y) (is-before-of (stands (idOf x) (idOf y)) (sym (later-of x y xy) ∙ f))))
           (h .1),
     ))
     (λ f. (
@@ -151,10 +147,10 @@ best-key k x xs (Shows y) e h =
       each-cons (λ m. m .key ≡ k → later x m ≡ false) x xs (λ g. not-self x)
           (λ i d l g.
           let z : Mark = getD xs i d in
-          later-is x z (e ∙ sym g)
+          later-of x z (e ∙ sym g)
           ∙ not-less (stands (idOf x) (idOf y)) (stands (idOf x) (idOf z)) (idOf x) (idOf y) (idOf z) refl refl
-          (sym (later-is x y xy) ∙ f)
-          (sym (later-is y z (h .0 ∙ sym g)) ∙ h .1 i d l g)),
+          (sym (later-of x y xy) ∙ f)
+          (sym (later-of y z (h .0 ∙ sym g)) ∙ h .1 i d l g)),
     ))
 
 -- the winner is the best

@@ -15,7 +15,7 @@ use Rattle.styles.specs.declared.Mark.{Mark}
 use Rattle.styles.specs.declared.Stand.the-variants.{Before}
 use Rattle.styles.specs.declared.Winner.{Winner}
 use Rattle.styles.specs.declared.Winner.the-variants.{Nothing, Shows}
-use Rattle.styles.specs.Order.{stands, idOf, isBefore}
+use Rattle.styles.specs.Order.{stands, idOf, less}
 use Rattle.styles.specs.Marks.{Above, Sorted, later, better, winner, blank}
 use Rattle.styles.specs.Bits.{keepBit, pick, hasBit}
 use Rattle.styles.proofs.OrderLaws.{num-same}
@@ -61,14 +61,15 @@ keep-turn p m w e h =
     rw f (set-at p blank (replicate (64 - (w + 1)) blank) m w (sym e) ∙ sym (append-assoc p (m ∷ []) (replicate (64 - (w + 1)) blank)))
 
 -- ---- the winner is the last mark with the key
-pub later-of : (x m : Mark) → stands (idOf x) (idOf m) ≡ Before → x .key ≡ m .key → later x m ≡ true
+-- for marks of one key, later is the order of identities
+pub later-of : (a b : Mark) → a .key ≡ b .key → later a b ≡ less (idOf a) (idOf b)
 unfolding stands
-later-of x m h e = ap isBefore (rw (num-same (x .key) (m .key) e) at h)
+later-of a b e = rw (num-same (a .key) (b .key) e)
 
 winner-step : (k : ℕ) (x m : Mark) (w : Winner) (a b : Bool) → eqb (x .key) k ≡ a → eqb (m .key) k ≡ b → stands (idOf x) (idOf m) ≡ Before
     → cond a (better x (cond b (Shows m) w)) (cond b (Shows m) w) ≡ cond b (Shows m) (cond a (better x w) w)
 winner-step k x m w true true e f h =
-    rw (later-of x m h (omega (arith, eqb-true (x .key) k e, eqb-true (m .key) k f)))
+    rw (later-of x m (omega (arith, eqb-true (x .key) k e, eqb-true (m .key) k f)), h)
 winner-step k x m w true false e f h = refl
 winner-step k x m w false true e f h = refl
 winner-step k x m w false false e f h = refl
