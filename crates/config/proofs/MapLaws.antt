@@ -7,8 +7,8 @@ use Prim.Native.Nat.{ℕ, zero, suc, _+_, _-_, _≤_, _<_}
 use native.Mathlib.Decide.{decLt, ℕ-discrete}
 use native.Mathlib.Numerals.{add-one}
 use native.Mathlib.Omega.{arith}
-use lib.ListN.{length, getD, take, drop, set, replicate, length-map, length-set, List·getD-map, getD-replicate}
-use lib.Seq.{length-take-le, getD-take, getD-drop, getD-set-same, getD-set-other, take-set-lt, take-suc-set, drop-set-lt, drop-drop, ext-getD}
+use lib.ListN.{length, getD, take, drop, set, replicate, drop-of-length-le, length-map, length-set, List·getD-map, getD-replicate}
+use lib.Seq.{drop-cons, length-take-le, getD-take, getD-drop, getD-set-same, getD-set-other, take-set-lt, take-suc-set, drop-set-lt, drop-drop, ext-getD}
 use borrow.Author.Tests.{eq-eqb, ne-eqb}
 use Rattle.text.specs.Bytes.{sameOf}
 use Rattle.config.specs.Names.{holdsColon}
@@ -20,7 +20,7 @@ use Rattle.config.specs.declared.MaybeStyle.the-variants.{Style, Nothing
 use Rattle.config.specs.declared.StyleConfig.{StyleConfig}
 use Rattle.config.specs.declared.StyleConfigMap.{StyleConfigMap}
 use Rattle.config.proofs.EntryLaws.{name-entry, tidy-entry, one-entry}
-use Rattle.config.proofs.TableLaws.{place-step, place-here, place-end, place-le, known-place, find-place, entered-place, once-entered, refuses-full, accepts-known, accepts-new}
+use Rattle.config.proofs.TableLaws.{place-le, known-place, find-place, entered-place, once-entered, refuses-full, accepts-known, accepts-new}
 
 -- A map's entries, seen through its meaning
 
@@ -33,13 +33,16 @@ configured-at m i h = List·getD-map namedOf (take (m .count) (m .entries)) i no
 module _ (m : StyleConfigMap) (s : Sound m) (k : List ℕ) (i : ℕ) where
   -- an entry of another name is passed, one of this name is the place, and past the count there is none
   pub place-pass : i < m .count → sameOf (nameIn (entryAt m i)) k ≡ false → place k (drop i (configured m .entries)) ≡ suc (place k (drop (suc i) (configured m .entries)))
-  place-pass h e = place-step k (configured m .entries) i (namedOf noEntry) (rw (length-configured m s) h) (rw (configured-at m i h) e)
+  unfolding place
+  place-pass h e = rw (drop-cons (configured m .entries) i (namedOf noEntry) (rw (length-configured m s) h), configured-at m i h, e)
 
   pub place-stop : i < m .count → sameOf (nameIn (entryAt m i)) k ≡ true → place k (drop i (configured m .entries)) ≡ 0
-  place-stop h e = place-here k (configured m .entries) i (namedOf noEntry) (rw (length-configured m s) h) (rw (configured-at m i h) e)
+  unfolding place
+  place-stop h e = rw (drop-cons (configured m .entries) i (namedOf noEntry) (rw (length-configured m s) h), configured-at m i h, e)
 
   pub place-over : m .count ≤ i → place k (drop i (configured m .entries)) ≡ 0
-  place-over h = place-end k (configured m .entries) i (rw (length-configured m s) h)
+  unfolding place
+  place-over h = rw (drop-of-length-le (configured m .entries) {i = i} (rw (length-configured m s) h))
 
 module _ (m : StyleConfigMap) (s : Sound m) (k : List ℕ) where
   -- the style of a name is that of the entry at its place, or the default

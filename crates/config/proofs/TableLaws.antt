@@ -1,39 +1,20 @@
 -- Laws of the table: each definition that goes down the entries is known by the place of the name. Assumes nothing.
 use mathlib.Core.Path.{_≡_, refl}
-use mathlib.Core.Bool.{Bool, true, false, cond, not, and-eq-true-iff, or-true}
+use mathlib.Core.Bool.{true, false, not, and-eq-true-iff, or-true}
 use mathlib.Core.List.{List, [], _∷_, _++_}
 use mathlib.Core.Option.{none, some}
 use Prim.Native.Nat.{ℕ, suc, _≤_, _<_}
 use native.Mathlib.Omega.{arith}
-use lib.ListN.{length, getD, drop, set, drop-of-length-le}
-use lib.Seq.{drop-cons}
+use lib.ListN.{length, getD, set}
 use borrow.Author.Tests.{le-leb, lt-leb, lt-ltb, le-ltb}
 use Rattle.text.specs.Bytes.{sameOf}
+use Rattle.text.proofs.Cases.{cond-cases}
 use Rattle.text.proofs.Prefix.{same-true, same-flip}
 use Rattle.config.specs.Names.{tooLong, holdsColon}
 use Rattle.config.specs.Table.{Named, Table, known, find, place, entered, once, refuses}
 use Rattle.config.specs.declared.StyleConfig.{StyleConfig}
 
 -- The place of a name
-
--- an entry of another name is passed
-pub place-step : (k : List ℕ) (es : List Named) (i : ℕ) (d : Named) → i < length es → sameOf (getD es i d .name) k ≡ false
-    → place k (drop i es) ≡ suc (place k (drop (suc i) es))
-unfolding place
-place-step k es i d h e = rw (drop-cons es i d, e)
-
--- an entry of this name is where it stands
-pub place-here : (k : List ℕ) (es : List Named) (i : ℕ) (d : Named) → i < length es → sameOf (getD es i d .name) k ≡ true → place k (drop i es) ≡ 0
-unfolding place
-place-here k es i d h e = rw (drop-cons es i d, e)
-
-pub place-end : (k : List ℕ) (es : List Named) (i : ℕ) → length es ≤ i → place k (drop i es) ≡ 0
-unfolding place
-place-end k es i h = rw (drop-of-length-le es h)
-
-place-cases : (t : Bool) (P : ℕ → Type 0) (n : ℕ) → (t ≡ true → P 0) → (t ≡ false → P (suc n)) → P (cond t 0 (suc n))
-place-cases true P n f g = f refl
-place-cases false P n f g = g refl
 
 -- what holds at no entries, at an entry of the name, and at an entry of another name if it holds of the rest, holds
 pub place-by : (k : List ℕ) (P : List Named → ℕ → Type 0)
@@ -45,7 +26,7 @@ unfolding place
 place-by k P z f g [] = z
 place-by k P z f g (x ∷ xs) =
     let r : P xs (place k xs) = place-by k P z f g xs in
-    place-cases (sameOf (x .name) k) (λ n. P (x ∷ xs) n) (place k xs) (λ e. f x xs e) (λ e. g x xs e r)
+    cond-cases (P (x ∷ xs)) (sameOf (x .name) k) (f x xs) (λ e. g x xs e r)
 
 pub place-le : (k : List ℕ) (es : List Named) → place k es ≤ length es
 place-le k = place-by k (λ es n. n ≤ length es) (omega arith) (λ x xs e. omega arith) (λ x xs e r. omega arith)

@@ -1,5 +1,5 @@
 -- Laws of the expand types and of the flag byte: what the definitions of `specs/` have to do with one another. Assumes nothing.
-use mathlib.Core.Path.{_≡_, refl}
+use mathlib.Core.Path.{_≡_, refl, ap, _∙_}
 use mathlib.Core.Bool.{Bool, true, false, cond}
 use mathlib.Core.List.{List}
 use Prim.Native.Nat.{ℕ}
@@ -9,7 +9,9 @@ use Rattle.richtext.specs.Types.{growsBefore, growsAfter, reversed, word
 use Rattle.richtext.specs.Flags.{bit, expandsBefore, expandsAfter, typeOf, newByte, deletedByte}
 use Rattle.richtext.specs.declared.ExpandType.{ExpandType}
 use Rattle.richtext.specs.declared.ExpandType.the-variants.{Before, After, Both, None}
-use Rattle.richtext.specs.declared.NamedType.the-variants.{Is, NoneOfThese}
+use Rattle.richtext.specs.declared.NamedType.{NamedType}
+use Rattle.richtext.specs.declared.NamedType.the-variants.{Is}
+use Rattle.text.proofs.Cases.{cond-cases}
 use Rattle.text.proofs.Prefix.{same-true}
 
 -- reverse twice is the identity
@@ -29,28 +31,12 @@ named-word After = refl
 named-word Both = refl
 named-word None = refl
 
-named-by : {s : List ℕ} {t : ExpandType} (e f g h : Bool)
-    → (e ≡ true → s ≡ word Before) → (f ≡ true → s ≡ word After) → (g ≡ true → s ≡ word Both) → (h ≡ true → s ≡ word None)
-    → cond e (Is Before) (cond f (Is After) (cond g (Is Both) (cond h (Is None) NoneOfThese))) ≡ Is t
-    → s ≡ word t
-named-by true f g h p q r u k = let z = p refl in cc
-named-by false true g h p q r u k = let z = q refl in cc
-named-by false false true h p q r u k = let z = r refl in cc
-named-by false false false true p q r u k = let z = u refl in cc
-named-by false false false false p q r u k = cc
-
 -- and no other bytes name it
 pub word-named : (s : List ℕ) (t : ExpandType) → named s ≡ Is t → s ≡ word t
-word-named s t =
-    named-by
-    (sameOf s (word Before))
-    (sameOf s (word After))
-    (sameOf s (word Both))
-    (sameOf s (word None))
-    (same-true s (word Before))
-    (same-true s (word After))
-    (same-true s (word Both))
-    (same-true s (word None))
+word-named s t = step Before (step After (step Both (step None (λ k. cc))))
+  where
+    step : (w : ExpandType) {r : NamedType} → (r ≡ Is t → s ≡ word t) → cond (sameOf s (word w)) (Is w) r ≡ Is t → s ≡ word t
+    step w f = cond-cases (λ r. r ≡ Is t → s ≡ word t) (sameOf s (word w)) (λ e k. let q : w ≡ t = cc in same-true s (word w) e ∙ ap word q) (λ e. f)
 
 -- Bytes
 

@@ -5,7 +5,7 @@ use mathlib.Core.List.{List, [], _∷_, _++_}
 use native.Mathlib.Omega.{arith}
 use native.Mathlib.Numerals.{add-one}
 use lib.ListN.{length, take, drop, getD, set, replicate, length-take}
-use lib.Seq.{take-at, take-all}
+use lib.Seq.{take-suc, drop-cons, take-at, take-all}
 use Rattle.styles.specs.declared.Mark.{Mark}
 use Rattle.styles.specs.declared.Ranked.the-variants.{Nothing, Found}
 use Rattle.styles.specs.declared.Styles.{Styles}
@@ -36,21 +36,16 @@ rank-past (m ∷ ms) zero h = absurd (omega arith)
 rank-past (m ∷ ms) (suc j) h = rank-past ms j (omega arith)
 
 -- ---- a turn of the walk over a set
-next-mark : (l : List Mark) (w : ℕ) (x : Mark) (rest : List Mark) → drop w l ≡ x ∷ rest → (take (suc w) l ≡ take w l ++ x ∷ []) × (drop (suc w) l ≡ rest)
-next-mark [] zero x rest e = (cc, cc)
-next-mark [] (suc w) x rest e = (cc, cc)
-next-mark (m ∷ ms) zero x rest e = (ap (λ (y : List Mark). take 1 y) e, ap (drop 1) e)
-next-mark (m ∷ ms) (suc w) x rest e =
-    let p = next-mark ms w x rest e in
-    (ap (_∷_ m) (p .0), p .1)
-
 module _ (l : List Mark) (w : ℕ) (x : Mark) (rest : List Mark) (here : drop w l ≡ x ∷ rest) (room : w < 64) (held : w < length l) where
+  same : getD l w x ∷ drop (suc w) l ≡ x ∷ rest
+  same = sym (drop-cons l w x held) ∙ here
+
   pub walk-rest : drop (w + 1) l ≡ rest
-  walk-rest = rw (add-one w) (next-mark l w x rest here .1)
+  walk-rest = rw (add-one w) (ap (drop 1) same)
 
   pub walk-front : set (take w l ++ replicate (64 - w) blank) w x ≡ take (w + 1) l ++ replicate (64 - (w + 1)) blank
   walk-front =
-      let e : take (w + 1) l ≡ take w l ++ x ∷ [] = rw (add-one w) (next-mark l w x rest here .0) in
+      let e : take (w + 1) l ≡ take w l ++ x ∷ [] = rw (add-one w) (take-suc l w x held ∙ ap (λ (y : List Mark). take w l ++ take 1 y) same) in
       keep-turn (take w l) x w (omega (arith, length-take w l)) room
       ∙ ap (λ (y : List Mark). y ++ replicate (64 - (w + 1)) blank) (sym e)
 

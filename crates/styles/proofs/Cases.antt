@@ -1,4 +1,4 @@
--- What all crates need of the library's `cond`, and of lists that are filled up with one thing.
+-- What this crate and those above it need of the library's `cond`, and of lists that are filled up with one thing.
 use Prim.Native.Nat.{ℕ, zero, suc}
 use mathlib.Core.Path.{_≡_, refl}
 use mathlib.Core.Bool.{Bool, true, false, cond}
@@ -6,10 +6,13 @@ use mathlib.Core.List.{List, [], _∷_, _++_}
 use lib.ListN.{getD, replicate}
 
 -- ---- two cases
--- what holds of both holds of the one that is chosen
+-- what holds of each where it is chosen holds of the one that is chosen
+pub cond-cases : {A : Type 0} (P : A → Type 0) (b : Bool) {x y : A} → (b ≡ true → P x) → (b ≡ false → P y) → P (cond b x y)
+cond-cases P true h g = h refl
+cond-cases P false h g = g refl
+
 pub cond-by : {A : Type 0} (P : A → Type 0) (b : Bool) {x y : A} → P x → P y → P (cond b x y)
-cond-by P true h g = h
-cond-by P false h g = g
+cond-by P b h g = cond-cases P b (λ _. h) (λ _. g)
 
 -- two that are one
 pub cond-same : {A : Type 0} {x : A} (b : Bool) → cond b x x ≡ x

@@ -4,10 +4,10 @@ use mathlib.Core.Path.{_≡_, refl, sym, ap, _∙_, subst}
 use mathlib.Core.Bool.{Bool, true, false, cond, _||_}
 use mathlib.Core.List.{List, [], _∷_, _++_}
 use native.Mathlib.Omega.{arith}
-use native.Mathlib.Nat.{zero-min, min-zero, min-le-left, pow-suc, div-one}
+use native.Mathlib.Nat.{zero-min, min-zero, pow-suc, div-one, div-eq-of-lt-le}
 use native.Mathlib.Decide.{decLt, ℕ-discrete}
 use native.Mathlib.Numerals.{add-one}
-use lib.Bits.{bitAnd, and-step, and-shr, and-le-r}
+use lib.Bits.{bitAnd, and-step, and-le-r}
 use lib.Dec.{eqb, ltb}
 use lib.Count.{leading-top}
 use borrow.Author.Tests.{eqb-true, eq-eqb, ne-eqb, lt-ltb, le-ltb}
@@ -16,19 +16,19 @@ use lib.Seq.{drop-cons, getD-take}
 use lib.Pow.{pow-mono, pow-pos}
 use Rattle.styles.specs.declared.Identity.{Identity}
 use Rattle.styles.specs.declared.Mark.{Mark}
-use Rattle.styles.specs.declared.Stand.the-variants.{Before}
 use Rattle.styles.specs.declared.Value.{Value}
 use Rattle.styles.specs.declared.Winner.{Winner}
 use Rattle.styles.specs.declared.Winner.the-variants.{Nothing, Shows}
-use Rattle.styles.specs.Order.{stands, idOf}
+use Rattle.styles.specs.Order.{idOf}
 use Rattle.styles.specs.Marks.{Above, Sorted, member, only, keyIs, valueIs, hasKey, better, winner, shownBy, showsValue, blank}
 use Rattle.styles.specs.Bits.{keepBit, pick, hasBit, MaskOf, topIn}
 use Rattle.styles.proofs.Built.{asBit, maskOf}
 use Rattle.styles.proofs.OrderLaws.{less-flip, same-self}
-use Rattle.styles.proofs.PickLaws.{pick-cons, above-pick, above-at, not-member}
+use Rattle.styles.proofs.PickLaws.{pick-cons, keep-by, above-pick, above-at, not-member}
 use Rattle.styles.proofs.BitLaws.{half-shr, half-less, has-past}
 use Rattle.styles.proofs.WalkLaws.{next-set, winner-last, sorted-pick}
 use Rattle.styles.proofs.UnionLaws.{pick-none}
+use Rattle.styles.proofs.Digits.{and-digit}
 
 -- ---- an identity of the table is carried exactly where its bit is set
 pub digit-next : (s i : ℕ) → hasBit (suc i) s ≡ hasBit i (s / 2)
@@ -39,18 +39,14 @@ unfolding member
 member-first zero m ms h k = not-member (idOf m) ms k
 member-first (suc b) m ms h k = rw (same-self (idOf m), eq-eqb (suc b) 1 (omega arith))
 
-member-keep : (b : ℕ) (i : Identity) (x : Mark) (xs : List Mark) → stands (idOf x) i ≡ Before → member i (keepBit b x xs) ≡ member i xs
-unfolding member
-member-keep zero i x xs h = refl
-member-keep (suc b) i x xs h = rw (less-flip (idOf x) i h)
-
 pub member-pick : (t : List Mark) (i : ℕ) (d : Mark) (s : ℕ) → i < length t → Sorted t → member (idOf (getD t i d)) (pick t s) ≡ hasBit i s
-unfolding pick Sorted
+unfolding pick Sorted member
 member-pick [] i d s h k = absurd (omega arith)
 member-pick (m ∷ ms) zero d s h k =
     member-first (s % 2) m (pick ms (s / 2)) (omega arith) (above-pick (idOf m) ms (s / 2) (k .0)) ∙ sym (ap (λ (x : ℕ). eqb (x % 2) 1) (div-one s))
 member-pick (m ∷ ms) (suc i) d s h k =
-    member-keep (s % 2) (idOf (getD ms i d)) m (pick ms (s / 2)) (above-at (idOf m) ms i d (omega arith) (k .0))
+    let j : Identity = idOf (getD ms i d) in
+    keep-by (λ l. member j l ≡ member j (pick ms (s / 2))) (s % 2) {m = m} {ms = pick ms (s / 2)} refl (rw (less-flip (idOf m) j (above-at (idOf m) ms i d (omega arith) (k .0))))
     ∙ member-pick ms i d (s / 2) (omega arith) (k .1)
     ∙ sym (digit-next s i)
 
@@ -120,13 +116,8 @@ pick-short zero t s h = let e : s ≡ 0 = omega arith in rw e (pick-none t)
 pick-short (suc n) [] s h = refl
 pick-short (suc n) (m ∷ ms) s h = ap (keepBit (s % 2) m) (pick-short n ms (s / 2) (half-less n s h))
 
-top-digit : (j s : ℕ) → 2 ^ j ≤ s → s < 2 ^ suc j → s / 2 ^ j ≡ 1
-top-digit zero s h k = omega arith
-top-digit (suc j) s h k =
-    half-shr s j ∙ top-digit j (s / 2) (omega (arith, pow-suc 2 j)) (omega (arith, pow-suc 2 (suc j)))
-
 pub top-set : (j s : ℕ) → 2 ^ j ≤ s → s < 2 ^ suc j → hasBit j s ≡ true
-top-set j s h k = eq-eqb (s / 2 ^ j % 2) 1 (omega (arith, top-digit j s h k))
+top-set j s h k = eq-eqb (s / 2 ^ j % 2) 1 (omega (arith, div-eq-of-lt-le {k = 1} (2 ^ j) {m = s} (omega arith) (omega (arith, pow-suc 2 j))))
 
 -- the highest bit is the last mark picked
 pub pick-top : (j : ℕ) (t : List Mark) (s : ℕ) (d : Mark) → 2 ^ j ≤ s → s < 2 ^ suc j → j < length t
@@ -136,13 +127,8 @@ pick-top j t s d h k l = pick-short (suc j) t s k ∙ (rw (add-one j) at (next-s
 pow-back : (j n : ℕ) → 2 ^ j < 2 ^ n → j < n
 pow-back j n h = elim (decLt j n) [ yes l ↦ l | no l ↦ absurd (omega (arith, pow-mono {i = n} {j = j} (omega arith))) ]
 
-pub and-low : (a b : ℕ) → bitAnd a b % 2 ≡ min (a % 2) (b % 2)
-and-low a b = let h : min (a % 2) (b % 2) ≤ a % 2 = min-le-left (a % 2) (b % 2) in omega (arith, and-step a b)
-
 and-has : (s u j : ℕ) → hasBit j (bitAnd s u) ≡ true → hasBit j u ≡ true
-and-has s u j h =
-    let e : bitAnd s u / 2 ^ j % 2 ≡ min (s / 2 ^ j % 2) (u / 2 ^ j % 2) = ap (λ (x : ℕ). x % 2) (and-shr s u j) ∙ and-low (s / 2 ^ j) (u / 2 ^ j) in
-    eq-eqb (u / 2 ^ j % 2) 1 (omega (arith, eqb-true (bitAnd s u / 2 ^ j % 2) 1 h))
+and-has s u j h = eq-eqb (u / 2 ^ j % 2) 1 (omega (arith, and-digit s u j, eqb-true (bitAnd s u / 2 ^ j % 2) 1 h))
 
 module _ (t : List Mark) (s key : ℕ) (d : Mark) (sorted : Sorted t) where
   keyed : ℕ

@@ -1,4 +1,5 @@
--- The order of identities is a strict total order. Later laws use `less-trans`, `less-flip`, `same-eq`, `same-self` and no field of an identity.
+-- The order of identities is a strict total order: `less-trans`, `less-flip`, `more-flip`, `same-flip`, `same-eq`, `same-self`. Of laws of sets only the winner's
+-- look at a field, the key (`num-same`).
 use Prim.Native.Nat.{ℕ, _<_}
 use mathlib.Core.Path.{_≡_, refl, sym, _∙_}
 use mathlib.Core.Bool.{true}
@@ -131,3 +132,6 @@ more-flip a b h = of-less (to-more h (cases a b))
 
 pub same-eq : (a b : Identity) → stands a b ≡ Same → a ≡ b
 same-eq a b h = to-same h (cases a b)
+
+pub same-flip : (a b : Identity) → stands a b ≡ Same → stands b a ≡ Same
+same-flip a b h = rw (same-eq a b h) (same-self b)

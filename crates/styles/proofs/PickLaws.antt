@@ -4,7 +4,7 @@ use mathlib.Core.Path.{_≡_, refl, sym, ap, _∙_}
 use mathlib.Core.Bool.{Bool, false, cond}
 use mathlib.Core.List.{List, [], _∷_}
 use native.Mathlib.Omega.{arith}
-use native.Mathlib.Nat.{zero-min, min-zero, suc-min-suc}
+use native.Mathlib.Nat.{add-zero, zero-min, min-zero, suc-min-suc}
 use lib.Bits.{bitAnd, and-step}
 use lib.ListN.{length, getD}
 use Rattle.styles.specs.declared.Identity.{Identity}
@@ -24,14 +24,12 @@ pick-cons m ms q b h =
     rw (e, f)
 
 pub pick-even : (m : Mark) (ms : List Mark) (q : ℕ) → pick (m ∷ ms) (q * 2) ≡ pick ms q
-unfolding pick
-pick-even m ms q =
-    let e : q * 2 % 2 ≡ 0 = omega arith in
-    let f : q * 2 / 2 ≡ q = omega arith in
-    rw (e, f)
+pick-even m ms q = ap (pick (m ∷ ms)) (sym (add-zero (q * 2))) ∙ pick-cons m ms q 0 (omega arith)
 
-low : (s : ℕ) → s % 2 < 2
-low s = omega arith
+-- what holds with a mark and without it holds of the mark kept or not
+pub keep-by : (P : List Mark → Type 0) (b : ℕ) {m : Mark} {ms : List Mark} → P ms → P (m ∷ ms) → P (keepBit b m ms)
+keep-by P zero h g = h
+keep-by P (suc b) h g = g
 
 -- ---- a mark new to the table
 pub pick-open : (i : ℕ) (m : Mark) (t : List Mark) (s : ℕ) → pick (insertAt i m t) (openBit i s) ≡ pick t s
@@ -39,18 +37,13 @@ unfolding insertAt openBit pick
 pick-open zero m t s = pick-even m t s
 pick-open (suc i) m [] s = refl
 pick-open (suc i) m (x ∷ xs) s =
-    pick-cons x (insertAt i m xs) (openBit i (s / 2)) (s % 2) (low s) ∙ ap (keepBit (s % 2) x) (pick-open i m xs (s / 2))
+    pick-cons x (insertAt i m xs) (openBit i (s / 2)) (s % 2) (omega arith) ∙ ap (keepBit (s % 2) x) (pick-open i m xs (s / 2))
 
 -- what comes before each mark of the table comes before each picked
-above-keep : (i : Identity) (m : Mark) (ms : List Mark) (b : ℕ) → stands i (idOf m) ≡ Before → Above i ms → Above i (keepBit b m ms)
-unfolding Above
-above-keep i m ms zero h k = k
-above-keep i m ms (suc b) h k = (h, k)
-
 pub above-pick : (i : Identity) (t : List Mark) (s : ℕ) → Above i t → Above i (pick t s)
 unfolding Above pick
 above-pick i [] s h = tt
-above-pick i (m ∷ ms) s h = above-keep i m (pick ms (s / 2)) (s % 2) (h .0) (above-pick i ms (s / 2) (h .1))
+above-pick i (m ∷ ms) s h = let k = above-pick i ms (s / 2) (h .1) in keep-by (Above i) (s % 2) k (h .0, k)
 
 -- ---- a set with one mark more
 pub insert-first : (m : Mark) (ms : List Mark) → Above (idOf m) ms → insertMark m ms ≡ m ∷ ms
@@ -85,7 +78,7 @@ pick-with [] i d s h k = absurd (omega arith)
 pick-with (m ∷ ms) zero d s h k =
     pick-cons m ms (s / 2) 1 (omega arith) ∙ insert-again (s % 2) m (pick ms (s / 2)) (above-pick (idOf m) ms (s / 2) (k .0))
 pick-with (m ∷ ms) (suc i) d s h k =
-    pick-cons m ms (withBit i (s / 2)) (s % 2) (low s)
+    pick-cons m ms (withBit i (s / 2)) (s % 2) (omega arith)
     ∙ ap (keepBit (s % 2) m) (pick-with ms i d (s / 2) (omega arith) (k .1))
     ∙ insert-keep (s % 2) (getD ms i d) m (pick ms (s / 2)) (above-at (idOf m) ms i d (omega arith) (k .0))
 
@@ -112,7 +105,7 @@ pick-without [] i d s h k = absurd (omega arith)
 pick-without (m ∷ ms) zero d s h k =
     pick-even m ms (s / 2) ∙ remove-first (s % 2) m (pick ms (s / 2)) (above-pick (idOf m) ms (s / 2) (k .0))
 pick-without (m ∷ ms) (suc i) d s h k =
-    pick-cons m ms (withoutBit i (s / 2)) (s % 2) (low s)
+    pick-cons m ms (withoutBit i (s / 2)) (s % 2) (omega arith)
     ∙ ap (keepBit (s % 2) m) (pick-without ms i d (s / 2) (omega arith) (k .1))
     ∙ remove-keep (s % 2) (idOf (getD ms i d)) m (pick ms (s / 2)) (above-at (idOf m) ms i d (omega arith) (k .0))
 

@@ -1,13 +1,13 @@
 -- The operations on sets are what their names say: they keep sets sorted, carry what they should, and the winner is the greatest.
 use Prim.Native.Nat.{ℕ, zero, suc, _<_}
 use mathlib.Core.Path.{_≡_, refl, sym, ap, _∙_}
-use mathlib.Core.Bool.{Bool, true, false, cond, not, _&&_, _||_, false≢true, true≢false, and-false, or-self-left, or-assoc}
+use mathlib.Core.Bool.{Bool, true, false, not, _&&_, _||_, false≢true, true≢false, and-false, or-assoc, or-comm, or-self-left}
 use mathlib.Core.List.{List, [], _∷_}
 use native.Mathlib.Omega.{arith}
 use lib.Dec.{eqb}
 use lib.ListN.{length, getD}
 use borrow.Author.Tests.{eqb-true, eqb-false}
-use Rattle.styles.proofs.Cases.{cond-by}
+use Rattle.styles.proofs.Cases.{cond-cases, cond-by}
 use Rattle.styles.specs.declared.Identity.{Identity}
 use Rattle.styles.specs.declared.Mark.{Mark}
 use Rattle.styles.specs.declared.Stand.{Stand}
@@ -16,9 +16,10 @@ use Rattle.styles.specs.declared.Winner.{Winner}
 use Rattle.styles.specs.declared.Winner.the-variants.{Nothing, Shows}
 use Rattle.styles.specs.Order.{stands, idOf, isBefore, isSame, less, sameId}
 use Rattle.styles.specs.Marks.{Above, Sorted, member, insertStep, insertMark, eitherOf, only, removeMark, common, later, better, winner}
-use Rattle.styles.proofs.OrderLaws.{num-same, is-before-of, is-same-of, less-trans, less-flip, more-flip, same-eq, same-self}
+use Rattle.styles.proofs.OrderLaws.{is-before-of, is-same-of, less-trans, less-flip, more-flip, same-flip, same-eq, same-self}
 use Rattle.styles.proofs.PickLaws.{above-trans}
 use Rattle.styles.proofs.UnionLaws.{above-insert}
+use Rattle.styles.proofs.WalkLaws.{later-of}
 
 -- ---- sets stay sorted
 sorted-step : (s : Stand) (m x : Mark) (xs rest : List Mark) → stands (idOf m) (idOf x) ≡ s → Sorted (x ∷ xs) → (s ≡ After → Above (idOf x) rest) → Sorted rest
@@ -48,10 +49,7 @@ sorted-only f (x ∷ xs) h = let k = sorted-only f xs (h .1) in cond-by Sorted (
 
 -- ---- what they carry
 swap : (a b c : Bool) → (a || (b || c)) ≡ (b || (a || c))
-swap true true c = refl
-swap true false c = refl
-swap false true c = refl
-swap false false c = refl
+swap a b c = sym (or-assoc a b c) ∙ ap (λ (x : Bool). x || c) (or-comm a b) ∙ or-assoc b a c
 
 carries-step : (s : Stand) (j : Identity) (m x : Mark) (xs rest : List Mark) → stands (idOf m) (idOf x) ≡ s → member j rest ≡ (sameId j (idOf m) || member j xs)
     → member j (insertStep s m x xs rest) ≡ (sameId j (idOf m) || member j (x ∷ xs))
@@ -79,10 +77,10 @@ member-either j (x ∷ xs) b =
 same-passes : (f : Identity → Bool) (i j : Identity) → sameId i j ≡ true → f i ≡ f j
 same-passes f i j e = ap f (same-eq i j (is-same-of (stands i j) e))
 
-same-flip : (s : Stand) (i j : Identity) → stands i j ≡ s → isSame s ≡ sameId j i
-same-flip Before i j e = sym (ap isSame (less-flip i j e))
-same-flip Same i j e = sym (ap isSame (same-self j)) ∙ ap (sameId j) (sym (same-eq i j e))
-same-flip After i j e = sym (ap isSame (more-flip i j e))
+flipped : (s : Stand) (i j : Identity) → stands i j ≡ s → isSame s ≡ sameId j i
+flipped Before i j e = sym (ap isSame (less-flip i j e))
+flipped Same i j e = sym (ap isSame (same-flip i j e))
+flipped After i j e = sym (ap isSame (more-flip i j e))
 
 keep-both : (s p q r : Bool) → (s ≡ true → p ≡ true) → r ≡ (p && q) → (s || r) ≡ (p && (s || q))
 keep-both true true q r f h = refl
@@ -94,32 +92,25 @@ drop-both true true q r f h = absurd (true≢false (f refl))
 drop-both true false q r f h = h
 drop-both false p q r f h = h
 
-only-step : (c : Bool) (f : Identity → Bool) (j : Identity) (x : Mark) (xs rest : List Mark) → f (idOf x) ≡ c → member j rest ≡ (f j && member j xs)
-    → member j (cond c (x ∷ rest) rest) ≡ (f j && member j (x ∷ xs))
-unfolding member
-only-step true f j x xs rest e h = keep-both (sameId j (idOf x)) (f j) (member j xs) (member j rest) (λ p. same-passes f j (idOf x) p ∙ e) h
-only-step false f j x xs rest e h = drop-both (sameId j (idOf x)) (f j) (member j xs) (member j rest) (λ p. same-passes f j (idOf x) p ∙ e) h
-
 -- those whose identity passes a test: what it carried and passes
 pub member-only : (f : Identity → Bool) (j : Identity) (l : List Mark) → member j (only (λ m. f (idOf m)) l) ≡ (f j && member j l)
 unfolding member only
 member-only f j [] = sym (and-false (f j))
-member-only f j (x ∷ xs) = only-step (f (idOf x)) f j x xs (only (λ m. f (idOf m)) xs) refl (member-only f j xs)
+member-only f j (x ∷ xs) =
+    let rest : List Mark = only (λ m. f (idOf m)) xs in
+    cond-cases (λ l. member j l ≡ (f j && member j (x ∷ xs))) (f (idOf x))
+    (λ e. keep-both (sameId j (idOf x)) (f j) (member j xs) (member j rest) (λ p. same-passes f j (idOf x) p ∙ e) (member-only f j xs))
+    (λ e. drop-both (sameId j (idOf x)) (f j) (member j xs) (member j rest) (λ p. same-passes f j (idOf x) p ∙ e) (member-only f j xs))
 
 -- without an identity: all that it carried but that
 pub member-remove : (j i : Identity) (l : List Mark) → member j (removeMark i l) ≡ (not (sameId j i) && member j l)
-member-remove j i l = member-only (λ x. not (sameId i x)) j l ∙ ap (λ (a : Bool). not a && member j l) (same-flip (stands i j) i j refl)
+member-remove j i l = member-only (λ x. not (sameId i x)) j l ∙ ap (λ (a : Bool). not a && member j l) (flipped (stands i j) i j refl)
 
 -- in common: what both carry
 pub member-common : (j : Identity) (a b : List Mark) → member j (common a b) ≡ (member j b && member j a)
 member-common j a b = member-only (λ i. member i b) j a
 
 -- ---- the winner
--- for marks of one key, later is the order of identities
-later-is : (a b : Mark) → a .key ≡ b .key → later a b ≡ less (idOf a) (idOf b)
-unfolding stands
-later-is a b e = rw (num-same (a .key) (b .key) e)
-
 not-less : (s t : Stand) (a b c : Identity) → stands a b ≡ s → stands a c ≡ t → isBefore s ≡ false → less b c ≡ false → isBefore t ≡ false
 not-less Before t a b c e f h k = absurd (true≢false h)
 not-less Same t a b c e f h k = ap isBefore (sym f) ∙ ap (λ (x : Identity). less x c) (same-eq a b e) ∙ k
@@ -133,60 +124,46 @@ Best k l Nothing = (i : ℕ) (d : Mark) → i < length l → getD l i d .key ≡
 Best k l (Shows w) = (w .key ≡ k) × ((i : ℕ) (d : Mark) → i < length l → getD l i d .key ≡ k → later w (getD l i d) ≡ false)
 
 not-self : (m : Mark) → later m m ≡ false
-not-self m = later-is m m refl ∙ ap isBefore (same-self (idOf m))
+not-self m = later-of m m refl ∙ ap isBefore (same-self (idOf m))
+
+-- what holds of the first mark and of each of the rest holds of each
+each-cons : (P : Mark → Type 0) (x : Mark) (xs : List Mark) → P x → ((i : ℕ) (d : Mark) → i < length xs → P (getD xs i d))
+    → (i : ℕ) (d : Mark) → i < suc (length xs) → P (getD (x ∷ xs) i d)
+each-cons P x xs h g zero d l = h
+each-cons P x xs h g (suc i) d l = g i d (omega arith)
 
 best-other : (k : ℕ) (x : Mark) (xs : List Mark) (v : Winner) → eqb (x .key) k ≡ false → Best k xs v → Best k (x ∷ xs) v
 unfolding Best
-best-other k x xs Nothing e h = other
-  where
-    other : (i : ℕ) (d : Mark) → i < suc (length xs) → getD (x ∷ xs) i d .key ≡ k → ⊥
-    other zero d l f = eqb-false (x .key) k e f
-    other (suc i) d l f = h i d (omega arith) f
-best-other k x xs (Shows w) e h = (h .0, other)
-  where
-    other : (i : ℕ) (d : Mark) → i < suc (length xs) → getD (x ∷ xs) i d .key ≡ k → later w (getD (x ∷ xs) i d) ≡ false
-    other zero d l f = absurd (eqb-false (x .key) k e f)
-    other (suc i) d l f = h .1 i d (omega arith) f
-
-best-two : (b : Bool) (k : ℕ) (x y : Mark) (xs : List Mark) → x .key ≡ k → later x y ≡ b → Best k xs (Shows y) → Best k (x ∷ xs) (cond b (Shows y) (Shows x))
-unfolding Best
-best-two true k x y xs e f h = (h .0, behind)
-  where
-    xy : x .key ≡ y .key
-    xy = e ∙ sym (h .0)
-
-    behind : (i : ℕ) (d : Mark) → i < suc (length xs) → getD (x ∷ xs) i d .key ≡ k → later y (getD (x ∷ xs) i d) ≡ false
-    behind zero d l g = later-is y x (sym xy) ∙ ap isBefore (less-flip (idOf x) (idOf y) (is-before-of (stands (idOf x) (idOf y)) (sym (later-is x y xy) ∙ f)))
-    behind (suc i) d l g = h .1 i d (omega arith) g
-best-two false k x y xs e f h = (e, behind)
-  where
-    xy : x .key ≡ y .key
-    xy = e ∙ sym (h .0)
-
-    behind : (i : ℕ) (d : Mark) → i < suc (length xs) → getD (x ∷ xs) i d .key ≡ k → later x (getD (x ∷ xs) i d) ≡ false
-    behind zero d l g = not-self x
-    behind (suc i) d l g =
-        let z : Mark = getD xs i d in
-        later-is x z (e ∙ sym g)
-        ∙ not-less (stands (idOf x) (idOf y)) (stands (idOf x) (idOf z)) (idOf x) (idOf y) (idOf z) refl refl
-        (sym (later-is x y xy) ∙ f)
-        (sym (later-is y z (h .0 ∙ sym g)) ∙ h .1 i d (omega arith) g)
+best-other k x xs Nothing e h = each-cons (λ m. m .key ≡ k → ⊥) x xs (eqb-false (x .key) k e) h
+best-other k x xs (Shows w) e h = (h .0, each-cons (λ m. m .key ≡ k → later w m ≡ false) x xs (λ f. absurd (eqb-false (x .key) k e f)) (h .1))
 
 best-key : (k : ℕ) (x : Mark) (xs : List Mark) (v : Winner) → x .key ≡ k → Best k xs v → Best k (x ∷ xs) (better x v)
 unfolding Best
-best-key k x xs Nothing e h = (e, alone)
-  where
-    alone : (i : ℕ) (d : Mark) → i < suc (length xs) → getD (x ∷ xs) i d .key ≡ k → later x (getD (x ∷ xs) i d) ≡ false
-    alone zero d l g = not-self x
-    alone (suc i) d l g = absurd (h i d (omega arith) g)
-best-key k x xs (Shows y) e h = best-two (later x y) k x y xs e refl h
-
-best-step : (a : Bool) (k : ℕ) (x : Mark) (xs : List Mark) (v : Winner) → eqb (x .key) k ≡ a → Best k xs v → Best k (x ∷ xs) (cond a (better x v) v)
-best-step true k x xs v e h = best-key k x xs v (eqb-true (x .key) k e) h
-best-step false k x xs v e h = best-other k x xs v e h
+best-key k x xs Nothing e h = (e, each-cons (λ m. m .key ≡ k → later x m ≡ false) x xs (λ g. not-self x) (λ i d l g. absurd (h i d l g)))
+best-key k x xs (Shows y) e h =
+    let xy : x .key ≡ y .key = e ∙ sym (h .0) in
+    cond-cases (Best k (x ∷ xs)) (later x y)
+    (λ f. (
+      h .0,
+      each-cons (λ m. m .key ≡ k → later y m ≡ false) x xs
+          (λ g. later-of y x (sym xy) ∙ ap isBefore (less-flip (idOf x) (idOf y) (is-before-of (stands (idOf x) (idOf y)) (sym (later-of x y xy) ∙ f))))
+          (h .1),
+    ))
+    (λ f. (
+      e,
+      each-cons (λ m. m .key ≡ k → later x m ≡ false) x xs (λ g. not-self x)
+          (λ i d l g.
+          let z : Mark = getD xs i d in
+          later-of x z (e ∙ sym g)
+          ∙ not-less (stands (idOf x) (idOf y)) (stands (idOf x) (idOf z)) (idOf x) (idOf y) (idOf z) refl refl
+          (sym (later-of x y xy) ∙ f)
+          (sym (later-of y z (h .0 ∙ sym g)) ∙ h .1 i d l g)),
+    ))
 
 -- the winner is the best
 pub winner-best : (k : ℕ) (l : List Mark) → Best k l (winner k l)
 unfolding Best winner
 winner-best k [] = λ i d h e. absurd (omega arith)
-winner-best k (x ∷ xs) = best-step (eqb (x .key) k) k x xs (winner k xs) refl (winner-best k xs)
+winner-best k (x ∷ xs) =
+    let h = winner-best k xs in
+    cond-cases (Best k (x ∷ xs)) (eqb (x .key) k) (λ e. best-key k x xs (winner k xs) (eqb-true (x .key) k e) h) (λ e. best-other k x xs (winner k xs) e h)

@@ -1,5 +1,5 @@
 -- Two laws as a tank uses them: when two marks are one, and an identity that the table has not is in no set.
-use Prim.Native.Nat.{ℕ, zero, suc, _/_, _%_}
+use Prim.Native.Nat.{ℕ, _/_, _%_}
 use mathlib.Core.Path.{_≡_, refl}
 use mathlib.Core.Bool.{Bool, true, false, _||_}
 use mathlib.Core.List.{List, [], _∷_}
@@ -7,7 +7,8 @@ use Rattle.styles.specs.declared.Identity.{Identity}
 use Rattle.styles.specs.declared.Mark.{Mark}
 use Rattle.styles.specs.Order.{idOf, sameId}
 use Rattle.styles.specs.Marks.{member}
-use Rattle.styles.specs.Bits.{keepBit, pick}
+use Rattle.styles.specs.Bits.{pick}
+use Rattle.styles.proofs.PickLaws.{keep-by}
 
 -- two marks of one identity and one content are one
 pub mark-eq : (a b : Mark) → idOf a ≡ idOf b → a .flags ≡ b .flags → a .value ≡ b .value → a ≡ b
@@ -19,14 +20,10 @@ split-member : (a b : Bool) → (a || b) ≡ false → (a ≡ false) × (b ≡ f
 split-member true b e = (cc, cc)
 split-member false b e = (refl, e)
 
-absent-keep : (b : ℕ) (i : Identity) (m : Mark) (ms : List Mark) → sameId i (idOf m) ≡ false → member i ms ≡ false → member i (keepBit b m ms) ≡ false
-unfolding member
-absent-keep zero i m ms h k = k
-absent-keep (suc b) i m ms h k = rw h k
-
 pub absent-pick : (i : Identity) (t : List Mark) (s : ℕ) → member i t ≡ false → member i (pick t s) ≡ false
 unfolding member pick
 absent-pick i [] s h = refl
 absent-pick i (m ∷ ms) s h =
     let p = split-member (sameId i (idOf m)) (member i ms) h in
-    absent-keep (s % 2) i m (pick ms (s / 2)) (p .0) (absent-pick i ms (s / 2) (p .1))
+    let k = absent-pick i ms (s / 2) (p .1) in
+    keep-by (λ l. member i l ≡ false) (s % 2) k (rw (p .0) k)

@@ -1,9 +1,10 @@
 -- The sorted table: where an identity stands, and a mark put in at its place.
 use Prim.Native.Nat.{ℕ, zero, suc, _+_, _-_, _≤_, _<_}
-use mathlib.Core.Path.{_≡_, refl, sym, ap, ap₂, _∙_, subst}
+use mathlib.Core.Path.{_≡_, refl, sym, ap, ap₂, _∙_}
 use mathlib.Core.Bool.{true, false, cond, _&&_, _||_, true≢false, and-false}
 use mathlib.Core.List.{List, [], _∷_, _++_}
 use native.Mathlib.Omega.{arith}
+use native.Mathlib.Nat.{suc-add}
 use native.Mathlib.Numerals.{add-one}
 use lib.Dec.{ltb, leb, leb·suc-suc}
 use borrow.Author.Tests.{lt-ltb, le-ltb, le-leb, lt-leb}
@@ -15,7 +16,7 @@ use Rattle.styles.specs.declared.Stand.{Stand}
 use Rattle.styles.specs.declared.Stand.the-variants.{Before, Same, After}
 use Rattle.styles.specs.Order.{stands, idOf, isBefore, less, sameId}
 use Rattle.styles.specs.Marks.{Above, Sorted, member, insertAt, removeAt, placeOf, tableWith, tableWithout, blank}
-use Rattle.styles.proofs.OrderLaws.{less-flip, more-flip, same-eq, same-self}
+use Rattle.styles.proofs.OrderLaws.{less-flip, more-flip, same-flip}
 use Rattle.styles.proofs.PickLaws.{not-member, above-trans}
 
 -- ---- where an identity stands
@@ -40,9 +41,6 @@ place-here j t n i d h k e =
 pub place-end : (j : Identity) (t : List Mark) (n : ℕ) → placeOf j (drop n (take n t)) ≡ 0
 unfolding placeOf
 place-end j t n = rw (drop-of-length-le (take n t) {i = n} (omega (arith, length-take n t)))
-
-pub same-flip : (a b : Identity) → stands a b ≡ Same → stands b a ≡ Same
-same-flip a b e = subst (λ (x : Identity). stands b x ≡ Same) (sym (same-eq a b e)) (same-self b)
 
 place-cases : (s : Stand) (n : ℕ) (P : ℕ → Type 0) → (s ≡ Before → P (suc n)) → (s ≡ Same → P 0) → (s ≡ After → P 0) → P (cond (isBefore s) (suc n) 0)
 place-cases Before n P a b c = a refl
@@ -100,14 +98,11 @@ sorted-put m (x ∷ xs) h e =
     (λ b. let k = more-flip (idOf x) (idOf m) b in ((k, above-trans (idOf m) (idOf x) xs k (h .0)), h))
 
 -- a turn of the loop: the mark at hand goes in at k, and the one that stood there is at hand
-put-on : (t : List Mark) (k : ℕ) (m d : Mark) → k < length t → insertAt (suc k) (getD t k d) (set t k m) ≡ insertAt k m t
-unfolding insertAt
-put-on [] k m d h = absurd (omega arith)
-put-on (x ∷ xs) zero m d h = refl
-put-on (x ∷ xs) (suc k) m d h = ap (_∷_ x) (put-on xs k m d (omega arith))
-
 pub put-turn : (t : List Mark) (k : ℕ) (m d : Mark) → k < length t → insertAt (k + 1) (getD t k d) (set t k m) ≡ insertAt k m t
-put-turn t k m d h = rw (add-one k) (put-on t k m d h)
+unfolding insertAt
+put-turn [] k m d h = absurd (omega arith)
+put-turn (x ∷ xs) zero m d h = refl
+put-turn (x ∷ xs) (suc k) m d h = rw (suc-add k 1) (ap (_∷_ x) (put-turn xs k m d (omega arith)))
 
 put-take : (t : List Mark) (n i : ℕ) (m : Mark) → i ≤ n → n ≤ length t → take (suc n) (insertAt i m t) ≡ insertAt i m (take n t)
 unfolding insertAt
@@ -174,15 +169,12 @@ module _ (n i : ℕ) (m : Mark) (t : List Mark) (low : i ≤ n) (room : n < 64) 
 
 -- ---- a mark taken out
 -- a turn of the loop: the mark after place k moves down, and its own place is now the one to take out
-out-turn : (t : List Mark) (k : ℕ) (d : Mark) → suc k < length t → removeAt (suc k) (set t k (getD t (suc k) d)) ≡ removeAt k t
+pub out-turn : (t : List Mark) (k : ℕ) (d : Mark) → k + 1 < length t → removeAt (k + 1) (set t k (getD t (k + 1) d)) ≡ removeAt k t
 unfolding removeAt
 out-turn [] k d h = absurd (omega arith)
 out-turn (x ∷ []) zero d h = absurd (omega arith)
 out-turn (x ∷ y ∷ ys) zero d h = refl
-out-turn (x ∷ xs) (suc k) d h = ap (_∷_ x) (out-turn xs k d (omega arith))
-
-pub out-on : (t : List Mark) (k : ℕ) (d : Mark) → k + 1 < length t → removeAt (k + 1) (set t k (getD t (k + 1) d)) ≡ removeAt k t
-out-on t k d h = rw (add-one k) (out-turn t k d (omega arith))
+out-turn (x ∷ xs) (suc k) d h = rw (suc-add k 1) (ap (_∷_ x) (out-turn xs k d (omega arith)))
 
 out-front : (t : List Mark) (p : ℕ) → take p (removeAt p t) ≡ take p t
 unfolding removeAt

@@ -1,7 +1,7 @@
--- Each function of this crate has one answer: any two results that meet its statement are equal.
--- Where the statement is an equation `r ≡ ..` that is `one-answer`; the functions that say it otherwise follow it.
+-- Each public function of this crate has one answer: any two results that meet its statement are equal.
+-- Where the statement is an equation `r ≡ ..` that is the library's `_∙⁻¹_`; the functions that say it otherwise follow it.
 use Prim.Native.Nat.{ℕ}
-use mathlib.Core.Path.{_≡_, refl, sym, ap, _∙_}
+use mathlib.Core.Path.{_≡_, refl, sym, ap, _∙_, _∙⁻¹_}
 use mathlib.Core.Bool.{Bool}
 use mathlib.Core.List.{List}
 use native.Mathlib.Omega.{arith}
@@ -18,15 +18,12 @@ use Rattle.styles.proofs.Built.{maskOf}
 use Rattle.styles.proofs.Digits.{below-pow, same-bits}
 use Rattle.styles.proofs.MaskLaws.{mask-is}
 
-pub one-answer : {A : Type 0} {r s x : A} → r ≡ x → s ≡ x → r ≡ s
-one-answer e f = e ∙ sym f
-
 -- `nth_bit`
 pub one-nth-bit : (set j r s : ℕ) → NthBit set j r → NthBit set j s → r ≡ s
 one-nth-bit set j r s h k =
     elim (decLt j (ones set)) [
       | yes e ↦ one-place set j r s (h .found e) (k .found e)
-      | no e ↦ one-answer (h .past (omega arith)) (k .past (omega arith))
+      | no e ↦ h .past (omega arith) ∙⁻¹ k .past (omega arith)
     ]
 
 -- `ranked_bit`

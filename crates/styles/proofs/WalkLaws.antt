@@ -15,11 +15,11 @@ use Rattle.styles.specs.declared.Mark.{Mark}
 use Rattle.styles.specs.declared.Stand.the-variants.{Before}
 use Rattle.styles.specs.declared.Winner.{Winner}
 use Rattle.styles.specs.declared.Winner.the-variants.{Nothing, Shows}
-use Rattle.styles.specs.Order.{stands, idOf, isBefore}
+use Rattle.styles.specs.Order.{stands, idOf, less}
 use Rattle.styles.specs.Marks.{Above, Sorted, later, better, winner, blank}
 use Rattle.styles.specs.Bits.{keepBit, pick, hasBit}
 use Rattle.styles.proofs.OrderLaws.{num-same}
-use Rattle.styles.proofs.PickLaws.{above-pick}
+use Rattle.styles.proofs.PickLaws.{keep-by, above-pick}
 use Rattle.styles.proofs.BitLaws.{half-shr}
 use Rattle.styles.proofs.CountLaws.{length-keep}
 
@@ -61,14 +61,15 @@ keep-turn p m w e h =
     rw f (set-at p blank (replicate (64 - (w + 1)) blank) m w (sym e) ∙ sym (append-assoc p (m ∷ []) (replicate (64 - (w + 1)) blank)))
 
 -- ---- the winner is the last mark with the key
-pub later-of : (x m : Mark) → stands (idOf x) (idOf m) ≡ Before → x .key ≡ m .key → later x m ≡ true
+-- for marks of one key, later is the order of identities
+pub later-of : (a b : Mark) → a .key ≡ b .key → later a b ≡ less (idOf a) (idOf b)
 unfolding stands
-later-of x m h e = ap isBefore (rw (num-same (x .key) (m .key) e) at h)
+later-of a b e = rw (num-same (a .key) (b .key) e)
 
 winner-step : (k : ℕ) (x m : Mark) (w : Winner) (a b : Bool) → eqb (x .key) k ≡ a → eqb (m .key) k ≡ b → stands (idOf x) (idOf m) ≡ Before
     → cond a (better x (cond b (Shows m) w)) (cond b (Shows m) w) ≡ cond b (Shows m) (cond a (better x w) w)
 winner-step k x m w true true e f h =
-    rw (later-of x m h (omega (arith, eqb-true (x .key) k e, eqb-true (m .key) k f)))
+    rw (later-of x m (omega (arith, eqb-true (x .key) k e, eqb-true (m .key) k f)), h)
 winner-step k x m w true false e f h = refl
 winner-step k x m w false true e f h = refl
 winner-step k x m w false false e f h = refl
@@ -85,15 +86,10 @@ winner-last k (x ∷ xs) m h =
     ap (λ (w : Winner). cond (eqb (x .key) k) (better x w) w) (winner-last k xs m (h .1))
     ∙ winner-step k x m (winner k xs) (eqb (x .key) k) (eqb (m .key) k) refl refl (above-last (idOf x) xs m (h .0))
 
-sorted-keep : (b : ℕ) (m : Mark) (ms : List Mark) → Above (idOf m) ms → Sorted ms → Sorted (keepBit b m ms)
-unfolding Sorted
-sorted-keep zero m ms h k = k
-sorted-keep (suc b) m ms h k = (h, k)
-
 pub sorted-pick : (t : List Mark) (s : ℕ) → Sorted t → Sorted (pick t s)
 unfolding Sorted pick
 sorted-pick [] s h = tt
-sorted-pick (m ∷ ms) s h = sorted-keep (s % 2) m (pick ms (s / 2)) (above-pick (idOf m) ms (s / 2) (h .0)) (sorted-pick ms (s / 2) (h .1))
+sorted-pick (m ∷ ms) s h = let k = sorted-pick ms (s / 2) (h .1) in keep-by Sorted (s % 2) k (above-pick (idOf m) ms (s / 2) (h .0), k)
 
 above-take : (j : Identity) (n : ℕ) (t : List Mark) → Above j t → Above j (take n t)
 unfolding Above

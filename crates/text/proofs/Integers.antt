@@ -18,6 +18,7 @@ use Rattle.text.specs.declared.Signed.{Signed}
 use Rattle.text.specs.declared.Size.{Size}
 use Rattle.text.specs.Number.{decimalOf, decimalText, put}
 use Rattle.text.specs.Signed.{plusOf, minusOf, signedOf, signedText, sizeOf}
+use Rattle.text.proofs.Cases.{cond-cases}
 use Rattle.text.proofs.Laws.{decimal-back, decimal-only, first-glyph}
 
 pub empty : (t : List ℕ) → length t < 1 → Signed.Bad ≡ signedOf t
@@ -49,21 +50,18 @@ minus-of (Parsed.Number n) z e = let o = go (ltb n 1) (ltb (2 ^ 63) n) e in (n, 
     go false true e = let y : _≡_ {A = ℕ} 0 1 = cc in absurd (omega arith)
     go true u e = let y : _≡_ {A = ℕ} 0 1 = cc in absurd (omega arith)
 
-by-sign : (t : Bool) (a b : Signed) (z : ℤ) (P : Type 0) → cond t a b ≡ Signed.Number z → (t ≡ true → a ≡ Signed.Number z → P) → (t ≡ false → b ≡ Signed.Number z → P) → P
-by-sign true a b z P e f g = f refl e
-by-sign false a b z P e f g = g refl e
-
 -- what is accepted is the text of its answer
 pub integer-only : (t : List ℕ) (z : ℤ) → signedOf t ≡ Signed.Number z → t ≡ signedText z
 unfolding signedOf signedText
 integer-only [] z e = let y : _≡_ {A = ℕ} 0 1 = cc (empty [] (omega arith)) in absurd (omega arith)
 integer-only (c ∷ t) z e =
-    by-sign (eqb c 45) (minusOf (decimalOf t)) (plusOf (decimalOf (c ∷ t))) z (c ∷ t ≡ signedText z) e
+    cond-cases (λ s. s ≡ Signed.Number z → c ∷ t ≡ signedText z) (eqb c 45)
     (λ h f.
     let m = minus-of (decimalOf t) z f in
     let k : suc (m .0 - 1) ≡ m .0 = omega (arith, m .3) in
     ap (λ (x : ℕ). x ∷ t) (eqb-true c 45 h) ∙ ap (λ (l : List ℕ). 45 ∷ l) (decimal-only t (m .0) (m .1) ∙ ap decimalText (sym k)) ∙ ap signedText (sym (m .2)))
     (λ h f. let m = plus-of (decimalOf (c ∷ t)) z f in decimal-only (c ∷ t) (m .0) (m .1) ∙ ap signedText (sym (m .2)))
+    e
 
 -- the text of each number of 64 bits is accepted
 pub integer-back : (z : ℤ) → SFits w64 z → signedOf (signedText z) ≡ Signed.Number z

@@ -1,6 +1,6 @@
 -- The parsers are exact: a text is accepted where it is the text of a number below 2^64, and the answer is that number. So what is accepted is what is printed (`same-text`).
 use mathlib.Core.Path.{_≡_, refl, sym, ap, _∙_, subst}
-use mathlib.Core.Bool.{Bool, true, false, cond, _&&_, false≢true}
+use mathlib.Core.Bool.{Bool, true, false, cond, and-eq-true-iff, false≢true}
 use mathlib.Core.List.{List, [], _∷_, _++_}
 use Prim.Native.Nat.{ℕ, zero, suc, _+_, _-_, _*_, _/_, _%_, _^_, _≤_, _<_}
 use native.Mathlib.Nat.{div-div-eq-div-mul, div-one, div-eq-of-lt, div-le-self, div-add-mod', mod-eq-of-lt, mod-lt, pow-zero, pow-suc, pow-succ', pow-le-pow-right, one-le-pow, le-div-iff-mul-le, div-lt-iff-lt-mul, one-mul}
@@ -13,8 +13,8 @@ use lib.ListN.{length, getD, length-append}
 use borrow.Author.Tests.{lt-ltb, le-ltb, eq-eqb, ne-eqb, ltb-true, eqb-true, eqb-false}
 use Rattle.io.specs.Digits.{glyph, digits, Fewest}
 use Rattle.text.specs.declared.Parsed.{Parsed}
-use Rattle.text.specs.Number.{digitOf, numberIn, decimalOf, hexOf, Text, placesFrom, decimalText, hexText}
-use Rattle.text.proofs.Steps.{stepOf, followedBy, numberFrom, digit-low, digit-high, glyph-low, glyph-high, good, push-number, number-from}
+use Rattle.text.specs.Number.{digitOf, isDigit, fitting, numberIn, decimalOf, hexOf, Text, placesFrom, decimalText, hexText}
+use Rattle.text.proofs.Steps.{stepOf, followedBy, numberFrom, digit-low, digit-high, glyph-low, glyph-high, good, push, number-from}
 
 all-of : (b n : ℕ) → n / b ^ 0 ≡ n
 all-of b n = ap (λ (m : ℕ). n / m) (pow-zero b) ∙ div-one n
@@ -39,12 +39,10 @@ pub record Opened (b v c n : ℕ) (cs : List ℕ) : Type 0 where
   pub fits : v * b + digitOf c < 2 ^ 64
   pub rest : numberFrom b (v * b + digitOf c) cs ≡ Parsed.Number n
 
--- a step that is good passed its three tests
-stepped : (t u w : Bool) (n x : ℕ) → cond (t && u) (cond w (Parsed.Number n) Parsed.Bad) Parsed.Bad ≡ Parsed.Number x → (t ≡ true) × (u ≡ true) × (w ≡ true) × (x ≡ n)
-stepped true true true n x e = (refl, refl, refl, (cc))
-stepped true true false n x e = let z : _≡_ {A = ℕ} 0 1 = cc in absurd (omega arith)
-stepped true false w n x e = let z : _≡_ {A = ℕ} 0 1 = cc in absurd (omega arith)
-stepped false u w n x e = let z : _≡_ {A = ℕ} 0 1 = cc in absurd (omega arith)
+-- what is good behind a test passed it
+pub passed : (t : Bool) (n : ℕ) (p : Parsed) → cond t p Parsed.Bad ≡ Parsed.Number n → (t ≡ true) × (p ≡ Parsed.Number n)
+passed true n p e = (refl, e)
+passed false n p e = let z : _≡_ {A = ℕ} 0 1 = cc in absurd (omega arith)
 
 -- what is good behind a number follows a number
 followed : (p : Parsed) (more : ℕ → Parsed) (n : ℕ) → followedBy p more ≡ Parsed.Number n → (x : ℕ) × (p ≡ Parsed.Number x) × (more x ≡ Parsed.Number n)
@@ -55,11 +53,13 @@ opens : (b v c n : ℕ) (cs : List ℕ) → numberFrom b v (c ∷ cs) ≡ Parsed
 unfolding numberFrom
 opens b v c n cs e =
     let f = followed (stepOf b v c) (λ (w : ℕ). numberFrom b w cs) n e in
-    let o = stepped (ltb (digitOf c) b) (eqb (glyph (digitOf c)) c) (ltb (v * b + digitOf c) (2 ^ 64)) (v * b + digitOf c) (f .0) (f .1) in
-    record { small = ltb-true _ _ (o .0); is-glyph = eqb-true _ _ (o .1); fits = ltb-true _ _ (o .2); rest = ap (λ (w : ℕ). numberFrom b w cs) (sym (o .3)) ∙ f .2 }
+    let o = passed (isDigit b c) (f .0) (fitting (v * b + digitOf c)) (f .1) in
+    let d = and-eq-true-iff (ltb (digitOf c) b) (eqb (glyph (digitOf c)) c) .0 (o .0) in
+    let q = passed (ltb (v * b + digitOf c) (2 ^ 64)) (f .0) (Parsed.Number (v * b + digitOf c)) (o .1) in
+    record { small = ltb-true _ _ (d .0); is-glyph = eqb-true _ _ (d .1); fits = ltb-true _ _ (q .0); rest = ap (λ (p : Parsed). followedBy p (λ (w : ℕ). numberFrom b w cs)) (q .1) ∙ f .2 }
 
 shuts : (b v c n : ℕ) (cs : List ℕ) → Opened b v c n cs → numberFrom b v (c ∷ cs) ≡ Parsed.Number n
-shuts b v c n cs o = push-number b v c (v * b + digitOf c) cs (sym (good b v c (digitOf c) refl (o .small) (o .is-glyph) (o .fits))) ∙ o .rest
+shuts b v c n cs o = push b v c cs (Parsed.Number (v * b + digitOf c)) (sym (good b v c (digitOf c) refl (o .small) (o .is-glyph) (o .fits))) ∙ o .rest
 
 -- the answer's last digits are the text, and what is in front of them is v
 pub record Read (b v n : ℕ) (cs : List ℕ) : Type 0 where
@@ -105,6 +105,10 @@ module _ (b : ℕ) (one : 1 ≤ b) (few : b ≤ 16) where
         rest = accepts cs (v * b + digitOf c) n (record { below = r .below; front = sym sum; back = tail });
       })
 
+  -- the text of a number below 2^64 spells it
+  text-number : (least n : ℕ) (t : List ℕ) → Text b least t n → n < 2 ^ 64 → numberIn b t ≡ Parsed.Number n
+  text-number least n t x h = sym (number-from b one t) ∙ accepts t 0 n (record { below = h; front = div-eq-of-lt (x .fewest .1); back = x .spelled })
+
 -- n < b ^ k is that nothing is in front of its last k digits
 none-front : (b n k : ℕ) → 1 ≤ b → n / b ^ k ≡ 0 → n < b ^ k
 none-front b n k one e = omega (arith, div-lt-iff-lt-mul {k = b ^ k} {x = n} {y = 1} (one-le-pow k b one) .0 (omega arith), one-mul (b ^ k))
@@ -118,6 +122,14 @@ pos-first b n k one h = omega (arith, one-mul (b ^ k), le-div-iff-mul-le {k = b 
 
 first-small : (b n k : ℕ) → 1 ≤ b → n < b ^ suc k → n / b ^ k < b
 first-small b n k one h = div-lt-iff-lt-mul {k = b ^ k} {x = n} {y = b} (one-le-pow k b one) .1 (omega (arith, pow-succ' b k))
+
+-- the fewest digits are no more than hold the number
+few-digits : (b least n m k : ℕ) → 1 ≤ b → least ≤ m → n < b ^ m → Fewest b least n k → k ≤ m
+few-digits b least n m k one low h x =
+    elim (decLt m k) [
+      | yes l ↦ absurd (omega (arith, pow-le-pow-right {n = b} one {i = m} {j = k - 1} (omega arith), x .2 (omega arith)))
+      | no l ↦ omega arith
+    ]
 
 -- ---- decimals
 -- what `decimalOf` asks of its text besides the digits
@@ -159,7 +171,7 @@ pub decimal-accepts : (t : List ℕ) (n : ℕ) → Text 10 1 t n → n < 2 ^ 64 
 unfolding decimalOf
 decimal-accepts [] n x h = absurd (omega (arith, x .fewest .0))
 decimal-accepts (c ∷ cs) n x h =
-    let p : numberIn 10 (c ∷ cs) ≡ Parsed.Number n = sym (number-from 10 (omega arith) (c ∷ cs)) ∙ accepts 10 (omega arith) (omega arith) (c ∷ cs) 0 n (record { below = h; front = div-eq-of-lt (x .fewest .1); back = x .spelled }) in
+    let p = text-number 10 (omega arith) (omega arith) 1 n (c ∷ cs) x h in
     elim (decLt 1 (suc (length cs))) [
       | yes k ↦
           let q : ℕ = n / 10 ^ length cs in
@@ -173,11 +185,6 @@ decimal-accepts (c ∷ cs) n x h =
     ]
 
 -- ---- sixteen hexadecimal digits
--- what is good behind a test passed it
-pub passed : (t : Bool) (n : ℕ) (p : Parsed) → cond t p Parsed.Bad ≡ Parsed.Number n → (t ≡ true) × (p ≡ Parsed.Number n)
-passed true n p e = (refl, e)
-passed false n p e = let z : _≡_ {A = ℕ} 0 1 = cc in absurd (omega arith)
-
 pub hex-reads : (t : List ℕ) (n : ℕ) → hexOf t ≡ Parsed.Number n → Text 16 16 t n × (n < 2 ^ 64)
 unfolding hexOf
 hex-reads t n e =
@@ -189,38 +196,28 @@ hex-reads t n e =
 pub hex-accepts : (t : List ℕ) (n : ℕ) → Text 16 16 t n → n < 2 ^ 64 → hexOf t ≡ Parsed.Number n
 unfolding hexOf
 hex-accepts t n x h =
-    let p : numberIn 16 t ≡ Parsed.Number n = sym (number-from 16 (omega arith) t) ∙ accepts 16 (omega arith) (omega arith) t 0 n (record { below = h; front = div-eq-of-lt (x .fewest .1); back = x .spelled }) in
-    elim (decLt 16 (length t)) [
-      | yes k ↦
-          let long : 16 ^ 16 ≤ 16 ^ (length t - 1) = pow-le-pow-right {n = 16} (omega arith) {i = 16} {j = length t - 1} (omega arith) in
-          let low : 16 ^ (length t - 1) ≤ n = x .fewest .2 k in
-          absurd (omega arith)
-      | no k ↦
-          let l : length t ≡ 16 = omega (arith, x .fewest .0) in
-          simp (eq-eqb (length t) 16 l) p
-    ]
+    let l : length t ≡ 16 = omega (arith, x .fewest .0, few-digits 16 16 n 16 (length t) (omega arith) (omega arith) (omega arith) (x .fewest)) in
+    simp (eq-eqb (length t) 16 l) (text-number 16 (omega arith) (omega arith) 16 n t x h)
 
 -- ---- a number has one text: what is accepted is what is printed
-length-once : (b least n k l : ℕ) → 2 ≤ b → Fewest b least n k → Fewest b least n l → l ≤ k
-length-once b least n k l two x y =
-    elim (decLt k l) [
-      | yes h ↦
-          let up : b ^ k ≤ b ^ (l - 1) = pow-le-pow-right {n = b} (omega arith) {i = k} {j = l - 1} (omega arith) in
-          let low : b ^ (l - 1) ≤ n = y .2 (omega (arith, x .0)) in
-          absurd (omega (arith, x .1))
-      | no h ↦ omega arith
-    ]
+digits-once : (b least n k l : ℕ) → 1 ≤ b → Fewest b least n k → Fewest b least n l → digits b k n ≡ digits b l n
+digits-once b least n k l one x y =
+    let up = few-digits b least n l k one (y .0) (y .1) x in
+    let down = few-digits b least n k l one (x .0) (x .1) y in
+    let e : k ≡ l = omega arith in
+    ap (λ (m : ℕ). digits b m n) e
 
-pub same-text : (b least n : ℕ) (s t : List ℕ) → 2 ≤ b → Text b least s n → Text b least t n → s ≡ t
-same-text b least n s t two x y =
-    let up : length s ≤ length t = length-once b least n (length t) (length s) two (y .fewest) (x .fewest) in
-    let down : length t ≤ length s = length-once b least n (length s) (length t) two (x .fewest) (y .fewest) in
-    let e : length s ≡ length t = omega arith in
-    x .spelled ∙ ap (λ (k : ℕ). digits b k n) e ∙ sym (y .spelled)
+pub same-text : (b least n : ℕ) (s t : List ℕ) → 1 ≤ b → Text b least s n → Text b least t n → s ≡ t
+same-text b least n s t one x y = x .spelled ∙ digits-once b least n (length s) (length t) one (x .fewest) (y .fewest) ∙ sym (y .spelled)
 
 pub length-digits : (b k n : ℕ) → length (digits b k n) ≡ k
 length-digits b zero n = refl
 length-digits b (suc k) n = simp length-append (omega (arith, length-digits b k (n / b)))
+
+digits-text : (b least n k : ℕ) → Fewest b least n k → Text b least (digits b k n) n
+digits-text b least n k x =
+    let l : k ≡ length (digits b k n) = sym (length-digits b k n) in
+    record { fewest = subst (λ (m : ℕ). Fewest b least n m) l x; spelled = ap (λ (m : ℕ). digits b m n) l }
 
 -- `placesFrom` is the fewest
 pub fewest-from : (f n : ℕ) → n < 10 ^ suc f → Fewest 10 1 n (placesFrom f n)
@@ -251,9 +248,7 @@ fewest-from (suc f) n h =
 
 pub decimal-text : (n : ℕ) → n < 2 ^ 64 → Text 10 1 (decimalText n) n
 unfolding decimalText
-decimal-text n h =
-    let l : length (digits 10 (placesFrom 19 n) n) ≡ placesFrom 19 n = length-digits 10 (placesFrom 19 n) n in
-    record { fewest = subst (λ (k : ℕ). Fewest 10 1 n k) (sym l) (fewest-from 19 n (omega arith)); spelled = ap (λ (k : ℕ). digits 10 k n) (sym l) }
+decimal-text n h = digits-text 10 1 n (placesFrom 19 n) (fewest-from 19 n (omega arith))
 
 -- parsing what is printed gives the number back, and what is accepted is what is printed of its number
 pub decimal-back : (n : ℕ) → n < 2 ^ 64 → decimalOf (decimalText n) ≡ Parsed.Number n
@@ -262,11 +257,12 @@ decimal-back n h = decimal-accepts (decimalText n) n (decimal-text n h) h
 pub decimal-only : (t : List ℕ) (n : ℕ) → decimalOf t ≡ Parsed.Number n → t ≡ decimalText n
 decimal-only t n e = let r = decimal-reads t n e in same-text 10 1 n t (decimalText n) (omega arith) (r .0) (decimal-text n (r .1))
 
+fewest-hex : (n : ℕ) → n < 2 ^ 64 → Fewest 16 16 n 16
+fewest-hex n h = (omega arith, omega arith, λ l. absurd (omega arith))
+
 pub hex-text : (n : ℕ) → n < 2 ^ 64 → Text 16 16 (hexText n) n
 unfolding hexText
-hex-text n h =
-    let l : length (digits 16 16 n) ≡ 16 = length-digits 16 16 n in
-    record { fewest = subst (λ (k : ℕ). Fewest 16 16 n k) (sym l) (omega arith, omega arith, λ i. absurd (omega arith)); spelled = ap (λ (k : ℕ). digits 16 k n) (sym l) }
+hex-text n h = digits-text 16 16 n 16 (fewest-hex n h)
 
 pub hex-back : (n : ℕ) → n < 2 ^ 64 → hexOf (hexText n) ≡ Parsed.Number n
 hex-back n h = hex-accepts (hexText n) n (hex-text n h) h
@@ -277,30 +273,14 @@ hex-only t n e = let r = hex-reads t n e in same-text 16 16 n t (hexText n) (ome
 -- what io's `decimal` and `hex` write is the text
 pub digits-decimal : (n k : ℕ) → n < 2 ^ 64 → Fewest 10 1 n k → digits 10 k n ≡ decimalText n
 unfolding decimalText
-digits-decimal n k h x =
-    let y = fewest-from 19 n (omega arith) in
-    let up : k ≤ placesFrom 19 n = length-once 10 1 n (placesFrom 19 n) k (omega arith) y x in
-    let down : placesFrom 19 n ≤ k = length-once 10 1 n k (placesFrom 19 n) (omega arith) x y in
-    let e : k ≡ placesFrom 19 n = omega arith in
-    ap (λ (m : ℕ). digits 10 m n) e
+digits-decimal n k h x = digits-once 10 1 n k (placesFrom 19 n) (omega arith) x (fewest-from 19 n (omega arith))
 
 pub length-decimal : (n : ℕ) → n < 2 ^ 64 → length (decimalText n) ≤ 20
-length-decimal n h =
-    let x = decimal-text n h .fewest in
-    elim (decLt 20 (length (decimalText n))) [
-      | yes k ↦
-          let up : 10 ^ 20 ≤ 10 ^ (length (decimalText n) - 1) = pow-le-pow-right {n = 10} (omega arith) {i = 20} {j = length (decimalText n) - 1} (omega arith) in
-          let low : 10 ^ (length (decimalText n) - 1) ≤ n = x .2 (omega arith) in
-          absurd (omega arith)
-      | no k ↦ omega arith
-    ]
+length-decimal n h = few-digits 10 1 n 20 (length (decimalText n)) (omega arith) (omega arith) (omega arith) (decimal-text n h .fewest)
 
 pub digits-hex : (n k : ℕ) → n < 2 ^ 64 → Fewest 16 16 n k → digits 16 k n ≡ hexText n
 unfolding hexText
-digits-hex n k h x =
-    let down : k ≤ 16 = length-once 16 16 n 16 k (omega arith) (omega arith, omega arith, λ l. absurd (omega arith)) x in
-    let e : k ≡ 16 = omega (arith, x .0) in
-    ap (λ (m : ℕ). digits 16 m n) e
+digits-hex n k h x = digits-once 16 16 n k 16 (omega arith) x (fewest-hex n h)
 
 pub length-hex : (n : ℕ) → length (hexText n) ≡ 16
 unfolding hexText

@@ -1,3 +1,4 @@
+pub mod Cases
 pub mod Steps
 pub mod Laws
 pub mod Finding

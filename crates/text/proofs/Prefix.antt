@@ -6,17 +6,15 @@ use Prim.Native.Nat.{ℕ, _+_, _-_, _≤_, _<_}
 use native.Mathlib.Numerals.{add-one}
 use native.Mathlib.Decide.{ℕ-discrete}
 use native.Mathlib.Omega.{arith}
-use lib.ListN.{length, take, drop, getD, length-take, length-drop, take-append-drop}
-use lib.Seq.{drop-cons, drop-length, take-all, take-append-seam}
+use lib.ListN.{length, take, drop, getD, length-take, length-drop, take-append-drop, drop-of-length-le}
+use lib.Seq.{drop-cons, take-all, take-append-seam}
 use borrow.Author.Tests.{eq-eqb, ne-eqb}
 use Rattle.text.specs.Bytes.{startsOf, sameOf}
 
 module _ (s p : List ℕ) (i : ℕ) (whole : Bool) (inv : startsOf (drop i s) (drop i p) ≡ whole) (h : i < length p) where
-  pub too-short : length s ≤ i → i ≤ length s → false ≡ whole
+  pub too-short : length s ≤ i → false ≡ whole
   unfolding startsOf
-  too-short l k =
-      let e : length s ≡ i = omega arith in
-      ap₂ startsOf (sym (drop-length s) ∙ ap (λ (j : ℕ). drop j s) e) (sym (drop-cons p i 0 h)) ∙ inv
+  too-short l = ap₂ startsOf (sym (drop-of-length-le s l)) (sym (drop-cons p i 0 h)) ∙ inv
 
   pub differs : i < length s → (getD s i 0 ≡ getD p i 0 → ⊥) → false ≡ whole
   unfolding startsOf
@@ -26,11 +24,9 @@ module _ (s p : List ℕ) (i : ℕ) (whole : Bool) (inv : startsOf (drop i s) (d
   unfolding startsOf
   agrees l e = rw (add-one i) (sym (simp (eq-eqb _ _ e)) ∙ ap₂ startsOf (sym (drop-cons s i 0 l)) (sym (drop-cons p i 0 h)) ∙ inv)
 
-pub all-there : (s p : List ℕ) (i : ℕ) (whole : Bool) → startsOf (drop i s) (drop i p) ≡ whole → length p ≤ i → i ≤ length p → true ≡ whole
+pub all-there : (s p : List ℕ) (i : ℕ) (whole : Bool) → startsOf (drop i s) (drop i p) ≡ whole → length p ≤ i → true ≡ whole
 unfolding startsOf
-all-there s p i whole inv l k =
-    let e : length p ≡ i = omega arith in
-    ap (startsOf (drop i s)) (sym (drop-length p) ∙ ap (λ (j : ℕ). drop j p) e) ∙ inv
+all-there s p i whole inv l = ap (startsOf (drop i s)) (sym (drop-of-length-le p l)) ∙ inv
 
 -- the answer is that the front of s is p
 pub starts-front : (s p : List ℕ) → startsOf s p ≡ true → take (length p) s ≡ p

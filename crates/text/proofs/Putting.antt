@@ -13,15 +13,15 @@ put-room d at s =
     omega (arith, length-append (take at d ++ s) (drop (at + length s) d), length-append (take at d) s, length-take at d, length-drop (at + length s) d)
 
 module _ (d : List ℕ) (at : ℕ) (s : List ℕ) (room : at + length s ≤ length d) where
-  length-front : length (take at d ++ s) ≡ at + length s
-  length-front = simp (length-append, length-take-le at d (omega arith))
+  length-written : length (take at d ++ s) ≡ at + length s
+  length-written = simp (length-append, length-take-le at d (omega arith))
 
   pub take-put : take (at + length s) (put d at s) ≡ take at d ++ s
-  take-put = take-at (take at d ++ s) (drop (at + length s) d) (at + length s) length-front
+  take-put = take-at (take at d ++ s) (drop (at + length s) d) (at + length s) length-written
 
   pub drop-put : (n : ℕ) → drop (at + length s + n) (put d at s) ≡ drop (at + length s + n) d
   drop-put n =
-      ap (λ (k : ℕ). drop (k + n) (put d at s)) (sym length-front) ∙ drop-append-add (take at d ++ s) (drop (at + length s) d) n ∙ lib.Seq.drop-drop n (at + length s) d
+      ap (λ (k : ℕ). drop (k + n) (put d at s)) (sym length-written) ∙ drop-append-add (take at d ++ s) (drop (at + length s) d) n ∙ lib.Seq.drop-drop n (at + length s) d
 
   pub put-put : (t : List ℕ) → put (put d at s) (at + length s) t ≡ put d at (s ++ t)
   put-put t =

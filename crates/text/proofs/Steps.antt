@@ -7,12 +7,13 @@ use native.Mathlib.Nat.{le-div-iff-mul-le, pow-zero, pow-succ', one-le-pow, zero
 use native.Mathlib.Decide.{decLt}
 use native.Mathlib.Omega.{arith}
 use native.Mathlib.Numerals.{add-one}
-use lib.ListN.{length, drop, getD}
-use lib.Seq.{drop-cons, drop-length}
+use lib.ListN.{length, drop, getD, drop-of-length-le}
+use lib.Seq.{drop-cons}
 use borrow.Author.Tests.{lt-ltb, le-ltb, eq-eqb, ne-eqb}
 use Rattle.io.specs.Digits.{glyph}
 use Rattle.text.specs.declared.Parsed.{Parsed}
 use Rattle.text.specs.Number.{digitOf, isDigit, allDigits, valueIn, fitting, numberIn}
+use Rattle.text.proofs.Cases.{cond-cases}
 
 -- one digit more behind the number v
 abbrev pub stepOf : ℕ → ℕ → ℕ → Parsed
@@ -65,27 +66,18 @@ module _ (b v c d : ℕ) (is-d : d ≡ digitOf c) where
   good h g w = simp (lt-ltb (digitOf c) b (omega arith), eq-eqb (glyph (digitOf c)) c g, lt-ltb (v * b + digitOf c) (2 ^ 64) w) (ap (λ (x : ℕ). Parsed.Number (v * b + x)) is-d)
 
 -- a step that is good goes on from its number, and a bad one ends the text
-pub push-number : (b v c x : ℕ) (cs : List ℕ) → stepOf b v c ≡ Parsed.Number x → numberFrom b v (c ∷ cs) ≡ numberFrom b x cs
+pub push : (b v c : ℕ) (cs : List ℕ) (p : Parsed) → stepOf b v c ≡ p → numberFrom b v (c ∷ cs) ≡ followedBy p (λ w. numberFrom b w cs)
 unfolding numberFrom
-push-number b v c x cs e = ap (λ (p : Parsed). followedBy p (λ (w : ℕ). numberFrom b w cs)) e
-
-pub push-bad : (b v c : ℕ) (cs : List ℕ) → stepOf b v c ≡ Parsed.Bad → numberFrom b v (c ∷ cs) ≡ Parsed.Bad
-unfolding numberFrom
-push-bad b v c cs e = ap (λ (p : Parsed). followedBy p (λ (w : ℕ). numberFrom b w cs)) e
+push b v c cs p e = ap (λ (q : Parsed). followedBy q (λ (w : ℕ). numberFrom b w cs)) e
 
 -- a turn of the loop
 module _ (b v i : ℕ) (s : List ℕ) (whole : Parsed) (h : i < length s) (inv : numberFrom b v (drop i s) ≡ whole) where
-  pub goes-on : (w : ℕ) → stepOf b v (getD s i 0) ≡ Parsed.Number w → numberFrom b w (drop (i + 1) s) ≡ whole
-  goes-on w e = ap (λ (k : ℕ). numberFrom b w (drop k s)) (add-one i) ∙ sym (push-number b v (getD s i 0) w (drop (suc i) s) e) ∙ ap (numberFrom b v) (sym (drop-cons s i 0 h)) ∙ inv
+  pub turn : (p : Parsed) → stepOf b v (getD s i 0) ≡ p → followedBy p (λ w. numberFrom b w (drop (i + 1) s)) ≡ whole
+  turn p e = rw (add-one i) (sym (push b v (getD s i 0) (drop (suc i) s) p e) ∙ ap (numberFrom b v) (sym (drop-cons s i 0 h)) ∙ inv)
 
-  pub stops : stepOf b v (getD s i 0) ≡ Parsed.Bad → Parsed.Bad ≡ whole
-  stops e = sym (push-bad b v (getD s i 0) (drop (suc i) s) e) ∙ ap (numberFrom b v) (sym (drop-cons s i 0 h)) ∙ inv
-
-pub ends : (b v i : ℕ) (s : List ℕ) (whole : Parsed) → length s ≤ i → i ≤ length s → numberFrom b v (drop i s) ≡ whole → Parsed.Number v ≡ whole
+pub ends : (b v i : ℕ) (s : List ℕ) (whole : Parsed) → length s ≤ i → numberFrom b v (drop i s) ≡ whole → Parsed.Number v ≡ whole
 unfolding numberFrom
-ends b v i s whole h l inv =
-    let e : length s ≡ i = omega arith in
-    ap (numberFrom b v) (sym (drop-length s)) ∙ ap (λ (k : ℕ). numberFrom b v (drop k s)) e ∙ inv
+ends b v i s whole h inv = ap (numberFrom b v) (sym (drop-of-length-le s h)) ∙ inv
 
 -- ---- the number that the loop reads is the one that the text spells
 digit-more : (b v d k r : ℕ) → (v * b + d) * b ^ k + r ≡ v * b ^ suc k + (d * b ^ k + r)
@@ -96,10 +88,6 @@ digit-more b v d k r =
 -- a number that left 64 bits stays out, whatever digits follow
 stays-out : (b v k r : ℕ) → 1 ≤ b → 2 ^ 64 ≤ v → 2 ^ 64 ≤ v * b ^ k + r
 stays-out b v k r one h = omega (arith, le-mul-of-pos-right {m = b ^ k} v (one-le-pow k b one))
-
-either-bad : (t : Bool) → cond t Parsed.Bad Parsed.Bad ≡ Parsed.Bad
-either-bad true = refl
-either-bad false = refl
 
 module _ (b : ℕ) (one : 1 ≤ b) where
   -- the digits of a text after the number v, by value
@@ -116,7 +104,7 @@ module _ (b : ℕ) (one : 1 ≤ b) where
       rw (← e)
       (elim (decLt w (2 ^ 64)) [
         | yes k ↦ rw (lt-ltb w (2 ^ 64) k) (more w k)
-        | no k ↦ rw (le-ltb w (2 ^ 64) (omega arith)) (rw (le-ltb (w * b ^ length cs + valueIn b cs) (2 ^ 64) (stays-out b w (length cs) (valueIn b cs) one (omega arith))) (sym (either-bad (allDigits b cs))))
+        | no k ↦ rw (le-ltb w (2 ^ 64) (omega arith)) (rw (le-ltb (w * b ^ length cs + valueIn b cs) (2 ^ 64) (stays-out b w (length cs) (valueIn b cs) one (omega arith))) (cond-cases (λ p. Parsed.Bad ≡ p) (allDigits b cs) (λ _. refl) (λ _. refl)))
       ])
 
   from-value : (t : List ℕ) (v : ℕ) → v < 2 ^ 64 → numberFrom b v t ≡ behind v t

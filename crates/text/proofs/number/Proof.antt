@@ -1,15 +1,16 @@
 -- `number` meets its contract. The loop's invariant: the bytes from i on, read after the number so far, give what the whole text does; that is the number by its value (`number-from`).
 use mathlib.Core.Path.{_≡_, sym, _∙_}
-use Prim.Native.Nat.{_-_, _≤_}
+use Prim.Native.Nat.{_-_}
 use native.Mathlib.Omega.{arith}
 use lib.ListN.{length, drop}
 use borrow.Author.Needs.{needs}
-use Rattle.text.proofs.Steps.{numberFrom, number-from, goes-on, stops, ends}
+use Rattle.text.specs.declared.Parsed.{Parsed}
+use Rattle.text.proofs.Steps.{numberFrom, number-from, turn, ends}
 use Rattle.text.proofs.number.Statement.{statement}
 use Rattle.text.proofs.number.Tie as tie
 
 abbrev Inv-loop : tie.InvT-loop
-Inv-loop base s v₀ i₀ v i = (i ≤ length s) × (numberFrom base v (drop i s) ≡ numberFrom base 0 s)
+Inv-loop base s v₀ i₀ v i = numberFrom base v (drop i s) ≡ numberFrom base 0 s
 
 abbrev μ-loop : tie.MeasureT-loop
 μ-loop base s v₀ i₀ v i = length s - i
@@ -33,7 +34,7 @@ returns : tie.Need-returns Inv-loop μ-loop
 returns c =
     let s = c .before .before in
     let l = s .before .before in
-    stops _ _ _ _ _ (l .loop-test .taken) (l .before .loop .inv .1) (sym (s .step .ensures) ∙ c .enum-told .given .1) ∙ number-from _ (l .before .before .before .pre) _
+    turn _ _ _ _ _ (l .loop-test .taken) (l .before .loop .inv) Parsed.Bad (sym (s .step .ensures) ∙ c .enum-told .given .1) ∙ number-from _ (l .before .before .before .pre) _
 
 add-i : tie.Need-add-i Inv-loop μ-loop
 add-i c = search needs
@@ -45,10 +46,10 @@ loop-again : tie.Need-loop-again Inv-loop μ-loop
 loop-again c =
     let s = c .before .before .before in
     let l = s .before .before in
-    (omega arith, goes-on _ _ _ _ _ (l .loop-test .taken) (l .before .loop .inv .1) _ (sym (s .step .ensures) ∙ c .before .w .given .1))
+    turn _ _ _ _ _ (l .loop-test .taken) (l .before .loop .inv) (Parsed.Number _) (sym (s .step .ensures) ∙ c .before .w .given .1)
 
 returns-2 : tie.Need-returns-2 Inv-loop μ-loop
-returns-2 c = ends _ _ _ _ _ (c .loop-test .left) (c .before .loop .inv .0) (c .before .loop .inv .1) ∙ number-from _ (c .before .before .before .pre) _
+returns-2 c = ends _ _ _ _ _ (c .loop-test .left) (c .before .loop .inv) ∙ number-from _ (c .before .before .before .pre) _
 
 pub number-spec : {M : Type 1} → statement M
 number-spec =

@@ -5,7 +5,7 @@ use native.Mathlib.Omega.{arith}
 use borrow.Author.Needs.{needs}
 use lib.ListN.{length, set, length-set}
 use Rattle.styles.specs.Marks.{removeAt}
-use Rattle.styles.proofs.TableLaws.{out-on, out-all, out-there, out-nowhere, out-large}
+use Rattle.styles.proofs.TableLaws.{out-turn, out-all, out-there, out-nowhere, out-large}
 use Rattle.styles.proofs.table.remove_mark.Statement.{statement}
 use Rattle.styles.proofs.table.remove_mark.Tie as tie
 
@@ -27,7 +27,7 @@ loop-holds c = (omega arith, c .before .before .good .0 .1 .0 .1, refl)
 loop-again : tie.Need-loop-again Inv-loop μ-loop
 loop-again c =
     let l = c .before .before .loop in
-    (omega arith, length-set (l .t) (l .k) _ ∙ l .inv .1, out-on (l .t) (l .k) _ (omega arith) ∙ l .inv .2)
+    (omega arith, length-set (l .t) (l .k) _ ∙ l .inv .1, out-turn (l .t) (l .k) _ (omega arith) ∙ l .inv .2)
 
 returns-3 : tie.Need-returns-3 Inv-loop μ-loop
 returns-3 c =

@@ -16,14 +16,14 @@ use Rattle.styles.proofs.table.styles_of.Statement.{statement}
 use Rattle.styles.proofs.table.styles_of.Tie as tie
 
 abbrev Inv-loop : tie.InvT-loop
-Inv-loop n set table marks₀ held s₀ w₀ marks s w =
+Inv-loop n whole table marks₀ held s₀ w₀ marks s w =
     (s < 2 ^ n)
     × (ones s + w ≡ held)
-    × (pick (take n table) s ≡ drop w (pick (take n table) set))
-    × (marks ≡ take w (pick (take n table) set) ++ replicate (64 - w) blank)
+    × (pick (take n table) s ≡ drop w (pick (take n table) whole))
+    × (marks ≡ take w (pick (take n table) whole) ++ replicate (64 - w) blank)
 
 abbrev μ-loop : tie.MeasureT-loop
-μ-loop n set table marks₀ held s₀ w₀ marks s w = held - w
+μ-loop n whole table marks₀ held s₀ w₀ marks s w = held - w
 
 loop-holds : tie.Need-loop-holds Inv-loop μ-loop
 loop-holds c = (omega arith, omega arith, refl, ap (replicate 64) (c .before .blank .ensures))
