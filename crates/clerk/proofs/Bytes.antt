@@ -79,10 +79,6 @@ over-heard x more e = ap₂ both (over-stays x more e) (silent-bytes x more e)
 abbrev led : Course → Event → State → Call → Course × Pieces
 led x v r c = both (onEvent v x r c) (saidOn v (x .house) r c)
 
--- by what a line makes of the call
-abbrev readLed : Course → Read → State → Course × Pieces
-readLed x q r = led x (eventOf (q .progress)) r (q .call)
-
 -- and then bytes
 abbrev heardOn : Course × Pieces → List ℕ → Course × Pieces
 heardOn p more = saidFirst (p .1) (heard (p .0) more)
@@ -90,6 +86,10 @@ heardOn p more = saidFirst (p .1) (heard (p .0) more)
 -- of a line
 abbrev lineLed : Course → List ℕ → Course × Pieces
 lineLed x line = both (afterLine x line) (saidLine x line)
+
+-- by what the line makes of the call, and the state after it
+abbrev readLed : Course → Read → State → Course × Pieces
+readLed x q r = led x (eventOf (q .progress)) r (q .call)
 
 module _ (x : Course) where
   -- of a byte

@@ -2,14 +2,14 @@
 use mathlib.Core.Path.{_≡_, refl, sym, ap, ap₂, _∙_}
 use mathlib.Core.Bool.{Bool, true, false, cond}
 use mathlib.Core.List.{List, [], _∷_, _++_, append-assoc, append-nil, flatten, foldl, foldl-append}
-use Prim.Native.Nat.{ℕ, _<_}
+use Prim.Native.Nat.{ℕ}
 use native.Mathlib.Omega.{arith}
 use lib.Dec.{eqb}
 use lib.ListN.{length}
 use borrow.Author.Tests.{ne-eqb}
 use Rattle.script.specs.Lines.{endingOf}
 use Rattle.answers.specs.Waiting.{Pieces, Waiting, with, withAll}
-use Rattle.clerk.specs.Course.{Course, onEvent, afterLine, afterByte, afterBytes, endedAs, atEnd, afterRead, written, turnOf, afterReads}
+use Rattle.clerk.specs.Course.{Course, onEvent, afterLine, afterByte, afterBytes, endedAs, atEnd, afterRead, written, writtenAfter, afterReads}
 use Rattle.clerk.specs.Course.{Whereabouts, whereOf, saidLine, saidByte, saidBy, saidBytes, saidEnding, saidAtEnd, saidRead, saidReads, NoneEmpty}
 use Rattle.clerk.proofs.Bytes.{cut-anywhere, over-stays, silent-bytes}
 
@@ -47,9 +47,9 @@ some-by a b input n = ap (λ (none : Bool). cond none a b) (ne-eqb (length input
 pub waits-read : (x : Course) (input : List ℕ) → afterRead x input .waits ≡ withAll (x .waits) (saidRead x input)
 waits-read x [] = waits-end x
 waits-read x (byte ∷ more) =
-    ap (λ (y : Course). y .waits) (some-by (atEnd x) (afterBytes x (byte ∷ more)) (byte ∷ more) λ e. omega arith)
+    ap (λ (y : Course). y .waits) (some-by _ _ (byte ∷ more) λ e. omega arith)
     ∙ waits-bytes x (byte ∷ more)
-    ∙ ap (withAll (x .waits)) (sym (some-by (saidAtEnd x) (saidBytes x (byte ∷ more)) (byte ∷ more) λ e. omega arith))
+    ∙ ap (withAll (x .waits)) (sym (some-by _ _ (byte ∷ more) λ e. omega arith))
 
 -- ---- What waits makes no difference
 -- a run at a place, with this output waiting
@@ -112,7 +112,7 @@ place-reads : (x : Course) (inputs : List (List ℕ)) → NoneEmpty inputs → w
 unfolding afterReads afterBytes flatten NoneEmpty
 place-reads x [] some = refl
 place-reads x (input ∷ inputs) some =
-    ap (λ (y : Course). whereOf (afterReads (written y) inputs)) (some-by (atEnd x) (afterBytes x input) input λ e. omega (arith, e, some .0))
+    ap (λ (y : Course). whereOf (afterReads (written y) inputs)) (some-by _ _ input λ e. omega (arith, e, some .0))
     ∙ place-reads (written (afterBytes x input)) inputs (some .1)
     ∙ place-bytes (flatten inputs) (written (afterBytes x input)) (afterBytes x input) refl
     ∙ ap whereOf (sym (cut-anywhere x input (flatten inputs)))
@@ -123,7 +123,7 @@ unfolding saidReads saidBytes afterBytes flatten NoneEmpty
 said-reads x [] some = refl
 said-reads x (input ∷ inputs) some =
     let n : length input ≡ 0 → ⊥ = λ e. omega (arith, e, some .0) in
-    ap₂ (λ (t : Pieces) (y : Course). t ++ saidReads (written y) inputs) (some-by (saidAtEnd x) (saidBytes x input) input n) (some-by (atEnd x) (afterBytes x input) input n)
+    ap₂ (λ (t : Pieces) (y : Course). t ++ saidReads (written y) inputs) (some-by _ _ input n) (some-by _ _ input n)
     ∙ ap (λ (t : Pieces). saidBytes x input ++ t) (said-reads (written (afterBytes x input)) inputs (some .1) ∙ said-bytes (flatten inputs) (written (afterBytes x input)) (afterBytes x input) refl)
     ∙ sym (said-append afterByte saidByte x input (flatten inputs))
 
@@ -146,8 +146,8 @@ pub cut-run : (x : Course) (inputs : List (List ℕ)) → NoneEmpty inputs → (
 unfolding afterReads saidReads
 cut-run x inputs some =
     let e = cut-reads x inputs some in (
-      ap whereOf (foldl-append turnOf x inputs ([] ∷ [])) ∙ last-place (afterReads x inputs) ∙ place-end (afterReads x inputs) (afterBytes x (flatten inputs)) (e .0),
-      said-append turnOf saidRead x inputs ([] ∷ []) ∙ ap₂ _++_ (e .1) (last-said (afterReads x inputs) ∙ said-end (afterReads x inputs) (afterBytes x (flatten inputs)) (e .0)),
+      ap whereOf (foldl-append writtenAfter x inputs ([] ∷ [])) ∙ last-place (afterReads x inputs) ∙ place-end (afterReads x inputs) (afterBytes x (flatten inputs)) (e .0),
+      said-append writtenAfter saidRead x inputs ([] ∷ []) ∙ ap₂ _++_ (e .1) (last-said (afterReads x inputs) ∙ said-end (afterReads x inputs) (afterBytes x (flatten inputs)) (e .0)),
     )
 
 -- ---- A run that is over
@@ -155,13 +155,13 @@ cut-run x inputs some =
 pub over-read : (x : Course) (input : List ℕ) → x .over ≡ true → afterRead x input ≡ x
 unfolding atEnd
 over-read x [] e = ap (λ (b : Bool). cond b x (endedAs (endingOf (x .reader)) x)) e
-over-read x (byte ∷ more) e = some-by (atEnd x) (afterBytes x (byte ∷ more)) (byte ∷ more) (λ n. omega arith) ∙ over-stays x (byte ∷ more) e
+over-read x (byte ∷ more) e = some-by _ _ (byte ∷ more) (λ n. omega arith) ∙ over-stays x (byte ∷ more) e
 
 -- a read says nothing
 silent-read : (x : Course) (input : List ℕ) → x .over ≡ true → saidRead x input ≡ []
 unfolding saidAtEnd
 silent-read x [] e = ap (λ (b : Bool). cond b [] (saidEnding (endingOf (x .reader)) (x .reader))) e
-silent-read x (byte ∷ more) e = some-by (saidAtEnd x) (saidBytes x (byte ∷ more)) (byte ∷ more) (λ n. omega arith) ∙ silent-bytes x (byte ∷ more) e
+silent-read x (byte ∷ more) e = some-by _ _ (byte ∷ more) (λ n. omega arith) ∙ silent-bytes x (byte ∷ more) e
 
 -- reads that would come when the run is over change nothing and say nothing
 pub over-silent : (x : Course) (inputs : List (List ℕ)) → x .over ≡ true → (whereOf (afterReads x inputs) ≡ whereOf x) × (saidReads x inputs ≡ [])
@@ -169,7 +169,7 @@ unfolding afterReads saidReads
 over-silent x [] e = (refl, refl)
 over-silent x (input ∷ inputs) e =
     let stays = over-read x input e in
-    let more = over-silent (written (afterRead x input)) inputs (ap (λ (y : Course). y .over) stays ∙ e) in
+    let more = over-silent (writtenAfter x input) inputs (ap (λ (y : Course). y .over) stays ∙ e) in
     (more .0 ∙ ap whereOf stays, ap₂ _++_ (silent-read x input e) (more .1))
 
 -- so a run may stop reading as soon as it is over: it comes to the same place and says the same as if it had read on
@@ -177,7 +177,7 @@ pub stops-early : (x : Course) (inputs more : List (List ℕ)) → afterReads x 
 unfolding afterReads saidReads
 stops-early x inputs more e =
     let rest = over-silent (afterReads x inputs) more e in
-    (ap whereOf (foldl-append turnOf x inputs more) ∙ rest .0, said-append turnOf saidRead x inputs more ∙ ap (λ (t : Pieces). saidReads x inputs ++ t) (rest .1) ∙ append-nil (saidReads x inputs))
+    (ap whereOf (foldl-append writtenAfter x inputs more) ∙ rest .0, said-append writtenAfter saidRead x inputs more ∙ ap (λ (t : Pieces). saidReads x inputs ++ t) (rest .1) ∙ append-nil (saidReads x inputs))
 
 -- ---- Two ways to cut one input
 module _ (x : Course) (these those : List (List ℕ)) (some : NoneEmpty these) (others : NoneEmpty those) (same : flatten these ≡ flatten those) where

@@ -15,7 +15,7 @@ use Rattle.script.specs.Lines.{readerAt, stateOf, endingOf}
 use Rattle.answers.specs.Waiting.{Pieces, Waiting, waiting, pieceRoom, withAll, Short, Adds}
 use Rattle.clerk.specs.declared.Eaten.{Eaten}
 use Rattle.clerk.specs.declared.Stand.{Stand}
-use Rattle.clerk.specs.Course.{Course, malformedSays, afterBytes, saidBytes, saidEnding, endedAs, atEnd, saidAtEnd, afterRead, saidRead, written, turnOf, afterReads, saidReads, courseOf, Eats, Closes, Reads, Leads, mostReads, RunsFrom, going, RunsWhole}
+use Rattle.clerk.specs.Course.{Course, malformedSays, afterBytes, saidBytes, saidEnding, endedAs, atEnd, saidAtEnd, afterRead, saidRead, written, writtenAfter, afterReads, saidReads, courseOf, Eats, Closes, Reads, Leads, mostReads, RunsFrom, going, RunsWhole}
 use Rattle.clerk.proofs.Bytes.{standing, Left}
 use Rattle.answers.proofs.Laws.{short-append}
 use Rattle.clerk.proofs.Cuts.{some-by, said-append}
@@ -72,8 +72,8 @@ reads-some {s} {stand} {d} {out} {input} n x =
     record {
       input = input;
       sound = x .sound;
-      is = x .is ∙ sym (some-by (atEnd (courseOf s stand d)) (afterBytes (courseOf s stand d) input) input n);
-      short = subst Short (sym (some-by (saidAtEnd (courseOf s stand d)) (saidBytes (courseOf s stand d) input) input n)) (x .short);
+      is = x .is ∙ sym (some-by _ _ input n);
+      short = subst Short (sym (some-by _ _ input n)) (x .short);
     }
 
 -- ---- reads one after another
@@ -96,12 +96,12 @@ module _ {s : Tanks} {reader : Reader} {stand : Stand} {d out : List ℕ} {r : E
         is =
             ap (λ (b : Bool). record { house = meaning (r .tanks); reader = stateOf (r .stand .reader); waits = waiting out 0; over = b }) (sym e)
             ∙ ap written (read .is ∙ ap (λ (st : Stand). afterRead (courseOf s st d) (read .input)) fresh)
-            ∙ ap (λ (c : Course). written (afterRead c (read .input))) (came .is)
-            ∙ sym (foldl-append turnOf x (came .inputs) (read .input ∷ []));
+            ∙ ap (λ (c : Course). writtenAfter c (read .input)) (came .is)
+            ∙ sym (foldl-append writtenAfter x (came .inputs) (read .input ∷ []));
         short =
             subst
             Short
-            (sym (said-append turnOf saidRead x (came .inputs) (read .input ∷ [])))
+            (sym (said-append writtenAfter saidRead x (came .inputs) (read .input ∷ [])))
             (short-append (saidReads x (came .inputs)) (saidReads (afterReads x (came .inputs)) (read .input ∷ [])) (came .short)
             (subst
             Short

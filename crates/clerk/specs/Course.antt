@@ -119,16 +119,16 @@ abbrev pub written : Course → Course
 written x = record { house = x .house; reader = x .reader; waits = waiting (x .waits .buffer) 0; over = x .over }
 
 -- a read, and the answers to it written out
-abbrev pub turnOf : Course → List ℕ → Course
-turnOf x input = written (afterRead x input)
+abbrev pub writtenAfter : Course → List ℕ → Course
+writtenAfter x input = written (afterRead x input)
 
 -- reads one after another; the answers to each are written out before the next
 unfoldable pub afterReads : Course → List (List ℕ) → Course
-afterReads = foldl turnOf
+afterReads = foldl writtenAfter
 
 -- all that is said meanwhile
 unfoldable pub saidReads : Course → List (List ℕ) → Pieces
-saidReads = saidBy turnOf saidRead
+saidReads = saidBy writtenAfter saidRead
 
 -- ---- What the code hands back
 -- where tanks, a stand and a buffer are in a course
@@ -209,4 +209,4 @@ NoneEmpty (input ∷ inputs) = (0 < length input) × NoneEmpty inputs
 
 -- all that goes out: what is written out while a read's answers are put, then what waits at the end of the read
 unfoldable pub gone : Course → List (List ℕ) → List ℕ
-gone = saidBy turnOf λ x input. sent (x .waits) (saidRead x input) ++ front (afterRead x input .waits)
+gone = saidBy writtenAfter λ x input. sent (x .waits) (saidRead x input) ++ front (afterRead x input .waits)
