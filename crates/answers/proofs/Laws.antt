@@ -1,6 +1,6 @@
 -- Pieces one behind the other.
 use mathlib.Core.Path.{_≡_, refl, sym, ap, ap₂, subst, _∙_}
-use mathlib.Core.List.{List, [], _∷_, _++_}
+use mathlib.Core.List.{List, [], _∷_, _++_, foldl-append}
 use Prim.Native.Nat.{ℕ, _+_, _≤_}
 use native.Mathlib.Omega.{arith}
 use lib.ListN.{length}
@@ -24,11 +24,6 @@ pub no-piece : (d : List ℕ) (at : ℕ) → Adds d at [] at d
 unfolding withAll Short
 no-piece d at = record { is = refl; short = tt }
 
-pub with-append : (w : Waiting) (ts us : Pieces) → withAll w (ts ++ us) ≡ withAll (withAll w ts) us
-unfolding withAll
-with-append w [] us = refl
-with-append w (t ∷ ts) us = with-append (with w t) ts us
-
 pub short-append : (ts us : Pieces) → Short ts → Short us → Short (ts ++ us)
 unfolding Short
 short-append [] us h k = k
@@ -36,7 +31,8 @@ short-append (t ∷ ts) us h k = (h .0, short-append ts us (h .1) k)
 
 -- what is still to be put, after some of it
 goes-on : {d e : List ℕ} {at k : ℕ} {ts : Pieces} (us : Pieces) → Adds d at ts k e → withAll (waiting e k) us ≡ withAll (waiting d at) (ts ++ us)
-goes-on {d} {e} {at} {k} {ts} us x = ap (λ (w : Waiting). withAll w us) (x .is) ∙ sym (with-append (waiting d at) ts us)
+unfolding withAll
+goes-on {d} {e} {at} {k} {ts} us x = ap (λ (w : Waiting). withAll w us) (x .is) ∙ sym (foldl-append with (waiting d at) ts us)
 
 -- pieces, and pieces behind them
 pub and-then : {d e o : List ℕ} {at k r : ℕ} {ts us : Pieces} → Adds d at ts k e → Adds e k us r o → Adds d at (ts ++ us) r o

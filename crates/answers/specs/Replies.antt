@@ -1,6 +1,6 @@
 -- docs/CONSOLE.md: the lines of each answer, as pieces of text.
 use mathlib.Core.Bool.{cond}
-use mathlib.Core.List.{List, [], _∷_, _++_, map}
+use mathlib.Core.List.{List, [], _∷_, _++_, map, flatMap}
 use Prim.Native.Nat.{ℕ, min}
 use lib.ListN.{take}
 use Rattle.styles.specs.declared.Styles.{Styles}
@@ -112,6 +112,5 @@ abbrev pub anchorSays : Anchor → Pieces
 anchorSays a = lineSays (bytes "at=") (a .at) ++ sideSays (a .side) ++ lineSays (bytes "key=") (a .key) ++ lineSays (bytes "lamport=") (a .lamport) ++ lineSays (bytes "peer=") (a .peer)
 
 -- anchors one after another
-unfoldable pub anchorsSay : List Anchor → Pieces
-anchorsSay [] = []
-anchorsSay (a ∷ more) = anchorSays a ++ anchorsSay more
+abbrev pub anchorsSay : List Anchor → Pieces
+anchorsSay = flatMap anchorSays

@@ -1,7 +1,7 @@
 -- Output that waits to be written: a buffer, and how much of its front.
 use mathlib.Core.Path.{_≡_}
 use mathlib.Core.Bool.{cond}
-use mathlib.Core.List.{List, [], _∷_, _++_}
+use mathlib.Core.List.{List, [], _∷_, _++_, foldl}
 use Prim.Native.Nat.{ℕ, _+_, _≤_}
 use lib.Dec.{leb}
 use lib.ListN.{length, take}
@@ -31,8 +31,7 @@ with w piece = waiting (put (w .buffer) (freeAt pieceRoom (w .at) (w .buffer)) p
 
 -- pieces one after another
 unfoldable pub withAll : Waiting → Pieces → Waiting
-withAll w [] = w
-withAll w (piece ∷ pieces) = withAll (with w piece) pieces
+withAll = foldl with
 
 -- none is longer than a piece may be
 unfoldable pub Short : Pieces → Type 0

@@ -1,11 +1,11 @@
 -- A line taken at once is its bytes taken one by one.
 use mathlib.Core.Path.{_≡_, refl, sym, ap, ap₂, subst, _∙_}
 use mathlib.Core.Bool.{Bool, true, false, cond}
-use mathlib.Core.List.{List, [], _∷_, _++_}
+use mathlib.Core.List.{List, [], _∷_, _++_, foldl-append}
 use Prim.Native.Nat.{ℕ, suc, _+_, _<_, min}
 use native.Mathlib.Decide.{ℕ-discrete, decLt}
 use native.Mathlib.Omega.{arith}
-use lib.ListN.{length, drop, take, getD, drop-of-length-le}
+use lib.ListN.{length, drop, getD, drop-of-length-le}
 use lib.Seq.{drop-cons, drop-nil, drop-drop}
 use Rattle.text.specs.Bytes.{holds}
 use Rattle.tanks.specs.declared.Tanks.{Tanks}
@@ -13,13 +13,11 @@ use Rattle.tanks.specs.Pool.{meaning}
 use Rattle.script.specs.declared.Call.{Call}
 use Rattle.script.specs.declared.Event.{Event}
 use Rattle.script.specs.declared.Fed.{Fed}
-use Rattle.script.specs.declared.Progress.{Progress}
 use Rattle.script.specs.declared.Read.{Read}
 use Rattle.script.specs.declared.Reader.{Reader}
-use Rattle.script.specs.Lines.{lineFront, hasEnd, State, stateOf, eventOf, turnedOf, readOf, bringsOf, afterOf, Feeds}
-use Rattle.script.specs.Reading.{lineOf}
+use Rattle.script.specs.Lines.{lineFront, hasEnd, State, stateOf, eventOf, readOf, bringsOf, afterOf, Feeds}
 use Rattle.text.proofs.Finding.{front-here, front-past, held-here, held-past}
-use Rattle.script.proofs.CutAnywhere.{read-cut, brings-cut, after-cut}
+use Rattle.script.proofs.CutAnywhere.{same-line, line-cut}
 use Rattle.script.proofs.Unique.{fed-state}
 use Rattle.answers.specs.Waiting.{Pieces, Waiting, waiting, withAll, Short, Adds}
 use Rattle.answers.proofs.Laws.{short-append}
@@ -34,8 +32,7 @@ behindLine line = drop (length (lineFront line) + 1) line
 -- bytes taken in two parts, with nothing written out in between, lead to the same
 pub cut-anywhere : (x : Course) (a b : List ℕ) → afterBytes x (a ++ b) ≡ afterBytes (afterBytes x a) b
 unfolding afterBytes
-cut-anywhere x [] b = refl
-cut-anywhere x (c ∷ a) b = cut-anywhere (afterByte x c) a b
+cut-anywhere x a b = foldl-append afterByte x a b
 
 -- when the run is over nothing more is taken
 pub over-stays : (x : Course) (more : List ℕ) → x .over ≡ true → afterBytes x more ≡ x
@@ -78,33 +75,7 @@ unfolding afterBytes saidBytes
 over-heard x more e = ap₂ both (over-stays x more e) (silent-bytes x more e)
 
 -- ---- What a line brings
--- a function of the event, the reader's state and the call that a line brings
-abbrev brought : {A : Type 0} → (Event → State → Call → A) → State → List ℕ → A
-brought f r line = f (bringsOf r line) (afterOf r line) (readOf r line .call)
-
-module _ {A : Type 0} (f : Event → State → Call → A) (r : State) where
-  -- a line counts by its bytes in front of the newline, and by whether there is one
-  line-by : Bool → List ℕ → A
-  line-by e front =
-      let held = take 65 (r .held ++ front) in
-      let read : Read = cond e (lineOf (r .call) held) (record { call = r .call; progress = Progress.More }) in
-      f
-      (eventOf (read .progress))
-      (cond e (turnedOf (r .newlines) (read .progress) (read .call)) (record { held = held; call = r .call; newlines = r .newlines }))
-      (read .call)
-
-  same-brought : (a b : List ℕ) → hasEnd a ≡ hasEnd b → lineFront a ≡ lineFront b → brought f r a ≡ brought f r b
-  unfolding afterOf bringsOf line-by
-  same-brought a b e g = ap₂ line-by e g
-
-  -- its first byte may be taken before, where it is no newline
-  cut-brought : (c : ℕ) (cs : List ℕ) → hasEnd (c ∷ []) ≡ false → brought f (afterOf r (c ∷ [])) cs ≡ brought f r (c ∷ cs)
-  cut-brought c cs e =
-      ap (λ (v : Event). f v (afterOf (afterOf r (c ∷ [])) cs) (readOf (afterOf r (c ∷ [])) cs .call)) (brings-cut r (c ∷ []) cs e)
-      ∙ ap (λ (s : State). f (bringsOf r (c ∷ cs)) s (readOf (afterOf r (c ∷ [])) cs .call)) (after-cut r (c ∷ []) cs e)
-      ∙ ap (λ (q : Read). f (bringsOf r (c ∷ cs)) (afterOf r (c ∷ cs)) (q .call)) (read-cut r (c ∷ []) cs e)
-
--- the course after such an event, and what it says
+-- the course after an event, with the state of the reader and the call that come with it, and what it says
 abbrev led : Course → Event → State → Call → Course × Pieces
 led x v r c = both (onEvent v x r c) (saidOn v (x .house) r c)
 
@@ -114,7 +85,11 @@ heardOn p more = saidFirst (p .1) (heard (p .0) more)
 
 -- of a line
 abbrev lineLed : Course → List ℕ → Course × Pieces
-lineLed x line = brought (led x) (x .reader) line
+lineLed x line = both (afterLine x line) (saidLine x line)
+
+-- by what the line makes of the call, and the state after it
+abbrev readLed : Course → Read → State → Course × Pieces
+readLed x q r = led x (eventOf (q .progress)) r (q .call)
 
 module _ (x : Course) where
   -- of a byte
@@ -138,8 +113,8 @@ module _ (x : Course) where
   part-brings c e = rw e
 
   part-line : (c : ℕ) (cs : List ℕ) → hasEnd (c ∷ []) ≡ false → lineLed (part c) cs ≡ lineLed x (c ∷ cs)
-  unfolding part onEvent
-  part-line c cs e = cut-brought (led x) (x .reader) c cs e
+  unfolding part onEvent bringsOf
+  part-line c cs e = line-cut (readLed x) (x .reader) (c ∷ []) cs e
 
 none-behind : (c : ℕ) → (c ≡ 10 → ⊥) → hasEnd (c ∷ []) ≡ false
 unfolding holds
@@ -153,9 +128,10 @@ behind-other c cs n =
 module _ (x : Course) (c : ℕ) (cs : List ℕ) (e : x .over ≡ false) where
   -- the line ends here
   ends : c ≡ 10 → heard x (c ∷ cs) ≡ heardOn (lineLed x (c ∷ cs)) (behindLine (c ∷ cs))
+  unfolding bringsOf
   ends h =
       byte-heard x c cs
-      ∙ ap (λ (p : Course × Pieces). heardOn p cs) (byte-led x c e ∙ same-brought (led x) (x .reader) (c ∷ []) (c ∷ cs) (held-here 10 c [] h ∙ sym (held-here 10 c cs h)) (front-here 10 c [] h ∙ sym (front-here 10 c cs h)))
+      ∙ ap (λ (p : Course × Pieces). heardOn p cs) (byte-led x c e ∙ same-line (readLed x) (x .reader) (c ∷ []) (c ∷ cs) (held-here 10 c [] h ∙ sym (held-here 10 c cs h)) (front-here 10 c [] h ∙ sym (front-here 10 c cs h)))
       ∙ ap (λ (t : List ℕ). heardOn (lineLed x (c ∷ cs)) (drop (length t + 1) (c ∷ cs))) (sym (front-here 10 c cs h))
 
   -- it goes on

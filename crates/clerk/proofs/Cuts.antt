@@ -1,16 +1,16 @@
 -- However an input is cut into reads, a run comes to the same place and says the same.
 use mathlib.Core.Path.{_≡_, refl, sym, ap, ap₂, _∙_}
 use mathlib.Core.Bool.{Bool, true, false, cond}
-use mathlib.Core.List.{List, [], _∷_, _++_, append-assoc, append-nil, flatten}
-use Prim.Native.Nat.{ℕ, _<_}
+use mathlib.Core.List.{List, [], _∷_, _++_, append-assoc, append-nil, flatten, foldl, foldl-append}
+use Prim.Native.Nat.{ℕ}
 use native.Mathlib.Omega.{arith}
+use lib.Dec.{eqb}
 use lib.ListN.{length}
 use borrow.Author.Tests.{ne-eqb}
 use Rattle.script.specs.Lines.{endingOf}
-use Rattle.answers.specs.Waiting.{Pieces, Waiting, withAll}
-use Rattle.answers.proofs.Laws.{with-append}
-use Rattle.clerk.specs.Course.{Course, onEvent, afterLine, afterByte, afterBytes, endedAs, atEnd, afterRead, written, afterReads}
-use Rattle.clerk.specs.Course.{Whereabouts, whereOf, saidLine, saidByte, saidBytes, saidEnding, saidAtEnd, saidRead, saidReads, NoneEmpty}
+use Rattle.answers.specs.Waiting.{Pieces, Waiting, with, withAll}
+use Rattle.clerk.specs.Course.{Course, onEvent, afterLine, afterByte, afterBytes, endedAs, atEnd, afterRead, written, writtenAfter, afterReads}
+use Rattle.clerk.specs.Course.{Whereabouts, whereOf, saidLine, saidByte, saidBy, saidBytes, saidEnding, saidAtEnd, saidRead, saidReads, NoneEmpty}
 use Rattle.clerk.proofs.Bytes.{cut-anywhere, over-stays, silent-bytes}
 
 -- ---- What is said is what is put into the output
@@ -32,28 +32,24 @@ waits-bytes x [] = refl
 waits-bytes x (byte ∷ more) =
     waits-bytes (afterByte x byte) more
     ∙ ap (λ (w : Waiting). withAll w (saidBytes (afterByte x byte) more)) (waits-byte x byte)
-    ∙ sym (with-append (x .waits) (saidByte x byte) (saidBytes (afterByte x byte) more))
+    ∙ sym (foldl-append with (x .waits) (saidByte x byte) (saidBytes (afterByte x byte) more))
 
 -- the end of the input puts what it says
 pub waits-end : (x : Course) → atEnd x .waits ≡ withAll (x .waits) (saidAtEnd x)
 unfolding atEnd saidAtEnd
 waits-end x = waits-by (x .over) x (endedAs (endingOf (x .reader)) x) (saidEnding (endingOf (x .reader)) (x .reader)) refl
 
--- a read that is not empty takes its bytes
-some-taken : (x : Course) (input : List ℕ) → 0 < length input → afterRead x input ≡ afterBytes x input
-some-taken x input some = ap (λ (b : Bool). cond b (atEnd x) (afterBytes x input)) (ne-eqb (length input) 0 λ e. omega (arith, e, some))
-
--- and says what they say
-some-said : (x : Course) (input : List ℕ) → 0 < length input → saidRead x input ≡ saidBytes x input
-some-said x input some = ap (λ (b : Bool). cond b (saidAtEnd x) (saidBytes x input)) (ne-eqb (length input) 0 λ e. omega (arith, e, some))
+-- a read that is not empty counts by its bytes
+pub some-by : {A : Type 0} (a b : A) (input : List ℕ) → (length input ≡ 0 → ⊥) → cond (eqb (length input) 0) a b ≡ b
+some-by a b input n = ap (λ (none : Bool). cond none a b) (ne-eqb (length input) 0 n)
 
 -- a read puts what it says, whatever it gave
 pub waits-read : (x : Course) (input : List ℕ) → afterRead x input .waits ≡ withAll (x .waits) (saidRead x input)
 waits-read x [] = waits-end x
 waits-read x (byte ∷ more) =
-    ap (λ (y : Course). y .waits) (some-taken x (byte ∷ more) (omega arith))
+    ap (λ (y : Course). y .waits) (some-by _ _ (byte ∷ more) λ e. omega arith)
     ∙ waits-bytes x (byte ∷ more)
-    ∙ ap (withAll (x .waits)) (sym (some-said x (byte ∷ more) (omega arith)))
+    ∙ ap (withAll (x .waits)) (sym (some-by _ _ (byte ∷ more) λ e. omega arith))
 
 -- ---- What waits makes no difference
 -- a run at a place, with this output waiting
@@ -82,13 +78,13 @@ unfolding saidByte
 said-byte byte = by-place (λ (x : Course). saidByte x byte) λ p v w. refl
 
 -- where bytes lead depends on the place alone
-pub place-bytes : (input : List ℕ) (x y : Course) → whereOf x ≡ whereOf y → whereOf (afterBytes x input) ≡ whereOf (afterBytes y input)
+place-bytes : (input : List ℕ) (x y : Course) → whereOf x ≡ whereOf y → whereOf (afterBytes x input) ≡ whereOf (afterBytes y input)
 unfolding afterBytes
 place-bytes [] x y e = e
 place-bytes (byte ∷ more) x y e = place-bytes more (afterByte x byte) (afterByte y byte) (place-byte byte x y e)
 
 -- and so does what they say
-pub said-bytes : (input : List ℕ) (x y : Course) → whereOf x ≡ whereOf y → saidBytes x input ≡ saidBytes y input
+said-bytes : (input : List ℕ) (x y : Course) → whereOf x ≡ whereOf y → saidBytes x input ≡ saidBytes y input
 unfolding saidBytes
 said-bytes [] x y e = refl
 said-bytes (byte ∷ more) x y e = ap₂ _++_ (said-byte byte x y e) (said-bytes more (afterByte x byte) (afterByte y byte) (place-byte byte x y e))
@@ -101,53 +97,39 @@ place-end =
     place-by (p .over) (placed p v) (placed p w) (endedAs (endingOf (p .reader)) (placed p v)) (endedAs (endingOf (p .reader)) (placed p w)) refl refl
 
 -- and so does what it says
-pub said-end : (x y : Course) → whereOf x ≡ whereOf y → saidAtEnd x ≡ saidAtEnd y
+said-end : (x y : Course) → whereOf x ≡ whereOf y → saidAtEnd x ≡ saidAtEnd y
 unfolding saidAtEnd
 said-end = by-place saidAtEnd λ p v w. refl
 
 -- ---- Cuts
--- what bytes say in two parts
-said-cut : (x : Course) (a b : List ℕ) → saidBytes x a ++ saidBytes (afterBytes x a) b ≡ saidBytes x (a ++ b)
-unfolding saidBytes afterBytes
-said-cut x [] b = refl
-said-cut x (c ∷ a) b = append-assoc (saidByte x c) (saidBytes (afterByte x c) a) (saidBytes (afterBytes (afterByte x c) a) b) ∙ ap (λ (t : Pieces). saidByte x c ++ t) (said-cut (afterByte x c) a b)
+-- what steps say in two parts
+pub said-append : {X A B : Type 0} (step : X → A → X) (says : X → A → List B) (x : X) (a b : List A) → saidBy step says x (a ++ b) ≡ saidBy step says x a ++ saidBy step says (foldl step x a) b
+said-append step says x [] b = refl
+said-append {B = B} step says x (c ∷ a) b = ap (λ (t : List B). says x c ++ t) (said-append step says (step x c) a b) ∙ sym (append-assoc (says x c) (saidBy step says (step x c) a) (saidBy step says (foldl step (step x c) a) b))
 
 -- reads lead where their bytes lead
 place-reads : (x : Course) (inputs : List (List ℕ)) → NoneEmpty inputs → whereOf (afterReads x inputs) ≡ whereOf (afterBytes x (flatten inputs))
 unfolding afterReads afterBytes flatten NoneEmpty
 place-reads x [] some = refl
 place-reads x (input ∷ inputs) some =
-    ap (λ (y : Course). whereOf (afterReads (written y) inputs)) (some-taken x input (some .0))
+    ap (λ (y : Course). whereOf (afterReads (written y) inputs)) (some-by _ _ input λ e. omega (arith, e, some .0))
     ∙ place-reads (written (afterBytes x input)) inputs (some .1)
     ∙ place-bytes (flatten inputs) (written (afterBytes x input)) (afterBytes x input) refl
     ∙ ap whereOf (sym (cut-anywhere x input (flatten inputs)))
 
 -- and say what their bytes say
 said-reads : (x : Course) (inputs : List (List ℕ)) → NoneEmpty inputs → saidReads x inputs ≡ saidBytes x (flatten inputs)
-unfolding saidReads saidBytes flatten NoneEmpty
+unfolding saidReads saidBytes afterBytes flatten NoneEmpty
 said-reads x [] some = refl
 said-reads x (input ∷ inputs) some =
-    ap₂ (λ (t : Pieces) (y : Course). t ++ saidReads (written y) inputs) (some-said x input (some .0)) (some-taken x input (some .0))
+    let n : length input ≡ 0 → ⊥ = λ e. omega (arith, e, some .0) in
+    ap₂ (λ (t : Pieces) (y : Course). t ++ saidReads (written y) inputs) (some-by _ _ input n) (some-by _ _ input n)
     ∙ ap (λ (t : Pieces). saidBytes x input ++ t) (said-reads (written (afterBytes x input)) inputs (some .1) ∙ said-bytes (flatten inputs) (written (afterBytes x input)) (afterBytes x input) refl)
-    ∙ said-cut x input (flatten inputs)
+    ∙ sym (said-append afterByte saidByte x input (flatten inputs))
 
 -- an input cut into reads, each written out before the next, comes to the same place and says the same as its bytes one after another
 pub cut-reads : (x : Course) (inputs : List (List ℕ)) → NoneEmpty inputs → (whereOf (afterReads x inputs) ≡ whereOf (afterBytes x (flatten inputs))) × (saidReads x inputs ≡ saidBytes x (flatten inputs))
 cut-reads x inputs some = (place-reads x inputs some, said-reads x inputs some)
-
--- reads, and reads behind them
-pub reads-append : (x : Course) (inputs more : List (List ℕ)) → afterReads x (inputs ++ more) ≡ afterReads (afterReads x inputs) more
-unfolding afterReads
-reads-append x [] more = refl
-reads-append x (input ∷ inputs) more = reads-append (written (afterRead x input)) inputs more
-
--- what they say
-pub said-append : (x : Course) (inputs more : List (List ℕ)) → saidReads x (inputs ++ more) ≡ saidReads x inputs ++ saidReads (afterReads x inputs) more
-unfolding saidReads afterReads
-said-append x [] more = refl
-said-append x (input ∷ inputs) more =
-    ap (λ (t : Pieces). saidRead x input ++ t) (said-append (written (afterRead x input)) inputs more)
-    ∙ sym (append-assoc (saidRead x input) (saidReads (written (afterRead x input)) inputs) (saidReads (afterReads (written (afterRead x input)) inputs) more))
 
 -- the last read, which is empty
 last-place : (x : Course) → whereOf (afterReads x ([] ∷ [])) ≡ whereOf (atEnd x)
@@ -161,10 +143,11 @@ last-said x = append-nil (saidAtEnd x)
 
 -- the same with the end of the input behind
 pub cut-run : (x : Course) (inputs : List (List ℕ)) → NoneEmpty inputs → (whereOf (afterReads x (inputs ++ ([] ∷ []))) ≡ whereOf (atEnd (afterBytes x (flatten inputs)))) × (saidReads x (inputs ++ ([] ∷ [])) ≡ saidBytes x (flatten inputs) ++ saidAtEnd (afterBytes x (flatten inputs)))
+unfolding afterReads saidReads
 cut-run x inputs some =
     let e = cut-reads x inputs some in (
-      ap whereOf (reads-append x inputs ([] ∷ [])) ∙ last-place (afterReads x inputs) ∙ place-end (afterReads x inputs) (afterBytes x (flatten inputs)) (e .0),
-      said-append x inputs ([] ∷ []) ∙ ap₂ _++_ (e .1) (last-said (afterReads x inputs) ∙ said-end (afterReads x inputs) (afterBytes x (flatten inputs)) (e .0)),
+      ap whereOf (foldl-append writtenAfter x inputs ([] ∷ [])) ∙ last-place (afterReads x inputs) ∙ place-end (afterReads x inputs) (afterBytes x (flatten inputs)) (e .0),
+      said-append writtenAfter saidRead x inputs ([] ∷ []) ∙ ap₂ _++_ (e .1) (last-said (afterReads x inputs) ∙ said-end (afterReads x inputs) (afterBytes x (flatten inputs)) (e .0)),
     )
 
 -- ---- A run that is over
@@ -172,13 +155,13 @@ cut-run x inputs some =
 pub over-read : (x : Course) (input : List ℕ) → x .over ≡ true → afterRead x input ≡ x
 unfolding atEnd
 over-read x [] e = ap (λ (b : Bool). cond b x (endedAs (endingOf (x .reader)) x)) e
-over-read x (byte ∷ more) e = some-taken x (byte ∷ more) (omega arith) ∙ over-stays x (byte ∷ more) e
+over-read x (byte ∷ more) e = some-by _ _ (byte ∷ more) (λ n. omega arith) ∙ over-stays x (byte ∷ more) e
 
 -- a read says nothing
 silent-read : (x : Course) (input : List ℕ) → x .over ≡ true → saidRead x input ≡ []
 unfolding saidAtEnd
 silent-read x [] e = ap (λ (b : Bool). cond b [] (saidEnding (endingOf (x .reader)) (x .reader))) e
-silent-read x (byte ∷ more) e = some-said x (byte ∷ more) (omega arith) ∙ silent-bytes x (byte ∷ more) e
+silent-read x (byte ∷ more) e = some-by _ _ (byte ∷ more) (λ n. omega arith) ∙ silent-bytes x (byte ∷ more) e
 
 -- reads that would come when the run is over change nothing and say nothing
 pub over-silent : (x : Course) (inputs : List (List ℕ)) → x .over ≡ true → (whereOf (afterReads x inputs) ≡ whereOf x) × (saidReads x inputs ≡ [])
@@ -186,14 +169,15 @@ unfolding afterReads saidReads
 over-silent x [] e = (refl, refl)
 over-silent x (input ∷ inputs) e =
     let stays = over-read x input e in
-    let more = over-silent (written (afterRead x input)) inputs (ap (λ (y : Course). y .over) stays ∙ e) in
+    let more = over-silent (writtenAfter x input) inputs (ap (λ (y : Course). y .over) stays ∙ e) in
     (more .0 ∙ ap whereOf stays, ap₂ _++_ (silent-read x input e) (more .1))
 
 -- so a run may stop reading as soon as it is over: it comes to the same place and says the same as if it had read on
 pub stops-early : (x : Course) (inputs more : List (List ℕ)) → afterReads x inputs .over ≡ true → (whereOf (afterReads x (inputs ++ more)) ≡ whereOf (afterReads x inputs)) × (saidReads x (inputs ++ more) ≡ saidReads x inputs)
+unfolding afterReads saidReads
 stops-early x inputs more e =
     let rest = over-silent (afterReads x inputs) more e in
-    (ap whereOf (reads-append x inputs more) ∙ rest .0, said-append x inputs more ∙ ap (λ (t : Pieces). saidReads x inputs ++ t) (rest .1) ∙ append-nil (saidReads x inputs))
+    (ap whereOf (foldl-append writtenAfter x inputs more) ∙ rest .0, said-append writtenAfter saidRead x inputs more ∙ ap (λ (t : Pieces). saidReads x inputs ++ t) (rest .1) ∙ append-nil (saidReads x inputs))
 
 -- ---- Two ways to cut one input
 module _ (x : Course) (these those : List (List ℕ)) (some : NoneEmpty these) (others : NoneEmpty those) (same : flatten these ≡ flatten those) where

@@ -1,9 +1,8 @@
 -- What a read, and the end of the input, hand back.
 use mathlib.Core.Path.{_≡_, refl, sym, ap, ap₂, subst, _∙_}
 use mathlib.Core.Bool.{Bool, true, false, cond}
-use mathlib.Core.List.{List, [], _∷_, _++_, append-nil}
+use mathlib.Core.List.{List, [], _∷_, _++_, append-nil, foldl-append}
 use Prim.Native.Nat.{ℕ, _+_, _≤_}
-use borrow.Author.Tests.{ne-eqb}
 use lib.ListN.{length, drop, length-append, drop-of-length-le}
 use Rattle.tanks.specs.declared.Tanks.{Tanks}
 use Rattle.tanks.specs.House.{House, smallestSettings, opening}
@@ -16,10 +15,10 @@ use Rattle.script.specs.Lines.{readerAt, stateOf, endingOf}
 use Rattle.answers.specs.Waiting.{Pieces, Waiting, waiting, pieceRoom, withAll, Short, Adds}
 use Rattle.clerk.specs.declared.Eaten.{Eaten}
 use Rattle.clerk.specs.declared.Stand.{Stand}
-use Rattle.clerk.specs.Course.{Course, malformedSays, afterBytes, saidBytes, saidEnding, endedAs, atEnd, saidAtEnd, afterRead, saidRead, written, afterReads, saidReads, courseOf, Eats, Closes, Reads, Leads, mostReads, RunsFrom, going, RunsWhole}
+use Rattle.clerk.specs.Course.{Course, malformedSays, afterBytes, saidBytes, saidEnding, endedAs, atEnd, saidAtEnd, afterRead, saidRead, written, writtenAfter, afterReads, saidReads, courseOf, Eats, Closes, Reads, Leads, mostReads, RunsFrom, going, RunsWhole}
 use Rattle.clerk.proofs.Bytes.{standing, Left}
 use Rattle.answers.proofs.Laws.{short-append}
-use Rattle.clerk.proofs.Cuts.{reads-append, said-append}
+use Rattle.clerk.proofs.Cuts.{some-by, said-append}
 
 module _ {s : Tanks} {stand : Stand} (d : List ℕ) {r : Eaten} (out : List ℕ) {k : ℕ} (ok : Sound s) (goes : stand .over ≡ false)
     (stands : (r .tanks ≡ s) × (r .stand ≡ record { reader = stand .reader; at = k; over = true })) where
@@ -73,8 +72,8 @@ reads-some {s} {stand} {d} {out} {input} n x =
     record {
       input = input;
       sound = x .sound;
-      is = x .is ∙ sym (ap (λ (b : Bool). cond b (atEnd (courseOf s stand d)) (afterBytes (courseOf s stand d) input)) (ne-eqb (length input) 0 n));
-      short = subst (λ (b : Bool). Short (cond b (saidAtEnd (courseOf s stand d)) (saidBytes (courseOf s stand d) input))) (sym (ne-eqb (length input) 0 n)) (x .short);
+      is = x .is ∙ sym (some-by _ _ input n);
+      short = subst Short (sym (some-by _ _ input n)) (x .short);
     }
 
 -- ---- reads one after another
@@ -88,30 +87,27 @@ leads-as e l = record { inputs = l .inputs; count = l .count ∙ e; is = l .is; 
 module _ {s : Tanks} {reader : Reader} {stand : Stand} {d out : List ℕ} {r : Eaten} {n : ℕ} (x : Course) (fresh : stand ≡ record { reader = reader; at = 0; over = false })
     (came : Leads n x (going s reader d)) (read : Reads s stand d r out) where
   -- where the run is when the answers to one read more are written out
-  pub leads-more : {y : Course} → y ≡ written (courseOf (r .tanks) (r .stand) out) → Leads (n + 1) x y
+  pub leads-on : {over : Bool} → r .stand .over ≡ over → Leads (n + 1) x (record { house = meaning (r .tanks); reader = stateOf (r .stand .reader); waits = waiting out 0; over = over })
   unfolding afterReads saidReads
-  leads-more e =
+  leads-on e =
       record {
         inputs = came .inputs ++ (read .input ∷ []);
         count = length-append (came .inputs) (read .input ∷ []) ∙ ap (λ (k : ℕ). k + 1) (came .count);
         is =
-            e
+            ap (λ (b : Bool). record { house = meaning (r .tanks); reader = stateOf (r .stand .reader); waits = waiting out 0; over = b }) (sym e)
             ∙ ap written (read .is ∙ ap (λ (st : Stand). afterRead (courseOf s st d) (read .input)) fresh)
-            ∙ ap (λ (c : Course). written (afterRead c (read .input))) (came .is)
-            ∙ sym (reads-append x (came .inputs) (read .input ∷ []));
+            ∙ ap (λ (c : Course). writtenAfter c (read .input)) (came .is)
+            ∙ sym (foldl-append writtenAfter x (came .inputs) (read .input ∷ []));
         short =
             subst
             Short
-            (sym (said-append x (came .inputs) (read .input ∷ [])))
+            (sym (said-append writtenAfter saidRead x (came .inputs) (read .input ∷ [])))
             (short-append (saidReads x (came .inputs)) (saidReads (afterReads x (came .inputs)) (read .input ∷ [])) (came .short)
             (subst
             Short
             (ap (λ (st : Stand). saidRead (courseOf s st d) (read .input)) fresh ∙ ap (λ (c : Course). saidRead c (read .input)) (came .is) ∙ sym (append-nil (saidRead (afterReads x (came .inputs)) (read .input))))
             (read .short)));
       }
-
-  pub leads-on : r .stand .over ≡ false → Leads (n + 1) x (going (r .tanks) (r .stand .reader) out)
-  leads-on e = leads-more (ap (λ (b : Bool). record { house = meaning (r .tanks); reader = stateOf (r .stand .reader); waits = waiting out 0; over = b }) (sym e))
 
 -- a run that has come to its end
 pub runs-as : {t : Tanks} {reader : Reader} {x : Course} {r : Eaten} {n : ℕ} (out : List ℕ) {over : Bool} → Sound t → (r .tanks ≡ t) × (r .stand ≡ record { reader = reader; at = 0; over = over }) → Leads n x (record { house = meaning t; reader = stateOf reader; waits = waiting out 0; over = over }) → (over ≡ false → n ≡ mostReads) → RunsFrom x r out

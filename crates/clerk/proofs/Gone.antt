@@ -9,7 +9,7 @@ use Rattle.script.specs.Writing.{freeAt}
 use Rattle.answers.specs.Waiting.{Pieces, Waiting, pieceRoom, with, withAll, Short, front, sent}
 use Rattle.answers.proofs.Sent.{nothing-lost}
 use Rattle.clerk.specs.declared.Eaten.{Eaten}
-use Rattle.clerk.specs.Course.{Course, afterRead, saidRead, written, saidReads, gone, beginning, RunsWhole}
+use Rattle.clerk.specs.Course.{Course, afterRead, saidRead, writtenAfter, saidReads, gone, beginning, RunsWhole}
 use Rattle.clerk.proofs.Cuts.{waits-read}
 
 -- of one read, whatever waited before it: what goes out meanwhile and what then waits are what waited before and all that is said
@@ -43,12 +43,12 @@ pub reads-nothing-lost : (x : Course) (inputs : List (List ℕ)) → pieceRoom �
 unfolding gone saidReads flatten
 reads-nothing-lost x [] room none short = refl
 reads-nothing-lost x (input ∷ inputs) room none short =
-    let p = short-parts (saidRead x input) (saidReads (written (afterRead x input)) inputs) short in
+    let p = short-parts (saidRead x input) (saidReads (writtenAfter x input) inputs) short in
     ap₂
     _++_
     (run-nothing-lost x input room (omega (arith, none)) (p .0) ∙ ap (λ (k : ℕ). take k (x .waits .buffer) ++ flatten (saidRead x input)) none)
-    (reads-nothing-lost (written (afterRead x input)) inputs (omega (arith, room, read-room x input)) refl (p .1))
-    ∙ sym (flatten-parts (saidRead x input) (saidReads (written (afterRead x input)) inputs))
+    (reads-nothing-lost (writtenAfter x input) inputs (omega (arith, room, read-room x input)) refl (p .1))
+    ∙ sym (flatten-parts (saidRead x input) (saidReads (writtenAfter x input) inputs))
 
 -- a whole run
 pub whole-nothing-lost : {r : Eaten} (w : RunsWhole r) → gone (beginning (w .buffer)) (w .runs .leads .inputs) ≡ flatten (saidReads (beginning (w .buffer)) (w .runs .leads .inputs))

@@ -1,13 +1,12 @@
 -- What lists say: a buffer of 1,536 numbers is as good as any, and anchors go out one by one.
 use mathlib.Core.Path.{_≡_, refl, sym, ap, ap₂, _∙_}
 use mathlib.Core.Bool.{Bool, true, false, cond}
-use mathlib.Core.List.{List, [], _∷_, _++_}
+use mathlib.Core.List.{List, [], _∷_, _++_, flatMap}
 use Prim.Native.Nat.{ℕ, zero, suc, _-_, _≤_, _<_, min}
 use native.Mathlib.Decide.{decLt}
 use native.Mathlib.Omega.{arith}
-use lib.Dec.{eqb}
+use lib.Dec.{eqb, ltb}
 use lib.ListN.{length, take, length-take}
-use lib.Seq.{take-length}
 use borrow.Author.Tests.{lt-ltb, le-ltb, le-leb, lt-leb}
 use Rattle.runs.specs.Stretches.{inFront}
 use Rattle.lists.specs.declared.Listed.{Listed}
@@ -22,7 +21,6 @@ use Rattle.tanks.specs.Pool.{meaning, Sound}
 use Rattle.ask.specs.Asks.{askAt, noList}
 use Rattle.ask.proofs.AskLaws.{asked-part, asked-count}
 use Rattle.ask.proofs.Most.{most-range, most-whole}
-use Rattle.answers.specs.Waiting.{Pieces}
 use Rattle.answers.specs.Replies.{refusedSays, orRefused, listSays, anchorSays, anchorsSay}
 use Rattle.clerk.specs.Calls.{allAnchorsSay}
 
@@ -91,7 +89,7 @@ module _ (h : House) (t : ℕ) (near far : View → ℕ) (xs : View → List ℕ
 -- ---- anchors
 -- one anchor more is said
 pub anchor-more : (i : ℕ) (left : List Anchor) (a : Anchor) (more : List Anchor) → 0 < i → left ≡ a ∷ more → anchorsSay (take i left) ≡ anchorSays a ++ anchorsSay (take (i - 1) more)
-unfolding anchorsSay
+unfolding flatMap
 anchor-more zero left a more h e = absurd (omega arith)
 anchor-more (suc i) left a more h e =
     let less : i ≡ suc i - 1 = omega arith in
@@ -99,12 +97,8 @@ anchor-more (suc i) left a more h e =
 
 -- none is left
 pub anchor-none : (left : List Anchor) → left ≡ [] → anchorsSay left ≡ []
-unfolding anchorsSay
+unfolding flatMap
 anchor-none left e = ap anchorsSay e
-
--- as many as there are
-pub take-whole : (n : ℕ) (xs ys : List Anchor) → xs ≡ ys → n ≡ length ys → take n xs ≡ ys
-take-whole n xs ys e k = ap (take n) e ∙ ap (λ (m : ℕ). take m ys) k ∙ take-length ys
 
 -- no such tank
 pub anchors-1 : (h : House) (t room : ℕ) → 8 ≤ t → refusedSays 1 ≡ askAt h t (refusedSays 1) (λ v. orRefused (anchorsNumber room v) (allAnchorsSay v))
@@ -112,20 +106,9 @@ anchors-1 h t room k = rw (le-leb 8 t k)
 
 -- too little room, or all of them
 module _ (h : House) (t : ℕ) (l : Listed) (k : t < 8) (said : l ≡ askAt h t noList anchorsNeeded) where
-  abbrev all : List Anchor
-  all = anchors (tankAt h t)
+  pub counted : l .count ≡ length (anchors (tankAt h t))
+  counted = ap (λ (x : Listed). x .count) (said ∙ ap (λ (b : Bool). cond b noList (anchorsNeeded (tankAt h t))) (lt-leb 8 t k))
 
-  pub counted : l .count ≡ length all
-  counted = ap (λ (x : Listed). x .count) (said ∙ ap (λ (b : Bool). cond b noList (filledBeside 0 all)) (lt-leb 8 t k))
-
-  there : (says : View → Pieces) → askAt h t (refusedSays 1) says ≡ says (tankAt h t)
-  there says = ap (λ (b : Bool). cond b (refusedSays 1) (says (tankAt h t))) (lt-leb 8 t k)
-
-  pub anchors-11 : (room : ℕ) → room < l .count → refusedSays 11 ≡ askAt h t (refusedSays 1) (λ v. orRefused (anchorsNumber room v) (allAnchorsSay v))
+  pub anchors-by : (room : ℕ) (b : Bool) → ltb room (l .count) ≡ b → orRefused (cond b 11 0) (allAnchorsSay (tankAt h t)) ≡ askAt h t (refusedSays 1) (λ v. orRefused (anchorsNumber room v) (allAnchorsSay v))
   unfolding listRefusal
-  anchors-11 room g = sym (there (λ v. orRefused (anchorsNumber room v) (allAnchorsSay v)) ∙ ap (λ (b : Bool). orRefused (cond b 11 0) (allAnchorsSay (tankAt h t))) (lt-ltb room (length all) (omega (arith, counted))))
-
-  pub anchors-all : (room : ℕ) → l .count ≤ room → allAnchorsSay (tankAt h t) ≡ askAt h t (refusedSays 1) (λ v. orRefused (anchorsNumber room v) (allAnchorsSay v))
-  unfolding listRefusal
-  anchors-all room g =
-      sym (there (λ v. orRefused (anchorsNumber room v) (allAnchorsSay v)) ∙ ap (λ (b : Bool). orRefused (cond b 11 0) (allAnchorsSay (tankAt h t))) (le-ltb room (length all) (omega (arith, counted))))
+  anchors-by room b e = sym (ap₂ (λ (none little : Bool). cond none (refusedSays 1) (orRefused (cond little 11 0) (allAnchorsSay (tankAt h t)))) (lt-leb 8 t k) (ap (ltb room) (sym counted) ∙ e))

@@ -1,7 +1,7 @@
 -- A run of the clerk, byte by byte: what the input so far has made of the tanks, where the script stands, and which answers still wait to be written. Beside where a step leads stands what it says.
 use mathlib.Core.Path.{_≡_}
 use mathlib.Core.Bool.{Bool, true, false, cond}
-use mathlib.Core.List.{List, [], _∷_, _++_}
+use mathlib.Core.List.{List, [], _∷_, _++_, foldl}
 use Prim.Native.Nat.{ℕ, _-_, _^_, _≤_, _<_}
 use lib.Dec.{eqb}
 use lib.ListN.{length}
@@ -76,13 +76,16 @@ saidByte x byte = cond (x .over) [] (saidLine x (byte ∷ []))
 
 -- bytes one after another
 unfoldable pub afterBytes : Course → List ℕ → Course
-afterBytes x [] = x
-afterBytes x (byte ∷ more) = afterBytes (afterByte x byte) more
+afterBytes = foldl afterByte
 
--- all that is said meanwhile
+-- all that steps say one after another, each from where those before it lead
+abbrev pub saidBy : {X A B : Type 0} → (X → A → X) → (X → A → List B) → X → List A → List B
+saidBy step says x [] = []
+saidBy step says x (a ∷ more) = says x a ++ saidBy step says (step x a) more
+
+-- all that bytes say
 unfoldable pub saidBytes : Course → List ℕ → Pieces
-saidBytes x [] = []
-saidBytes x (byte ∷ more) = saidByte x byte ++ saidBytes (afterByte x byte) more
+saidBytes = saidBy afterByte saidByte
 
 -- ---- The end of the input
 -- what an input's end says, by how it ends: in the middle of a line or a group it is a bad line
@@ -115,15 +118,17 @@ saidRead x input = cond (eqb (length input) 0) (saidAtEnd x) (saidBytes x input)
 abbrev pub written : Course → Course
 written x = record { house = x .house; reader = x .reader; waits = waiting (x .waits .buffer) 0; over = x .over }
 
+-- a read, and the answers to it written out
+abbrev pub writtenAfter : Course → List ℕ → Course
+writtenAfter x input = written (afterRead x input)
+
 -- reads one after another; the answers to each are written out before the next
 unfoldable pub afterReads : Course → List (List ℕ) → Course
-afterReads x [] = x
-afterReads x (input ∷ inputs) = afterReads (written (afterRead x input)) inputs
+afterReads = foldl writtenAfter
 
 -- all that is said meanwhile
 unfoldable pub saidReads : Course → List (List ℕ) → Pieces
-saidReads x [] = []
-saidReads x (input ∷ inputs) = saidRead x input ++ saidReads (written (afterRead x input)) inputs
+saidReads = saidBy writtenAfter saidRead
 
 -- ---- What the code hands back
 -- where tanks, a stand and a buffer are in a course
@@ -204,5 +209,4 @@ NoneEmpty (input ∷ inputs) = (0 < length input) × NoneEmpty inputs
 
 -- all that goes out: what is written out while a read's answers are put, then what waits at the end of the read
 unfoldable pub gone : Course → List (List ℕ) → List ℕ
-gone x [] = []
-gone x (input ∷ inputs) = sent (x .waits) (saidRead x input) ++ front (afterRead x input .waits) ++ gone (written (afterRead x input)) inputs
+gone = saidBy writtenAfter λ x input. sent (x .waits) (saidRead x input) ++ front (afterRead x input .waits)

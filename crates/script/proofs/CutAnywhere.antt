@@ -21,20 +21,20 @@ no-end-cons c cs e =
     ]
 
 -- bytes with no newline among them
-pub front-all : (a : List ℕ) → hasEnd a ≡ false → lineFront a ≡ a
+front-all : (a : List ℕ) → hasEnd a ≡ false → lineFront a ≡ a
 front-all [] e = front-none 10
 front-all (c ∷ cs) e = let n = no-end-cons c cs e in front-past 10 c cs (n .0) ∙ ap (λ (t : List ℕ). c ∷ t) (front-all cs (n .1))
 
-pub front-append : (a b : List ℕ) → hasEnd a ≡ false → lineFront (a ++ b) ≡ a ++ lineFront b
+front-append : (a b : List ℕ) → hasEnd a ≡ false → lineFront (a ++ b) ≡ a ++ lineFront b
 front-append [] b e = refl
 front-append (c ∷ cs) b e = let n = no-end-cons c cs e in front-past 10 c (cs ++ b) (n .0) ∙ ap (λ (t : List ℕ). c ∷ t) (front-append cs b (n .1))
 
-pub end-append : (a b : List ℕ) → hasEnd a ≡ false → hasEnd (a ++ b) ≡ hasEnd b
+end-append : (a b : List ℕ) → hasEnd a ≡ false → hasEnd (a ++ b) ≡ hasEnd b
 end-append [] b e = refl
 end-append (c ∷ cs) b e = let n = no-end-cons c cs e in held-past 10 c (cs ++ b) (n .0) ∙ end-append cs b (n .1)
 
 -- what is kept of a text, and more behind it
-pub take-kept : {A : Type 0} (n : ℕ) (x y : List A) → take n (take n x ++ y) ≡ take n (x ++ y)
+take-kept : {A : Type 0} (n : ℕ) (x y : List A) → take n (take n x ++ y) ≡ take n (x ++ y)
 take-kept n x y =
     elim (decLt (length x) n) [
       | yes h ↦ ap (λ (t : List _). take n (t ++ y)) (take-all n x (omega arith))
@@ -54,20 +54,31 @@ module _ (s : State) (a b : List ℕ) (none : hasEnd a ≡ false) where
       ∙ take-kept 65 (s .held ++ a) (lineFront b)
       ∙ ap (take 65) (append-assoc (s .held) a (lineFront b) ∙ ap (λ (t : List ℕ). s .held ++ t) (sym (front-append a b none)))
 
-  read-by : Bool → List ℕ → Read
-  read-by e t = cond e (lineOf (s .call) t) (record { call = s .call; progress = Progress.More })
+-- a function of what a line makes of the call and of the state after it
+module _ {A : Type 0} (f : Read → State → A) (s : State) where
+  -- by whether there is a newline, and by what is kept of the line
+  line-by : Bool → List ℕ → A
+  line-by e t =
+      let read : Read = cond e (lineOf (s .call) t) (record { call = s .call; progress = Progress.More }) in
+      f read (cond e (turnedOf (s .newlines) (read .progress) (read .call)) (record { held = t; call = s .call; newlines = s .newlines }))
 
+  -- a line counts by its bytes in front of the newline, and by whether there is one
+  pub same-line : (a b : List ℕ) → hasEnd a ≡ hasEnd b → lineFront a ≡ lineFront b → f (readOf s a) (afterOf s a) ≡ f (readOf s b) (afterOf s b)
+  unfolding afterOf line-by
+  same-line a b e g = ap₂ (λ (h : Bool) (t : List ℕ). line-by h (take 65 (s .held ++ t))) e g
+
+  -- it may be taken in two parts
+  pub line-cut : (a b : List ℕ) → hasEnd a ≡ false → f (readOf (afterOf s a) b) (afterOf (afterOf s a) b) ≡ f (readOf s (a ++ b)) (afterOf s (a ++ b))
+  unfolding afterOf line-by
+  line-cut a b none = ap (λ (t : State). f (readOf t b) (afterOf t b)) (after-part s a b none) ∙ ap₂ line-by (sym (end-append a b none)) (grown-append s a b none)
+
+module _ (s : State) (a b : List ℕ) (none : hasEnd a ≡ false) where
   pub read-cut : readOf (afterOf s a) b ≡ readOf s (a ++ b)
-  unfolding read-by
-  read-cut = ap (λ (t : State). readOf t b) after-part ∙ ap₂ read-by (sym (end-append a b none)) grown-append
+  read-cut = line-cut (λ q t. q) s a b none
 
   pub brings-cut : bringsOf (afterOf s a) b ≡ bringsOf s (a ++ b)
   unfolding bringsOf
-  brings-cut = ap (λ (q : Read). eventOf (q .progress)) read-cut
-
-  after-by : Bool → List ℕ → State
-  after-by e t = cond e (turnedOf (s .newlines) (read-by e t .progress) (read-by e t .call)) (record { held = t; call = s .call; newlines = s .newlines })
+  brings-cut = line-cut (λ q t. eventOf (q .progress)) s a b none
 
   pub after-cut : afterOf (afterOf s a) b ≡ afterOf s (a ++ b)
-  unfolding afterOf read-by after-by
-  after-cut = ap (λ (t : State). afterOf t b) after-part ∙ ap₂ after-by (sym (end-append a b none)) grown-append
+  after-cut = line-cut (λ q t. t) s a b none

@@ -16,7 +16,7 @@ use Rattle.script.specs.declared.Line.{Line}
 use Rattle.script.specs.Lines.{lineFront, heldOf, Keeps, holding, grownOf, pastLine, cutOf}
 
 -- ---- what is kept
-pub take-min : {A : Type 0} (n m : ℕ) (l : List A) → length l ≤ m → take (min n m) l ≡ take n l
+take-min : {A : Type 0} (n m : ℕ) (l : List A) → length l ≤ m → take (min n m) l ≡ take n l
 take-min n m l h =
     elim (decLt n m) [
       | yes k ↦ let e : min n m ≡ n = omega arith in ap (λ (j : ℕ). take j l) e
@@ -24,7 +24,7 @@ take-min n m l h =
     ]
 
 -- of two texts behind each other the front has all of the first and what there is room for of the second
-pub take-behind : {A : Type 0} (n : ℕ) (a b : List A) → length a ≤ n → take n (a ++ b) ≡ a ++ take (n - length a) b
+take-behind : {A : Type 0} (n : ℕ) (a b : List A) → length a ≤ n → take n (a ++ b) ≡ a ++ take (n - length a) b
 take-behind n a b h =
     let e : n ≡ length a + (n - length a) = omega arith in
     ap (λ (k : ℕ). take k (a ++ b)) e ∙ take-append-add a b (n - length a)
@@ -64,8 +64,8 @@ module _ (bytes : List ℕ) (from : ℕ) (line : Line) (end count more n : ℕ) 
   end-inside : end ≤ length bytes
   end-inside = front-inside 10 bytes from end is-end inside
 
-  line-cut : _≡_ {A = Line} (record { text = out; count = n }) (holding line (grownOf (heldOf line) (drop from bytes)))
-  line-cut =
+  line-grown : _≡_ {A = Line} (record { text = out; count = n }) (holding line (grownOf (heldOf line) (drop from bytes)))
+  line-grown =
       let is : more ≡ min (length (lineFront (drop from bytes))) (65 - count) = omega arith in
       let e = text-grown line (drop from bytes) count more keeps is out (is-out ∙ ap (λ (k : ℕ). put (line .text) count (take k (drop from bytes))) (add-sub-cancel-left from more)) in
       let f = is-n ∙ ap (λ (k : ℕ). count + length (take k (drop from bytes))) (add-sub-cancel-left from more) ∙ length-joined line (drop from bytes) count more keeps is in
@@ -75,13 +75,13 @@ module _ (bytes : List ℕ) (from : ℕ) (line : Line) (end count more n : ℕ) 
   cut-whole h =
       let e = sym (held-by-length 10 (drop from bytes) ∙ lt-ltb (length (lineFront (drop from bytes))) (length (drop from bytes)) (omega (arith, length-drop from bytes))) in
       let f : end + 1 ≡ pastLine bytes from = omega arith in
-      λ i. record { line = line-cut i; at = f i; whole = e i }
+      λ i. record { line = line-grown i; at = f i; whole = e i }
 
   pub cut-open : length bytes ≤ end → _≡_ {A = Cut} (record { line = record { text = out; count = n }; at = end; whole = false }) (cutOf bytes from line)
   cut-open h =
       let e = sym (held-by-length 10 (drop from bytes) ∙ le-ltb (length (lineFront (drop from bytes))) (length (drop from bytes)) (omega (arith, length-drop from bytes))) in
       let f : end ≡ pastLine bytes from = omega (arith, end-inside) in
-      λ i. record { line = line-cut i; at = f i; whole = e i }
+      λ i. record { line = line-grown i; at = f i; whole = e i }
 
 -- what is kept of a line is what was put at the front of its places
 pub held-holding : (l : Line) (t : List ℕ) → heldOf (holding l t) ≡ t

@@ -1,7 +1,7 @@
 -- Closed examples: what the definitions say of a few lines.
 use mathlib.Core.Path.{_≡_, refl}
 use mathlib.Core.Bool.{true}
-use mathlib.Core.List.{[], _++_}
+use mathlib.Core.List.{[], _++_, map}
 use lib.ListN.{replicate}
 use Rattle.text.specs.declared.Parsed.{Parsed}
 use Rattle.text.specs.Number.{allDigits, valueIn, numberIn, decimalOf}
@@ -14,94 +14,14 @@ use Rattle.script.specs.declared.Progress.{Progress}
 use Rattle.script.specs.declared.ReadOp.{ReadOp}
 use Rattle.script.specs.declared.ReadValue.{ReadValue}
 use Rattle.script.specs.declared.Reader.{Reader}
-use Rattle.script.specs.Grammar.{opName, spelling}
+use Rattle.script.specs.Grammar.{ops, opName, spelling}
 use Rattle.script.specs.Reading.{numberOf, opNamed, valueOf, freshOf, movedOf, heldLine, lineOf}
 use Rattle.script.specs.Lines.{emptyLine, holding, cutOf, readerAt, State, readOf, afterOf, readerAfter}
 
 -- every op is known by its name
-op-open : opNamed (opName Op.Open) ≡ ReadOp.Op Op.Open
+names-known : map (λ (o : Op). opNamed (opName o)) ops ≡ map ReadOp.Op ops
 unfolding opNamed sameOf startsOf
-op-open = refl
-
-op-annotate : opNamed (opName Op.Annotate) ≡ ReadOp.Op Op.Annotate
-unfolding opNamed sameOf startsOf
-op-annotate = refl
-
-op-insert : opNamed (opName Op.Insert) ≡ ReadOp.Op Op.Insert
-unfolding opNamed sameOf startsOf
-op-insert = refl
-
-op-delete : opNamed (opName Op.Delete) ≡ ReadOp.Op Op.Delete
-unfolding opNamed sameOf startsOf
-op-delete = refl
-
-op-remove : opNamed (opName Op.Remove) ≡ ReadOp.Op Op.Remove
-unfolding opNamed sameOf startsOf
-op-remove = refl
-
-op-length : opNamed (opName Op.Length) ≡ ReadOp.Op Op.Length
-unfolding opNamed sameOf startsOf
-op-length = refl
-
-op-touched : opNamed (opName Op.Touched) ≡ ReadOp.Op Op.Touched
-unfolding opNamed sameOf startsOf
-op-touched = refl
-
-op-runs : opNamed (opName Op.Runs) ≡ ReadOp.Op Op.Runs
-unfolding opNamed sameOf startsOf
-op-runs = refl
-
-op-value : opNamed (opName Op.Value) ≡ ReadOp.Op Op.Value
-unfolding opNamed sameOf startsOf
-op-value = refl
-
-op-haskey : opNamed (opName Op.HasKey) ≡ ReadOp.Op Op.HasKey
-unfolding opNamed sameOf startsOf
-op-haskey = refl
-
-op-allvalue : opNamed (opName Op.AllValue) ≡ ReadOp.Op Op.AllValue
-unfolding opNamed sameOf startsOf
-op-allvalue = refl
-
-op-same : opNamed (opName Op.Same) ≡ ReadOp.Op Op.Same
-unfolding opNamed sameOf startsOf
-op-same = refl
-
-op-marks : opNamed (opName Op.Marks) ≡ ReadOp.Op Op.Marks
-unfolding opNamed sameOf startsOf
-op-marks = refl
-
-op-inherit : opNamed (opName Op.Inherit) ≡ ReadOp.Op Op.Inherit
-unfolding opNamed sameOf startsOf
-op-inherit = refl
-
-op-mark : opNamed (opName Op.Mark) ≡ ReadOp.Op Op.Mark
-unfolding opNamed sameOf startsOf
-op-mark = refl
-
-op-inherited : opNamed (opName Op.Inherited) ≡ ReadOp.Op Op.Inherited
-unfolding opNamed sameOf startsOf
-op-inherited = refl
-
-op-stretches : opNamed (opName Op.Stretches) ≡ ReadOp.Op Op.Stretches
-unfolding opNamed sameOf startsOf
-op-stretches = refl
-
-op-stretchesneeded : opNamed (opName Op.StretchesNeeded) ≡ ReadOp.Op Op.StretchesNeeded
-unfolding opNamed sameOf startsOf
-op-stretchesneeded = refl
-
-op-whole : opNamed (opName Op.Whole) ≡ ReadOp.Op Op.Whole
-unfolding opNamed sameOf startsOf
-op-whole = refl
-
-op-wholeneeded : opNamed (opName Op.WholeNeeded) ≡ ReadOp.Op Op.WholeNeeded
-unfolding opNamed sameOf startsOf
-op-wholeneeded = refl
-
-op-anchors : opNamed (opName Op.Anchors) ≡ ReadOp.Op Op.Anchors
-unfolding opNamed sameOf startsOf
-op-anchors = refl
+names-known = refl
 
 -- a key has 16 bits, and another field's line is not taken for it
 most-key : numberOf Field.Key 65535 (bytes "key=65535") ≡ Parsed.Number 65535

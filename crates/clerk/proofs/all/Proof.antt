@@ -2,15 +2,13 @@
 use Prim.Native.Nat.{_-_, _≤_}
 use borrow.Author.Needs.{needs}
 use lib.ListN.{length}
-use mathlib.Core.Bool.{Bool, true≢false}
-use mathlib.Core.Path.{_≡_, ap, sym}
+use mathlib.Core.Bool.{true≢false}
+use mathlib.Core.Path.{_≡_, ap}
 use native.Mathlib.Omega.{arith}
-use Rattle.answers.specs.Waiting.{waiting}
-use Rattle.clerk.proofs.Ends.{leads-none, leads-as, leads-more, leads-on, runs-as}
-use Rattle.clerk.specs.Course.{Course, Leads, going}
+use Rattle.clerk.proofs.Ends.{leads-none, leads-as, leads-on, runs-as}
+use Rattle.clerk.specs.Course.{Leads, going}
 use Rattle.clerk.specs.declared.Stand.{Stand}
-use Rattle.script.specs.Lines.{stateOf}
-use Rattle.tanks.specs.Pool.{Sound, meaning}
+use Rattle.tanks.specs.Pool.{Sound}
 use Rattle.clerk.proofs.all.Statement.{statement}
 use Rattle.clerk.proofs.all.Tie as tie
 
@@ -37,8 +35,7 @@ returns : tie.Need-returns Inv-loop μ-loop
 returns c =
     let w = c .before .before .before .before .before .before .before .before .before .before .before .before .before .loop in
     let e = c .before .before .before .before .before .before .before .before .before .turn in
-    let over = ap {B = Course} (λ (b : Bool). record { house = meaning (e .result .tanks); reader = stateOf (e .result .stand .reader); waits = waiting (e .last .1 .1 .0) 0; over = b }) (sym (c .before .if1 .taken)) in
-    runs-as _ (e .ensures .sound) (c .standing .ensures) (leads-more _ (c .before .before .before .before .before .before .before .before .before .before .before .fresh .ensures) (w .inv .3) (e .ensures) over) (λ q. absurd (true≢false q))
+    runs-as _ (e .ensures .sound) (c .standing .ensures) (leads-on _ (c .before .before .before .before .before .before .before .before .before .before .before .fresh .ensures) (w .inv .3) (e .ensures) (c .before .if1 .taken)) (λ q. absurd (true≢false q))
 
 loop-less : tie.Need-loop-less Inv-loop μ-loop
 loop-less c = omega arith

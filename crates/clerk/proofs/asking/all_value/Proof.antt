@@ -4,10 +4,8 @@ use borrow.Author.Needs.{needs}
 use mathlib.Core.Path.{ap, _∙_}
 use Rattle.answers.proofs.Laws.{adds-as}
 use Rattle.answers.specs.Replies.{toldSays}
-use Rattle.ask.specs.Asks.{askAt}
+use Rattle.ask.specs.Asks.{allValueAsked}
 use Rattle.clerk.specs.Calls.{saysOf}
-use Rattle.questions.specs.Questions.{rangeHasKeyValue}
-use Rattle.questions.specs.declared.Told.{Told}
 use Rattle.script.specs.Args.{numberAt}
 use Rattle.tanks.specs.Pool.{meaning}
 use Rattle.clerk.proofs.asking.all_value.Statement.{statement}
@@ -17,7 +15,7 @@ returns : tie.Need-returns
 unfolding saysOf
 returns c =
     let a = c .before .before .before .before .before .before .before .before .args in
-    adds-as (ap toldSays (c .before .before .before .before .range-has-key-value .ensures ∙ ap (λ (k : ℕ). askAt (meaning (a .s)) (numberAt (a .call) 0) (Told.Refused 1) (rangeHasKeyValue (numberAt (a .call) 1) (numberAt (a .call) 2) k (a .call .value))) (c .before .before .before .before .before .key-of .ensures))) (c .before .before .put-told .ensures)
+    adds-as (ap toldSays (c .before .before .before .before .range-has-key-value .ensures ∙ ap (λ (k : ℕ). allValueAsked (meaning (a .s)) (numberAt (a .call) 0) (numberAt (a .call) 1) (numberAt (a .call) 2) k (a .call .value)) (c .before .before .before .before .before .key-of .ensures))) (c .before .before .put-told .ensures)
 
 pub all-value-spec : {M : Type 1} → statement M
 all-value-spec = tie.close (tie.spec (λ c. search needs) (λ c. search needs) (λ c. search needs) (λ c. search needs) (λ c κs. search needs) (λ c κs. search needs) (λ c κs. search needs) (λ c. search needs) returns)

@@ -1,13 +1,10 @@
 -- The answer of the call, as it says; the key is the number that was read.
-use Prim.Native.Nat.{ℕ}
 use borrow.Author.Needs.{needs}
 use mathlib.Core.Path.{ap, _∙_}
 use Rattle.answers.proofs.Laws.{adds-as}
 use Rattle.answers.specs.Replies.{toldSays}
-use Rattle.ask.specs.Asks.{askAt}
+use Rattle.ask.specs.Asks.{keyAsked}
 use Rattle.clerk.specs.Calls.{saysOf}
-use Rattle.questions.specs.Questions.{rangeContainsKey}
-use Rattle.questions.specs.declared.Told.{Told}
 use Rattle.script.specs.Args.{numberAt}
 use Rattle.tanks.specs.Pool.{meaning}
 use Rattle.clerk.proofs.asking.has_key.Statement.{statement}
@@ -17,7 +14,7 @@ returns : tie.Need-returns
 unfolding saysOf
 returns c =
     let a = c .before .before .before .before .before .before .before .before .args in
-    adds-as (ap toldSays (c .before .before .before .before .range-contains-key .ensures ∙ ap (λ (k : ℕ). askAt (meaning (a .s)) (numberAt (a .call) 0) (Told.Refused 1) (rangeContainsKey (numberAt (a .call) 1) (numberAt (a .call) 2) k)) (c .before .before .before .before .before .key-of .ensures))) (c .before .before .put-told .ensures)
+    adds-as (ap toldSays (c .before .before .before .before .range-contains-key .ensures ∙ ap (keyAsked (meaning (a .s)) (numberAt (a .call) 0) (numberAt (a .call) 1) (numberAt (a .call) 2)) (c .before .before .before .before .before .key-of .ensures))) (c .before .before .put-told .ensures)
 
 pub has-key-spec : {M : Type 1} → statement M
 has-key-spec = tie.close (tie.spec (λ c. search needs) (λ c. search needs) (λ c. search needs) (λ c. search needs) (λ c κs. search needs) (λ c κs. search needs) (λ c κs. search needs) (λ c. search needs) returns)

@@ -1,13 +1,10 @@
 -- The answer of the call, as it says; the key is the number that was read.
-use Prim.Native.Nat.{ℕ}
 use borrow.Author.Needs.{needs}
 use mathlib.Core.Path.{ap, _∙_}
 use Rattle.answers.proofs.Laws.{adds-as}
 use Rattle.answers.specs.Replies.{shownSays}
-use Rattle.ask.specs.Asks.{askAt}
+use Rattle.ask.specs.Asks.{valueAsked}
 use Rattle.clerk.specs.Calls.{saysOf}
-use Rattle.questions.specs.Questions.{valueAt}
-use Rattle.questions.specs.declared.Shown.{Shown}
 use Rattle.script.specs.Args.{numberAt}
 use Rattle.tanks.specs.Pool.{meaning}
 use Rattle.clerk.proofs.asking.value.Statement.{statement}
@@ -17,7 +14,7 @@ returns : tie.Need-returns
 unfolding saysOf
 returns c =
     let a = c .before .before .before .before .before .before .before .before .args in
-    adds-as (ap shownSays (c .before .before .before .value-at .ensures ∙ ap (λ (k : ℕ). askAt (meaning (a .s)) (numberAt (a .call) 0) (Shown.Refused 1) (valueAt (numberAt (a .call) 1) k)) (c .before .before .before .before .key-of .ensures))) (c .before .before .put-shown .ensures)
+    adds-as (ap shownSays (c .before .before .before .value-at .ensures ∙ ap (valueAsked (meaning (a .s)) (numberAt (a .call) 0) (numberAt (a .call) 1)) (c .before .before .before .before .key-of .ensures))) (c .before .before .put-shown .ensures)
 
 pub value-spec : {M : Type 1} → statement M
 value-spec = tie.close (tie.spec (λ c. search needs) (λ c. search needs) (λ c. search needs) (λ c κs. search needs) (λ c κs. search needs) (λ c κs. search needs) (λ c. search needs) returns)

@@ -1,8 +1,10 @@
 -- No such tank, too little room, or all of them.
 use borrow.Author.Needs.{needs}
+use borrow.Author.Tests.{lt-ltb, le-ltb}
+use mathlib.Core.Bool.{true, false}
 use native.Mathlib.Omega.{arith}
 use Rattle.answers.proofs.Laws.{adds-as}
-use Rattle.clerk.proofs.Lists.{anchors-1, counted, anchors-11, anchors-all}
+use Rattle.clerk.proofs.Lists.{anchors-1, counted, anchors-by}
 use Rattle.clerk.specs.Calls.{tankFor, saysOf}
 use Rattle.script.specs.Args.{numberAt}
 use Rattle.tanks.specs.Pool.{meaning}
@@ -15,11 +17,11 @@ returns c = let a = c .before .before .before .before .before .before .before .a
 
 returns-2 : tie.Need-returns-2
 unfolding saysOf
-returns-2 c = let a = c .before .before .before .before .before .before .before .before .before .before .args in let w = c .before .before .before .before .before in adds-as (anchors-11 (meaning (a .s)) (tankFor (a .call)) _ (c .before .before .before .before .before .before .before .if1 .left) (w .before .anchors-needed .ensures) (numberAt (a .call) 1) (omega (arith, w .wide .ensures, c .before .before .before .before .if2 .taken))) (c .before .before .refuse2 .ensures)
+returns-2 c = let a = c .before .before .before .before .before .before .before .before .before .before .args in let w = c .before .before .before .before .before in adds-as (anchors-by (meaning (a .s)) (tankFor (a .call)) _ (c .before .before .before .before .before .before .before .if1 .left) (w .before .anchors-needed .ensures) (numberAt (a .call) 1) true (lt-ltb (numberAt (a .call) 1) (w .before .anchors-needed .result .count) (omega (arith, w .wide .ensures, c .before .before .before .before .if2 .taken)))) (c .before .before .refuse2 .ensures)
 
 returns-3 : tie.Need-returns-3
 unfolding saysOf
-returns-3 c = let a = c .before .before .before .before .before .before .before .before .before .before .args in let w = c .before .before .before .before .before in adds-as (anchors-all (meaning (a .s)) (tankFor (a .call)) _ (c .before .before .before .before .before .before .before .if1 .left) (w .before .anchors-needed .ensures) (numberAt (a .call) 1) (omega (arith, w .wide .ensures, c .before .before .before .before .if2 .left))) (c .before .before .all-anchors .ensures)
+returns-3 c = let a = c .before .before .before .before .before .before .before .before .before .before .args in let w = c .before .before .before .before .before in adds-as (anchors-by (meaning (a .s)) (tankFor (a .call)) _ (c .before .before .before .before .before .before .before .if1 .left) (w .before .anchors-needed .ensures) (numberAt (a .call) 1) false (le-ltb (numberAt (a .call) 1) (w .before .anchors-needed .result .count) (omega (arith, w .wide .ensures, c .before .before .before .before .if2 .left)))) (c .before .before .all-anchors .ensures)
 
 -- the count that was answered is that of the tank
 all-anchors-requires : tie.Need-all-anchors-requires
