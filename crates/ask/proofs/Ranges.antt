@@ -14,7 +14,7 @@ use Rattle.runs.specs.Runs.{Run, total, setAt}
 use Rattle.runs.proofs.Laws.{at-in, at-last, at-past}
 use Rattle.runs.specs.Positions.{within}
 use Rattle.tank.proofs.ViewLaws.{range-in, range-before, range-past}
-use Rattle.styles.proofs.Cases.{cond-same, cond-by}
+use Rattle.laws.proofs.Cases.{cond-same, cond-by}
 use Rattle.ask.specs.Examples.{Range, on, marksAt}
 
 -- ---- the ranges of runs over a table, without those that carry nothing

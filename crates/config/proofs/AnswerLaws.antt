@@ -1,11 +1,11 @@
 -- Laws of answers: how a question's answer is read off, and that no two answers say the same. Assumes nothing.
 use mathlib.Core.Path.{_≡_, refl, ap, _∙_}
-use mathlib.Core.Bool.{Bool, true, false, cond}
 use mathlib.Core.List.{List}
 use mathlib.Core.Option.{Option, none, Option·map}
 use Prim.Native.Nat.{ℕ, _≤_, _<_}
 use lib.ListN.{length}
 use borrow.Author.Tests.{lt-ltb, le-ltb}
+use Rattle.laws.proofs.Cases.{cond-ap}
 use Rattle.config.specs.Names.{tooLong}
 use Rattle.config.specs.Answers.{Said, asked, said, saidFlag}
 use Rattle.config.specs.declared.Got.{Got}
@@ -22,15 +22,11 @@ module _ {A : Type 0} (k : List ℕ) (f : Option A) where
   pub asked-found : length k ≤ 32 → (o : Option A) → o ≡ f → record { refusal = 0; value = o } ≡ asked k f
   asked-found h o e = rw (le-ltb 32 (length k) h) (λ i. record { refusal = 0; value = e i })
 
-map-asked : {A B : Type 0} (g : A → B) (t : Bool) (f : Option A) → Option·map g (cond t none f) ≡ cond t none (Option·map g f)
-map-asked g true f = refl
-map-asked g false f = refl
-
 -- what is asked of a style is asked of what is made of it
 pub asked-map : {A B : Type 0} (g : A → B) (k : List ℕ) (f : Option A) (a : Said A) → a ≡ asked k f
     → record { refusal = a .refusal; value = Option·map g (a .value) } ≡ asked k (Option·map g f)
 asked-map {A = A} g k f a e =
-    λ i. record { refusal = e i .refusal; value = (ap (λ (x : Said A). Option·map g (x .value)) e ∙ map-asked g (tooLong k) f) i }
+    λ i. record { refusal = e i .refusal; value = (ap (λ (x : Said A). Option·map g (x .value)) e ∙ cond-ap (Option·map g) (tooLong k) none f) i }
 
 -- Two answers that say the same are one
 

@@ -3,13 +3,14 @@ use mathlib.Core.Path.{_≡_, refl, sym, ap, _∙_}
 use mathlib.Core.Bool.{true, false}
 use mathlib.Core.List.{List, [], _∷_, map, map-append}
 use mathlib.Core.Option.{none, some, orElse}
-use Prim.Native.Nat.{ℕ, zero, suc, _+_, _-_, _≤_, _<_}
+use Prim.Native.Nat.{ℕ, suc, _+_, _-_, _≤_, _<_}
 use native.Mathlib.Decide.{decLt, ℕ-discrete}
 use native.Mathlib.Numerals.{add-one}
 use native.Mathlib.Omega.{arith}
 use lib.ListN.{length, getD, take, drop, set, replicate, drop-of-length-le, length-map, length-set, List·getD-map, getD-replicate}
 use lib.Seq.{drop-cons, length-take-le, getD-take, getD-drop, getD-set-same, getD-set-other, take-set-lt, take-suc-set, drop-set-lt, drop-drop, ext-getD}
 use borrow.Author.Tests.{eq-eqb, ne-eqb}
+use Rattle.laws.proofs.Cases.{map-set}
 use Rattle.text.specs.Bytes.{sameOf}
 use Rattle.config.specs.Names.{holdsColon}
 use Rattle.config.specs.Table.{Named, Table, find, place, entered, refuses, withEntry, styleFor}
@@ -94,11 +95,6 @@ pub one-means : (t : Table) (m n : StyleConfigMap) → Means t m → Means t n �
 one-means t m n p q = one-map m n (p .sound) (q .sound) (p .means ∙ sym (q .means))
 
 -- An entry stored
-
-map-set : {A B : Type 0} (f : A → B) (l : List A) (i : ℕ) (a : A) → map f (set l i a) ≡ set (map f l) i (f a)
-map-set f [] i a = refl
-map-set f (x ∷ xs) zero a = refl
-map-set {B = B} f (x ∷ xs) (suc i) a = ap (λ (r : List B). f x ∷ r) (map-set f xs i a)
 
 named-entry : (k : List ℕ) (s : StyleConfig) → namedOf (entryOf k s) ≡ record { name = k; style = s }
 named-entry k s = λ i. record { name = name-entry k s i; style = s }

@@ -8,7 +8,7 @@ use native.Mathlib.Omega.{arith}
 use lib.ListN.{length, getD, set}
 use borrow.Author.Tests.{le-leb, lt-leb, lt-ltb, le-ltb}
 use Rattle.text.specs.Bytes.{sameOf}
-use Rattle.text.proofs.Cases.{cond-cases}
+use Rattle.laws.proofs.Cases.{cond-cases}
 use Rattle.text.proofs.Prefix.{same-true, same-flip}
 use Rattle.config.specs.Names.{tooLong, holdsColon}
 use Rattle.config.specs.Table.{Named, Table, known, find, place, entered, once, refuses}

@@ -11,7 +11,7 @@ use Rattle.richtext.specs.declared.ExpandType.{ExpandType}
 use Rattle.richtext.specs.declared.ExpandType.the-variants.{Before, After, Both, None}
 use Rattle.richtext.specs.declared.NamedType.{NamedType}
 use Rattle.richtext.specs.declared.NamedType.the-variants.{Is}
-use Rattle.text.proofs.Cases.{cond-cases}
+use Rattle.laws.proofs.Cases.{cond-cases}
 use Rattle.text.proofs.Prefix.{same-true}
 
 -- reverse twice is the identity

@@ -11,7 +11,7 @@ use lib.Count.{ones}
 use lib.Dec.{ltb, leb}
 use lib.ListN.{length, getD, set, take, drop, length-append, length-drop}
 use lib.Seq.{sets-eq, take-at, drop-append-add, drop-drop}
-use Rattle.styles.proofs.Cases.{cond-by}
+use Rattle.laws.proofs.Cases.{cond-by}
 use Rattle.runs.specs.Runs.{Run, run, runs, total}
 use Rattle.runs.specs.Positions.{stretch, asNumbers}
 use Rattle.runs.specs.Stretches.{entry, inFront}

@@ -1,7 +1,7 @@
 -- The marks that a tank carries, gathered from its positions, are those of all its sets together; and a mark clashes at some
 -- position where it clashes with these.
 use Prim.Native.Nat.{ℕ, zero, suc, _+_, _/_, _%_, _≤_, _<_}
-use mathlib.Core.Path.{_≡_, refl, sym, ap, ap₂, _∙_}
+use mathlib.Core.Path.{_≡_, refl, sym, ap, _∙_}
 use mathlib.Core.Bool.{Bool, true, false, _&&_, _||_, or-comm}
 use mathlib.Core.List.{List, [], _∷_}
 use native.Mathlib.Omega.{arith}
@@ -10,7 +10,7 @@ use borrow.Author.Tests.{le-leb}
 use Rattle.styles.specs.declared.Identity.{Identity}
 use Rattle.styles.specs.declared.Mark.{Mark}
 use Rattle.styles.specs.Order.{idOf, stands, sameId}
-use Rattle.styles.specs.Marks.{Sorted, member, eitherOf}
+use Rattle.styles.specs.Marks.{Sorted, member}
 use Rattle.styles.specs.Bits.{keepBit, pick}
 use Rattle.styles.proofs.OrderLaws.{is-same-of, same-eq}
 use Rattle.styles.proofs.PickLaws.{above-pick, not-member}

@@ -7,7 +7,7 @@ use native.Mathlib.Omega.{arith}
 use native.Mathlib.Decide.{ℕ-discrete}
 use lib.Dec.{ltb}
 use borrow.Author.Tests.{lt-ltb, le-ltb}
-use Rattle.styles.proofs.Cases.{cond-by}
+use Rattle.laws.proofs.Cases.{cond-by}
 use Rattle.styles.specs.declared.Mark.{Mark}
 use Rattle.styles.specs.Order.{idOf, sameId, stands}
 use Rattle.styles.specs.declared.Stand.the-variants.{Same}

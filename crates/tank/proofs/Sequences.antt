@@ -12,7 +12,7 @@ use Rattle.tank.specs.Rules.{View, freshLength, freshView, Edit, annotat
 use Rattle.runs.specs.Positions.{within}
 use Rattle.tank.specs.Lengths.{gained, lost, annotates}
 use Rattle.tank.proofs.ViewLaws.{view-ext}
-use Rattle.styles.proofs.Cases.{cond-same}
+use Rattle.laws.proofs.Cases.{cond-same}
 
 -- ---- calls on one tank in a row, refused ones among them
 -- a call on this tank: an edit, and whether it is granted where many tanks share the runs (refusals 9 and 10 are not this tank's own)

@@ -11,7 +11,7 @@ use lib.Count.{ones}
 use lib.ListN.{length, getD, take, replicate, length-append, length-replicate}
 use lib.Pow.{pow-mono, pow-pos}
 use lib.Seq.{take-at, getD-append-add}
-use Rattle.styles.proofs.Cases.{getD-blank}
+use Rattle.laws.proofs.Cases.{getD-blank}
 use Rattle.styles.specs.declared.Mark.{Mark}
 use Rattle.styles.specs.declared.Styles.{Styles}
 use Rattle.styles.specs.Answers.{stylesOf}

@@ -7,7 +7,7 @@ use native.Mathlib.Omega.{arith}
 use native.Mathlib.Decide.{decLe}
 use lib.Dec.{ltb}
 use borrow.Author.Tests.{lt-ltb, le-ltb, le-leb, lt-leb}
-use Rattle.styles.proofs.Cases.{cond-ap}
+use Rattle.laws.proofs.Cases.{cond-ap}
 use Rattle.styles.specs.declared.Identity.{Identity}
 use Rattle.styles.specs.declared.Mark.{Mark}
 use Rattle.styles.specs.Marks.{insertMark, removeMark}

@@ -8,7 +8,7 @@ use native.Mathlib.Omega.{arith}
 use lib.Dec.{eqb}
 use borrow.Author.Tests.{eqb-true, eqb-false, eq-eqb}
 use lib.ListN.{length, length-set, getD-replicate}
-use Rattle.styles.proofs.Cases.{cond-ap}
+use Rattle.laws.proofs.Cases.{cond-ap}
 use Rattle.tank.specs.Rules.{View, freshLength, freshView, runsHeld, Edit, annotating, inserting, deleting, removing, afterInsert, afterDelete, afterRemove, stripped, after, refusal, first}
 use Rattle.tank.specs.Lengths.{gained, lost, annotates}
 use Rattle.tank.proofs.Sequences as own

@@ -9,7 +9,7 @@ use lib.Dec.{ltb, eqb}
 use lib.ListN.{length, getD, set, replicate, List·getD-map}
 use lib.Pow.{pow-pos}
 use borrow.Author.Tests.{ltb-true, eqb-true}
-use Rattle.styles.proofs.Cases.{cond-by}
+use Rattle.laws.proofs.Cases.{cond-by, map-set}
 use Rattle.styles.specs.declared.Mark.{Mark}
 use Rattle.styles.specs.Marks.{Sorted}
 use Rattle.styles.specs.Bits.{pick}
@@ -116,11 +116,6 @@ all-set P d x (y ∷ l) zero h k zero = k
 all-set P d x (y ∷ l) zero h k (suc u) = h (suc u)
 all-set P d x (y ∷ l) (suc t) h k zero = h zero
 all-set P d x (y ∷ l) (suc t) h k (suc u) = all-set P d x l t (λ v. h (suc v)) k u
-
-map-set : {A B : Type 0} (f : A → B) (x : A) (l : List A) (t : ℕ) → set (map f l) t (f x) ≡ map f (set l t x)
-map-set f x [] t = refl
-map-set f x (y ∷ l) zero = refl
-map-set {B = B} f x (y ∷ l) (suc t) = ap (λ (m : List B). f y ∷ m) (map-set f x l t)
 
 own-zero : (b : Bool) (n m : ℕ) → cond b 1 (first n m) ≡ 0 → n ≡ 0
 own-zero true n m h = absurd (omega arith)
@@ -229,7 +224,7 @@ module _ (ms : List Mark) (sorted : Sorted ms) where
             go : (b : Bool) → eqb (numberAt st ms ks t e) 0 ≡ b → cond b (withTank h t (after e (tankAt h t))) h ≡ houseOn st ms (cond b (set ks t new) ks)
             go true z =
                 let m = moved (eqb-true (numberAt st ms ks t e) 0 z) in
-                λ i. record { settings = st; tanks = (ap (set (map (viewOn ms) ks) t) m ∙ map-set (viewOn ms) new ks t) i }
+                λ i. record { settings = st; tanks = (ap (set (map (viewOn ms) ks) t) m ∙ sym (map-set (viewOn ms) ks t new)) i }
             go false z = refl
 
       -- what the rules say of an edit that was tried

@@ -6,7 +6,7 @@ use mathlib.Core.List.{List, [], _∷_, map}
 use native.Mathlib.Omega.{arith}
 use lib.ListN.{length, take, set, replicate, getD-replicate, List·getD-append}
 use lib.Seq.{drop-cons, getD-append-add}
-use Rattle.styles.proofs.Cases.{getD-blank}
+use Rattle.laws.proofs.Cases.{getD-blank}
 use Rattle.styles.specs.Marks.{blank}
 use Rattle.runs.specs.Runs.{Spare}
 use Rattle.runs.specs.Positions.{sumBelow, allAt}

@@ -10,7 +10,7 @@ use borrow.Author.Tests.{leb-true, eqb-true, le-leb, lt-ltb, le-ltb, eqb-false, 
 use lib.ListN.{getD, length, set}
 use mathlib.Core.Logic.{_≢_}
 use lib.Seq.{getD-set-same, getD-set-other}
-use Rattle.styles.proofs.Cases.{cond-by}
+use Rattle.laws.proofs.Cases.{cond-by}
 use Rattle.tanks.specs.declared.Setting.{Setting}
 use Rattle.tanks.specs.declared.Head.{Head}
 use Rattle.tanks.specs.declared.Tanks.{Tanks}

@@ -5,7 +5,7 @@ use mathlib.Core.List.{List, _++_, map}
 use native.Mathlib.Omega.{arith}
 use lib.ListN.{length, getD, drop, replicate, length-append, length-drop, length-replicate, length-map, List·getD-map}
 use lib.Seq.{length-take-le, getD-take, getD-drop}
-use Rattle.styles.proofs.Cases.{getD-padding}
+use Rattle.laws.proofs.Cases.{getD-padding}
 use Rattle.tanks.specs.declared.Head.{Head}
 use Rattle.tanks.specs.declared.Run.{Run}
 use Rattle.tanks.specs.Pool.{noRun, runsIn, runsBelow, ownRuns, zeroFilled}

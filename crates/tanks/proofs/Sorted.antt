@@ -7,7 +7,7 @@ use native.Mathlib.Omega.{arith}
 use native.Mathlib.Decide.{decLt}
 use lib.Dec.{ltb, eqb}
 use lib.ListN.{length}
-use Rattle.styles.proofs.Cases.{cond-by}
+use Rattle.laws.proofs.Cases.{cond-by}
 use Rattle.styles.specs.Marks.{Sorted}
 use Rattle.styles.proofs.WalkLaws.{sorted-pick}
 use Rattle.styles.proofs.SetLaws.{sorted-insert, sorted-only}

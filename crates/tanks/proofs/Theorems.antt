@@ -9,7 +9,7 @@ use native.Mathlib.Decide.{decLt, decLe, ℕ-discrete}
 use borrow.Author.Tests.{ltb-false, leb-false, eq-eqb, ne-eqb}
 use lib.ListN.{length, replicate, length-set}
 use lib.Seq.{getD-set-same, getD-set-other}
-use Rattle.styles.proofs.Cases.{cond-by}
+use Rattle.laws.proofs.Cases.{cond-by}
 use Rattle.styles.specs.declared.Identity.{Identity}
 use Rattle.runs.specs.Positions.{sumBelow}
 use Rattle.runs.proofs.SumLaws.{sum-least}

@@ -18,7 +18,7 @@ use Rattle.text.specs.declared.Signed.{Signed}
 use Rattle.text.specs.declared.Size.{Size}
 use Rattle.text.specs.Number.{decimalOf, decimalText, put}
 use Rattle.text.specs.Signed.{plusOf, minusOf, signedOf, signedText, sizeOf}
-use Rattle.text.proofs.Cases.{cond-cases}
+use Rattle.laws.proofs.Cases.{cond-cases}
 use Rattle.text.proofs.Laws.{decimal-back, decimal-only, first-glyph}
 
 pub empty : (t : List ℕ) → length t < 1 → Signed.Bad ≡ signedOf t

@@ -1,4 +1,3 @@
-pub mod Cases
 pub mod Steps
 pub mod Laws
 pub mod Finding

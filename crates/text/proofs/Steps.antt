@@ -13,7 +13,7 @@ use borrow.Author.Tests.{lt-ltb, le-ltb, eq-eqb, ne-eqb}
 use Rattle.io.specs.Digits.{glyph}
 use Rattle.text.specs.declared.Parsed.{Parsed}
 use Rattle.text.specs.Number.{digitOf, isDigit, allDigits, valueIn, fitting, numberIn}
-use Rattle.text.proofs.Cases.{cond-cases}
+use Rattle.laws.proofs.Cases.{cond-cases}
 
 -- one digit more behind the number v
 abbrev pub stepOf : ℕ → ℕ → ℕ → Parsed

@@ -1,9 +1,9 @@
--- What this crate and those above it need of the library's `cond`, and of lists that are filled up with one thing.
+-- The library's `cond`, which chooses between two cases; lists that are filled up with one thing; a function over a list.
 use Prim.Native.Nat.{ℕ, zero, suc}
-use mathlib.Core.Path.{_≡_, refl}
+use mathlib.Core.Path.{_≡_, refl, ap}
 use mathlib.Core.Bool.{Bool, true, false, cond}
-use mathlib.Core.List.{List, [], _∷_, _++_}
-use lib.ListN.{getD, replicate}
+use mathlib.Core.List.{List, [], _∷_, _++_, map}
+use lib.ListN.{getD, set, replicate}
 
 -- ---- two cases
 -- what holds of each where it is chosen holds of the one that is chosen
@@ -34,3 +34,9 @@ pub getD-padding : {A : Type 0} (d : A) (n i : ℕ) (xs : List A) → getD (xs +
 getD-padding d n i [] = getD-blank d n i
 getD-padding d n zero (x ∷ xs) = refl
 getD-padding d n (suc i) (x ∷ xs) = getD-padding d n i xs
+
+-- ---- a function over a list
+pub map-set : {A B : Type 0} (f : A → B) (l : List A) (i : ℕ) (a : A) → map f (set l i a) ≡ set (map f l) i (f a)
+map-set f [] i a = refl
+map-set f (x ∷ xs) zero a = refl
+map-set {B = B} f (x ∷ xs) (suc i) a = ap (λ (r : List B). f x ∷ r) (map-set f xs i a)
