@@ -1,9 +1,9 @@
 -- What all crates need of the library's `cond`, and of lists that are filled up with one thing.
-use Prim.Native.Nat.{ℕ, zero, suc}
-use mathlib.Core.Path.{_≡_, refl}
+use Prim.Native.Nat.{ℕ, zero, suc, _≤_}
+use mathlib.Core.Path.{_≡_, refl, _∙_}
 use mathlib.Core.Bool.{Bool, true, false, cond}
 use mathlib.Core.List.{List, [], _∷_, _++_}
-use lib.ListN.{getD, replicate}
+use lib.ListN.{length, getD, replicate, List·getD-eq-default}
 
 -- ---- two cases
 -- what holds of both holds of the one that is chosen
@@ -31,3 +31,6 @@ pub getD-padding : {A : Type 0} (d : A) (n i : ℕ) (xs : List A) → getD (xs +
 getD-padding d n i [] = getD-blank d n i
 getD-padding d n zero (x ∷ xs) = refl
 getD-padding d n (suc i) (x ∷ xs) = getD-padding d n i xs
+
+pub getD-past : {A : Type 0} (d : A) (n i : ℕ) (xs : List A) → length xs ≤ i → getD (xs ++ replicate n d) i d ≡ d
+getD-past d n i xs h = getD-padding d n i xs ∙ List·getD-eq-default xs d h
