@@ -8,7 +8,7 @@ use native.Mathlib.Decide.{decLt}
 use lib.Bits.{or-zero-r}
 use lib.ListN.{getD, take}
 use lib.Pow.{pow-mono}
-use borrow.Author.Tests.{le-leb, lt-leb, ne-eqb}
+use borrow.Author.Tests.{le-leb, lt-leb}
 use Rattle.styles.specs.declared.Identity.{Identity}
 use Rattle.styles.specs.declared.Mark.{Mark}
 use Rattle.styles.specs.Order.{idOf}
