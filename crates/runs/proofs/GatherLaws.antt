@@ -18,17 +18,18 @@ use Rattle.runs.proofs.Laws.{at-in, at-last}
 use Rattle.runs.proofs.MapLaws.{AllSets, mapRuns}
 use Rattle.runs.proofs.EditLaws.{add-is, at-altered, altered-in, canon-altered, at-deleted, canon-deleted, at-inserted, inserted-before, inserted-after, canon-inserted}
 
--- ---- by its bits
+-- one run more
 pub gather-more : (lens sets : List ℕ) (k : ℕ) → gather (runs lens sets (k + 1)) ≡ bitOr (getD sets k 0) (gather (runs lens sets k))
 unfolding runs gather
 gather-more lens sets k = rw add-one
 
+-- ---- each set is in it
+-- what follows for each set from what holds of it
 pub all-sets-map : (P Q : ℕ → Type 0) → ((s : ℕ) → P s → Q s) → (rs : List Run) → AllSets P rs → AllSets Q rs
 unfolding AllSets
 all-sets-map P Q f [] a = tt
 all-sets-map P Q f (r ∷ rs) a = (f (r .set) (a .0), all-sets-map P Q f rs (a .1))
 
--- each set is within the union
 pub sets-within : (rs : List Run) → AllSets (λ s. bitAnd s (gather rs) ≡ s) rs
 unfolding AllSets gather
 sets-within [] = tt
@@ -39,7 +40,7 @@ sets-within (r ∷ rs) = (
       rs (sets-within rs),
 )
 
--- so is each position's, since what holds of the empty set and of each set holds at every position
+-- what holds of the empty set and of each set holds at every position
 pub all-at : (P : ℕ → Type 0) (rs : List Run) → P 0 → AllSets P rs → (p : ℕ) → P (setAt rs p)
 unfolding AllSets setAt
 all-at P [] z a p = z
@@ -51,7 +52,7 @@ set-within rs p = all-at (λ s. bitAnd s (gather rs) ≡ s) rs (and-zero-l (gath
 pub gather-digit : (rs : List Run) (p i : ℕ) → digit (setAt rs p) i ≤ digit (gather rs) i
 gather-digit rs p i = within-digit (setAt rs p) (gather rs) (set-within rs p) i
 
--- and nothing else is: a bit of it is at some position
+-- ---- and nothing else is: a bit of it is at some position
 pub gather-from : (rs : List Run) (i : ℕ) → Canon rs → digit (gather rs) i ≡ 1 → (p : ℕ) × (p < total rs) × (digit (setAt rs p) i ≡ 1)
 unfolding gather total Canon
 gather-from [] i c e = absurd (omega (arith, digit-none i))

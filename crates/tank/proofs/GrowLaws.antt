@@ -1,10 +1,11 @@
 -- New positions: what `grow` asks of the run edit, and what it then means.
-use Prim.Native.Nat.{ℕ, zero, suc, _+_, _-_, _≤_, _<_, _^_}
+use Prim.Native.Nat.{ℕ, zero, suc, _+_, _≤_, _<_, _^_}
 use mathlib.Core.Path.{_≡_, ap, _∙_, sym}
 use mathlib.Core.Bool.{true}
 use mathlib.Core.List.{List}
 use native.Mathlib.Omega.{arith}
 use native.Mathlib.Decide.{decLt}
+use native.Mathlib.Numerals.{sub-one}
 use lib.Bits.{bitAnd, and-zero-l, and-le-r}
 use lib.ListN.{length}
 use borrow.Author.Tests.{eq-eqb, ne-eqb}
@@ -24,7 +25,7 @@ use Rattle.runs.proofs.CountLaws.{inserted-runs}
 use Rattle.styles.proofs.Digits.{and-digit, digit-within}
 use Rattle.runs.proofs.EditLaws.{one-joined, inserted-joined, total-inserted, canon-inserted}
 use Rattle.runs.proofs.GatherLaws.{gather-digit, gather-inserted}
-use Rattle.runs.proofs.ScanLaws.{common-end, common-inside}
+use Rattle.runs.proofs.ScanLaws.{common-end}
 use Rattle.tank.specs.declared.Tank.{Tank}
 use Rattle.tank.specs.Rules.{inherited, afterInsert, forInsert}
 use Rattle.tank.specs.State.{runsOf, tableOf, viewOf, view, Laid}
@@ -41,27 +42,17 @@ common-there rs (suc p) =
     digit-within (bitAnd (setAt rs p) (setAt rs (suc p))) (gather rs)
     (λ i. omega (arith, and-digit (setAt rs p) (setAt rs (suc p)) i, gather-digit rs (suc p) i))
 
-module _ (rs : List Run) (pos : ℕ) (fits : pos ≤ total rs) where
-  -- and its marks are the inherited ones
-  pub common-inherited : (ms : List Mark) → Sorted ms → pick ms (commonAt rs pos) ≡ inherited pos (viewOf true (total rs) ms rs)
-  unfolding inherited commonAt
-  common-inherited ms sorted =
-      elim (decLt 0 pos) [
-        | yes h ↦
-            elim (decLt pos (total rs)) [
-              | yes k ↦
-                  let e = common-inside rs pos (λ q. omega arith) in
-                  let a = ne-eqb pos 0 (λ q. omega arith) in
-                  let b = ne-eqb pos (total rs) (λ q. omega arith) in
-                  rw (e, a, b) (pick-both ms (setAt rs (pos - 1)) (setAt rs pos) sorted)
-              | no k ↦
-                  let e = common-end rs pos (omega arith) in
-                  let a = ne-eqb pos 0 (λ q. omega arith) in
-                  let b = eq-eqb pos (total rs) (omega arith) in
-                  rw (e, a, b) (pick-none ms)
-            ]
-        | no h ↦ let e : pos ≡ 0 = omega arith in rw e (pick-none ms)
-      ]
+-- and its marks are the inherited ones
+pub common-inherited : (rs : List Run) (pos : ℕ) → pos ≤ total rs → (ms : List Mark) → Sorted ms
+    → pick ms (commonAt rs pos) ≡ inherited pos (viewOf true (total rs) ms rs)
+unfolding inherited commonAt
+common-inherited rs zero fits ms sorted = pick-none ms
+common-inherited rs (suc p) fits ms sorted =
+    let a = ne-eqb (suc p) 0 (λ q. omega arith) in
+    elim (decLt (suc p) (total rs)) [
+      | yes k ↦ rw (a, ne-eqb (suc p) (total rs) (λ q. omega arith), sub-one) (pick-both ms (setAt rs p) (setAt rs (suc p)) sorted)
+      | no k ↦ rw (a, common-end rs (suc p) (omega arith), eq-eqb (suc p) (total rs) (omega arith)) (pick-none ms)
+    ]
 
 -- what new positions at pos get
 pub common-small : {t : Tank} → Laid t → (pos : ℕ) → commonAt (runsOf t) pos < 2 ^ t .marks
