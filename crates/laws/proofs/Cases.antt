@@ -1,9 +1,9 @@
 -- The library's `cond`, which chooses between two cases; lists that are filled up with one thing; a function over a list.
-use Prim.Native.Nat.{ℕ, zero, suc}
-use mathlib.Core.Path.{_≡_, refl, ap}
+use Prim.Native.Nat.{ℕ, zero, suc, _≤_}
+use mathlib.Core.Path.{_≡_, refl, ap, _∙_}
 use mathlib.Core.Bool.{Bool, true, false, cond}
 use mathlib.Core.List.{List, [], _∷_, _++_, map}
-use lib.ListN.{getD, set, replicate}
+use lib.ListN.{length, getD, set, replicate, List·getD-eq-default}
 
 -- ---- two cases
 -- what holds of each where it is chosen holds of the one that is chosen
@@ -34,6 +34,9 @@ pub getD-padding : {A : Type 0} (d : A) (n i : ℕ) (xs : List A) → getD (xs +
 getD-padding d n i [] = getD-blank d n i
 getD-padding d n zero (x ∷ xs) = refl
 getD-padding d n (suc i) (x ∷ xs) = getD-padding d n i xs
+
+pub getD-past : {A : Type 0} (d : A) (n i : ℕ) (xs : List A) → length xs ≤ i → getD (xs ++ replicate n d) i d ≡ d
+getD-past d n i xs h = getD-padding d n i xs ∙ List·getD-eq-default xs d h
 
 -- ---- a function over a list
 pub map-set : {A B : Type 0} (f : A → B) (l : List A) (i : ℕ) (a : A) → map f (set l i a) ≡ set (map f l) i (f a)

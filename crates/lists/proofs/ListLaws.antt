@@ -8,7 +8,6 @@ use lib.ListN.{length, drop, take}
 use lib.Seq.{take-at}
 use borrow.Author.Tests.{lt-ltb, le-ltb, le-leb, lt-leb, ne-eqb}
 use Rattle.styles.proofs.CountLaws.{pick-length}
-use Rattle.styles.proofs.SameLaws.{same-pick}
 use Rattle.runs.specs.Runs.{setAt}
 use Rattle.runs.specs.Positions.{stretchesAt, asNumbers}
 use Rattle.runs.specs.Stretches.{alikeIn, marksIn, listed, inFront, CanList}
@@ -18,7 +17,7 @@ use Rattle.lists.specs.declared.Listed.{Listed}
 use Rattle.tank.specs.Rules.{View}
 use Rattle.tank.specs.State.{runsOf, tableOf, view, Laid}
 use Rattle.lists.specs.Lists.{stretchesOver, listOver, rangeList, rangeRefusal, listRefusal, unlessRefused, filledBeside, rangeNeeded}
-use Rattle.tank.proofs.Counted.{at-inside}
+use Rattle.tank.proofs.Counted.{at-inside, alike-at}
 use Rattle.tank.proofs.Shape.{can-look}
 use Rattle.tank.proofs.Unique.{inside-table}
 
@@ -28,10 +27,7 @@ module _ {t : Tank} (f : Laid t) where
   unfolding view
   over-is a b =
       at-ext _ _ _ _ a b
-      (λ p x y.
-      sym
-      (same-pick (tableOf t) (setAt (runsOf t) p) (setAt (runsOf t) (suc p)) (f .sorted) (at-inside (runsOf t) _ p (inside-table f))
-      (at-inside (runsOf t) _ (suc p) (inside-table f))))
+      (λ p x y. sym (alike-at (tableOf t) (runsOf t) (f .sorted) (inside-table f) p (suc p)))
       (λ p x y. sym (pick-length (tableOf t) (setAt (runsOf t) p) (at-inside (runsOf t) _ p (inside-table f))))
 
   module _ (least a b : ℕ) where

@@ -18,7 +18,6 @@ use Rattle.styles.proofs.Unique.{mask-only}
 use Rattle.styles.specs.Marks.{keyIs, valueIs, sameMarks, blank}
 use Rattle.styles.specs.Values.{valueNan}
 use Rattle.styles.proofs.MaskLaws.{has-key-bits, shows-bits, mask-less}
-use Rattle.styles.proofs.SameLaws.{same-pick}
 use Rattle.styles.proofs.UnionLaws.{pick-none}
 use Rattle.runs.specs.Runs.{setAt, sums}
 use Rattle.runs.specs.Positions.{anyAt, allAt}
@@ -33,7 +32,7 @@ use Rattle.questions.specs.declared.Told.the-variants as told
 use Rattle.tank.specs.Rules.{forInsert}
 use Rattle.tank.specs.State.{runsOf, tableOf, view, Formed}
 use Rattle.questions.specs.Questions.{toldOf, setOf, sharedOf, positionRefusal, insertRefusal, yesNoRefusal, yesNo, rangeContainsKey, rangeHasKeyValue, sameRefusal, agreeing, stylesOfRange}
-use Rattle.tank.proofs.Counted.{at-inside}
+use Rattle.tank.proofs.Counted.{at-inside, alike-at}
 use Rattle.tank.proofs.Shape.{can-look}
 use Rattle.tank.proofs.Unique.{table-length, inside-table}
 
@@ -155,13 +154,7 @@ module _ {t : Tank} (f : Formed t) where
   -- positions have one set where they have the same marks
   same-in : (a b : ℕ) → allAt (λ p. eqb (setAt (runsOf t) p) (setAt (runsOf t) a)) a b ≡ allAt (λ p. sameMarks ((view t) .at p) ((view t) .at a)) a b
   unfolding view
-  same-in a b =
-      let all = inside-table (f .laid) in
-      all-ext _ _ a b
-      (λ p g h.
-      sym
-      (same-pick (tableOf t) (setAt (runsOf t) p) (setAt (runsOf t) a) (f .laid .sorted)
-      (at-inside (runsOf t) _ p all) (at-inside (runsOf t) _ a all)))
+  same-in a b = all-ext _ _ a b (λ p g h. sym (alike-at (tableOf t) (runsOf t) (f .laid .sorted) (inside-table (f .laid)) p a))
 
   module _ (a b : ℕ) where
     pub shared-3 : b ≤ a → sharedOf 3 false [] ≡ stylesOfRange a b (view t)

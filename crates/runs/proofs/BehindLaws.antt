@@ -34,14 +34,15 @@ pub count-copy : (f : ℕ → ℕ) (lens sets lens′ sets′ : List ℕ) (n m f
 count-copy f lens sets lens′ sets′ n m from to rs c j =
     omega (arith, ap length (copied-is f (runs lens sets n) from to rs c j), length-runs lens sets n, length-runs lens′ sets′ m, copy-longer f (runs lens sets n) from to rs)
 
-drop-on : (n m : ℕ) (xs ys : List ℕ) → n ≤ m → drop n ys ≡ drop n xs → drop m ys ≡ drop m xs
-drop-on n m xs ys h e =
+-- what agrees behind n, by place
+behind-by : {A B : Type 0} (F : List A → ℕ → B) (n m : ℕ) (xs ys : List A) → ((l : List A) (k : ℕ) → F (drop n l) k ≡ F l (n + k)) → n ≤ m
+    → drop n ys ≡ drop n xs → F ys m ≡ F xs m
+behind-by F n m xs ys moved h e =
     let g : n + (m - n) ≡ m = omega arith in
-    ap (λ (k : ℕ). drop k ys) (sym g)
-    ∙ sym (drop-drop (m - n) n ys)
-    ∙ ap (drop (m - n)) e
-    ∙ drop-drop (m - n) n xs
-    ∙ ap (λ (k : ℕ). drop k xs) g
+    rw g at (sym (moved ys (m - n)) ∙ ap (λ l. F l (m - n)) e ∙ moved xs (m - n))
+
+drop-on : (n m : ℕ) (xs ys : List ℕ) → n ≤ m → drop n ys ≡ drop n xs → drop m ys ≡ drop m xs
+drop-on n m xs ys h e = behind-by (λ l k. drop k l) n m xs ys (λ l k. drop-drop k n l) h e
 
 pub behind-on : {lens sets lens′ sets′ lens″ sets″ : List ℕ} (n m : ℕ) → n ≤ m
     → SameBehind n lens sets lens′ sets′ → SameBehind m lens′ sets′ lens″ sets″ → SameBehind m lens sets lens″ sets″
@@ -49,20 +50,14 @@ behind-on {lens} {sets} {lens′} {sets′} n m h a b =
     record { lens-stay = b .lens-stay ∙ drop-on n m lens lens′ h (a .lens-stay); sets-stay = b .sets-stay ∙ drop-on n m sets sets′ h (a .sets-stay) }
 
 -- ---- place by place
-drop-at : (n i : ℕ) (xs ys : List ℕ) → n ≤ i → drop n ys ≡ drop n xs → getD ys i 0 ≡ getD xs i 0
-drop-at n i xs ys h e =
-    let g : n + (i - n) ≡ i = omega arith in
-    ap (λ (k : ℕ). getD ys k 0) (sym g)
-    ∙ sym (getD-drop n ys (i - n) 0)
-    ∙ ap (λ (l : List ℕ). getD l (i - n) 0) e
-    ∙ getD-drop n xs (i - n) 0
-    ∙ ap (λ (k : ℕ). getD xs k 0) g
+pub getD-behind : {A : Type 0} (d : A) (n i : ℕ) (xs ys : List A) → n ≤ i → drop n ys ≡ drop n xs → getD ys i d ≡ getD xs i d
+getD-behind d n i xs ys h e = behind-by (λ l k. getD l k d) n i xs ys (λ l k. getD-drop n l k d) h e
 
 -- blank places stay blank
 pub spare-behind : {lens sets lens′ sets′ : List ℕ} {n : ℕ} → Spare lens sets 0 → SameBehind n lens sets lens′ sets′ → Spare lens′ sets′ n
 unfolding Spare
 spare-behind {lens} {sets} {lens′} {sets′} {n} p e i h =
-    (drop-at n i lens lens′ h (e .lens-stay) ∙ p i (omega arith) .0, drop-at n i sets sets′ h (e .sets-stay) ∙ p i (omega arith) .1)
+    (getD-behind 0 n i lens lens′ h (e .lens-stay) ∙ p i (omega arith) .0, getD-behind 0 n i sets sets′ h (e .sets-stay) ∙ p i (omega arith) .1)
 
 -- equal runs, equal entries
 pub entries : (lens sets lens′ sets′ : List ℕ) (n : ℕ) → runs lens sets n ≡ runs lens′ sets′ n → (i : ℕ) → i < n
@@ -92,8 +87,8 @@ module _ (lens sets lens′ sets′ lens″ sets″ : List ℕ) (n m all : ℕ) 
         | yes h ↦ entries lens′ sets′ lens″ sets″ n (one-joined a b ∙ ap (runs lens″ sets″) (sym one-count)) i h
         | no h ↦
             let k : m ≤ i = omega (arith, one-count) in (
-              drop-at n i lens lens′ (omega arith) (p .lens-stay) ∙ sym (drop-at m i lens lens″ k (q .lens-stay)),
-              drop-at n i sets sets′ (omega arith) (p .sets-stay) ∙ sym (drop-at m i sets sets″ k (q .sets-stay)),
+              getD-behind 0 n i lens lens′ (omega arith) (p .lens-stay) ∙ sym (getD-behind 0 m i lens lens″ k (q .lens-stay)),
+              getD-behind 0 n i sets sets′ (omega arith) (p .sets-stay) ∙ sym (getD-behind 0 m i sets sets″ k (q .sets-stay)),
             )
       ]
 

@@ -7,11 +7,15 @@ use native.Mathlib.Decide.{decLe, ℕ-discrete}
 use lib.ListN.{length}
 use Rattle.runs.specs.Runs.{Run, run, total}
 use Rattle.runs.proofs.Copies.{pushRun, clip, copyRuns, adding, part, altered, deleted, inserted}
-use Rattle.runs.proofs.Laws.{push-none, push-join, push-new, push-by, length-push, length-copy}
+use Rattle.runs.proofs.Laws.{push-none, push-join, push-new, push-by, length-push}
 
 -- 1 where there is one at least, else 0
 ind : ℕ → ℕ
 ind x = min 1 x
+
+most-one : (x : ℕ) → ind x ≤ 1
+unfolding ind
+most-one x = omega arith
 
 -- how many runs of rs have a position in from .. to
 touched : ℕ → ℕ → List Run → ℕ
@@ -30,12 +34,12 @@ copied-runs f base from to (r ∷ rs) =
     omega (arith, copied-runs f base from to rs, length-push′ (copyRuns f base from to rs) (clip from to (total rs) (r .len)) (f (r .set)))
 
 touched-all : (from to : ℕ) (rs : List Run) → touched from to rs ≤ length rs
-unfolding touched ind
+unfolding touched
 touched-all from to [] = omega arith
-touched-all from to (r ∷ rs) = omega (arith, touched-all from to rs, one-at-most (clip from to (total rs) (r .len)))
-  where
-    one-at-most : (x : ℕ) → min 1 x ≤ 1
-    one-at-most x = omega arith
+touched-all from to (r ∷ rs) = omega (arith, touched-all from to rs, most-one (clip from to (total rs) (r .len)))
+
+pub length-copy : (f : ℕ → ℕ) (base : List Run) (from to : ℕ) (rs : List Run) → length (copyRuns f base from to rs) ≤ length base + length rs
+length-copy f base from to rs = omega (arith, copied-runs f base from to rs, touched-all from to rs)
 
 -- a cut at mid of one run
 module _ (from mid to t l : ℕ) (up : from ≤ mid) (up′ : mid ≤ to) where
@@ -85,10 +89,6 @@ touched-cut from mid to up up′ (r ∷ rs) =
     omega (arith, touched-cut from mid to up up′ rs, cut from mid to (total rs) (r .len) up up′)
 
 -- ---- the edits
-most-one : (x : ℕ) → ind x ≤ 1
-unfolding ind
-most-one x = omega arith
-
 module _ (rs : List Run) (a b : ℕ) (up : a ≤ b) (fits : b ≤ total rs) where
   pub altered-runs : (f : ℕ → ℕ) → length (altered rs a b f) ≤ length rs + 2
   unfolding altered

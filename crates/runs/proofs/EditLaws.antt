@@ -94,13 +94,7 @@ module _ (f : ℕ → ℕ) (base : List Run) (from to : ℕ) (rs : List Run) (c 
       record {
         canon = canon-copy f base from to rs c;
         all = total-copy f base from to rs;
-        sets = λ p h.
-            elim (decLt p (total base)) [
-              | yes k ↦ simp (lt-ltb p (total base) k) (copy-before f base from to rs p k)
-              | no k ↦
-                  simp (le-ltb p (total base) (omega arith))
-                  (copy-to f base from to rs p (from + (p - total base)) (omega arith) (omega arith) (omega arith) (omega arith))
-            ];
+        sets = λ p h. rw (lt-ltb p _ h) at (at-copy f base from to rs p);
       }
 
   pub copied-is : {out : List Run} → Appended base (min to (total rs) - from) (λ q. f (setAt rs (from + q))) out

@@ -3,7 +3,7 @@ use Prim.Native.Nat.{ℕ, zero, suc, _+_, _-_, _≤_, _<_, _^_, min}
 use mathlib.Core.Path.{_≡_, refl, sym, ap, _∙_, subst}
 use mathlib.Core.List.{List, [], _∷_}
 use native.Mathlib.Omega.{arith}
-use native.Mathlib.Decide.{decLt, decLe, ℕ-discrete}
+use native.Mathlib.Decide.{decLt, ℕ-discrete}
 use native.Mathlib.Numerals.{add-one, sub-one}
 use lib.ListN.{length, getD, set}
 use lib.Seq.{getD-set-same, getD-set-other}
@@ -11,7 +11,7 @@ use borrow.Author.Tests.{lt-ltb, le-ltb, eq-eqb, ne-eqb}
 use Rattle.runs.specs.Positions.{sumBelow}
 use Rattle.runs.specs.Runs.{Run, run, runs, total, setAt, Other, Canon, sums, Found}
 use Rattle.runs.proofs.Copies.{joinRun, pushRun, clip, copyRuns}
-use Rattle.runs.proofs.SumLaws.{sum-more, sum-up}
+use Rattle.runs.proofs.SumLaws.{rising, sum-up, sum-next}
 
 -- ---- the three forms of a push
 pub push-none : (rs : List Run) (l s : ℕ) → l ≡ 0 → pushRun rs l s ≡ rs
@@ -115,24 +115,18 @@ unfolding runs
 runs-last lens sets zero h = absurd (omega arith)
 runs-last lens sets (suc n) h = rw sub-one refl
 
--- an entry from n on is in none of the first n runs
-pub runs-set-len : (lens sets : List ℕ) (n i v : ℕ) → n ≤ i → runs (set lens i v) sets n ≡ runs lens sets n
+-- lists that agree in the first n entries
+runs-ext : (lens sets lens′ sets′ : List ℕ) (n : ℕ) → ((j : ℕ) → j < n → getD lens′ j 0 ≡ getD lens j 0)
+    → ((j : ℕ) → j < n → getD sets′ j 0 ≡ getD sets j 0) → runs lens′ sets′ n ≡ runs lens sets n
 unfolding runs
-runs-set-len lens sets zero i v h = refl
-runs-set-len lens sets (suc n) i v h =
-    let e = runs-set-len lens sets n i v (omega arith) in
-    let g = getD-set-other lens i n v 0 (omega arith) in
+runs-ext lens sets lens′ sets′ zero l s = refl
+runs-ext lens sets lens′ sets′ (suc n) l s =
+    let e = runs-ext lens sets lens′ sets′ n (λ j h. l j (omega arith)) (λ j h. s j (omega arith)) in
+    let a = l n (omega arith) in
+    let b = s n (omega arith) in
     cc
 
-pub runs-set-set : (lens sets : List ℕ) (n i v : ℕ) → n ≤ i → runs lens (set sets i v) n ≡ runs lens sets n
-unfolding runs
-runs-set-set lens sets zero i v h = refl
-runs-set-set lens sets (suc n) i v h =
-    let e = runs-set-set lens sets n i v (omega arith) in
-    let g = getD-set-other sets i n v 0 (omega arith) in
-    cc
-
--- ---- a copy: how many positions, the set at each, the form, the number of runs
+-- ---- a copy: how many positions, the set at each, the form
 module _ (f : ℕ → ℕ) (base : List Run) (from to : ℕ) where
   pub total-copy : (src : List Run) → total (copyRuns f base from to src) ≡ total base + (min to (total src) - from)
   unfolding copyRuns total
@@ -166,12 +160,6 @@ module _ (f : ℕ → ℕ) (base : List Run) (from to : ℕ) where
   unfolding copyRuns
   canon-copy [] h = h
   canon-copy (r ∷ rs) h = canon-push (copyRuns f base from to rs) (clip from to (total rs) (r .len)) (f (r .set)) (canon-copy rs h)
-
-  pub length-copy : (src : List Run) → length (copyRuns f base from to src) ≤ length base + length src
-  unfolding copyRuns
-  length-copy [] = omega arith
-  length-copy (r ∷ rs) =
-      omega (arith, length-push (copyRuns f base from to rs) (clip from to (total rs) (r .len)) (f (r .set)), length-copy rs)
 
 -- ---- a canonical list is determined by its meaning
 no-less : (x y : Run) (xs ys : List Run) → Canon (y ∷ ys) → total xs + x .len ≡ total ys + y .len → x .set ≡ y .set
@@ -233,7 +221,7 @@ module _ (lens sets : List ℕ) (n l s : ℕ) where
       let r = runs-last lens sets n p in
       let r′ = runs-last (set lens (n - 1) v) sets n p in
       let g = getD-set-same lens (n - 1) v 0 (omega arith) in
-      let k = runs-set-len lens sets (n - 1) (n - 1) v (omega arith) in
+      let k = runs-ext lens sets (set lens (n - 1) v) sets (n - 1) (λ j q. getD-set-other lens (n - 1) j v 0 (omega arith)) (λ j q. refl) in
       rw r (rw (push-join (run (getD lens (n - 1) 0) (getD sets (n - 1) 0)) (runs lens sets (n - 1)) l s nz e) (cc))
 
   pub store-new : n < length lens → n < length sets → (l ≡ 0 → ⊥) → Other s (runs lens sets n)
@@ -242,8 +230,7 @@ module _ (lens sets : List ℕ) (n l s : ℕ) where
   store-new h h′ nz o =
       let a = getD-set-same lens n l 0 h in
       let b = getD-set-same sets n s 0 h′ in
-      let c = runs-set-len lens (set sets n s) n n l (omega arith) in
-      let d = runs-set-set lens sets n n s (omega arith) in
+      let c = runs-ext lens sets (set lens n l) (set sets n s) n (λ j q. getD-set-other lens n j l 0 (omega arith)) (λ j q. getD-set-other sets n j s 0 (omega arith)) in
       rw (add-one, push-new (runs lens sets n) l s nz o) (cc)
 
 -- ---- the runs hold as many positions as their lengths sum up to
@@ -275,12 +262,9 @@ module _ (lens sets : List ℕ) where
   pub copy-grows : (f : ℕ → ℕ) (base : List Run) (from to k m : ℕ) → k ≤ m
       → length (copyRuns f base from to (runs lens sets k)) ≤ length (copyRuns f base from to (runs lens sets m))
   unfolding runs copyRuns
-  copy-grows f base from to k zero h = let e : k ≡ 0 = omega arith in rw e (omega arith)
-  copy-grows f base from to k (suc m) h =
-      elim (decLe k m) [
-        | yes g ↦ omega (arith, copy-grows f base from to k m g, push-longer (copyRuns f base from to (runs lens sets m)) (clip from to (total (runs lens sets m)) (getD lens m 0)) (f (getD sets m 0)))
-        | no g ↦ let e : k ≡ suc m = omega arith in rw e (omega arith)
-      ]
+  copy-grows f base from to k m h =
+      rising (λ i. length (copyRuns f base from to (runs lens sets i)))
+      (λ i. push-longer (copyRuns f base from to (runs lens sets i)) (clip from to (total (runs lens sets i)) (getD lens i 0)) (f (getD sets i 0))) k m h
 
   pub copy-holds : (f : ℕ → ℕ) (base : List Run) (from to k m : ℕ) → k ≤ m
       → total (copyRuns f base from to (runs lens sets k)) ≤ total (copyRuns f base from to (runs lens sets m))
@@ -291,7 +275,7 @@ module _ (lens sets : List ℕ) where
 found-le : (lens : List ℕ) (n pos i start j start′ : ℕ) → Found lens n pos i start → Found lens n pos j start′ → i < j → ⊥
 found-le lens n pos i start j start′ f g h =
     let below = f .inside (omega arith) in
-    omega (arith, sum-more (λ k. getD lens k 0) i, sum-up (λ k. getD lens k 0) (i + 1) j (omega arith))
+    omega (arith, sum-next (λ k. getD lens k 0) i j h)
 
 pub found-index : (lens : List ℕ) (n pos i start j start′ : ℕ) → Found lens n pos i start → Found lens n pos j start′ → i ≡ j
 found-index lens n pos i start j start′ f g =
@@ -308,7 +292,7 @@ found-set lens sets (suc n) pos i start f h =
     let s = total-sums lens sets n in
     elim (decLt i n) [
       | yes g ↦
-          at-in (run (getD lens n 0) (getD sets n 0)) (runs lens sets n) pos (omega (arith, sum-more (λ k. getD lens k 0) i, sum-up (λ k. getD lens k 0) (i + 1) n (omega arith)))
+          at-in (run (getD lens n 0) (getD sets n 0)) (runs lens sets n) pos (omega (arith, sum-next (λ k. getD lens k 0) i n g))
           ∙ found-set lens sets n pos i start (record { within = omega arith; starts = f .starts; reached = f .reached; inside = λ _. below }) g
       | no g ↦
           let e : i ≡ n = omega arith in

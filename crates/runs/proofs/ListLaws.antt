@@ -1,10 +1,10 @@
 -- The stretches of a range as numbers: what one run more adds.
 use Prim.Native.Nat.{ℕ, zero, suc, _+_, _*_, _≤_, _<_, min, max}
-use mathlib.Core.Path.{_≡_, refl, sym, ap, _∙_}
+use mathlib.Core.Path.{_≡_, refl, sym, _∙_}
 use mathlib.Core.Bool.{Bool, true, false, cond, _&&_}
 use mathlib.Core.List.{List, [], _∷_, _++_, append-assoc, append-nil}
 use native.Mathlib.Omega.{arith}
-use native.Mathlib.Decide.{decLt, decLe}
+use native.Mathlib.Decide.{decLt}
 use native.Mathlib.Numerals.{add-one}
 use borrow.Author.Tests.{lt-ltb, le-ltb, le-leb, lt-leb}
 use lib.Count.{ones}
@@ -16,6 +16,7 @@ use Rattle.runs.specs.Runs.{Run, run, runs, total}
 use Rattle.runs.specs.Positions.{stretch, asNumbers}
 use Rattle.runs.specs.Stretches.{entry, inFront}
 use Rattle.runs.proofs.Clipped.{clipped, clippedList}
+use Rattle.runs.proofs.SumLaws.{rising}
 
 -- ---- the numbers of one run
 pub entry-past : (least a b c : ℕ) → b ≤ a → entry least a b c ≡ []
@@ -63,28 +64,19 @@ module _ (least from to : ℕ) (lens sets : List ℕ) where
   unfolding runs
   clipped-more k = rw add-one (numbers-more least from to (run (getD lens k 0) (getD sets k 0)) (runs lens sets k))
 
+  pub clipped-length : {start : ℕ} (k : ℕ) → start ≡ total (runs lens sets k) → length (clippedList least from to lens sets (k + 1))
+      ≡ length (clippedList least from to lens sets k) + length (entry least (max from start) (min to (start + getD lens k 0)) (ones (getD sets k 0)))
+  clipped-length k e = rw (e, clipped-more k, length-append)
+
   pub clipped-grows : (k n : ℕ) → k ≤ n → length (clippedList least from to lens sets k) ≤ length (clippedList least from to lens sets n)
-  clipped-grows k zero h = let e : k ≡ 0 = omega arith in rw e (omega arith)
-  clipped-grows k (suc n) h =
-      elim (decLe k n) [
-        | yes g ↦
-            let e = ap length (clipped-more n) in
-            let a = length-append (clippedList least from to lens sets n) (entry least (max from (total (runs lens sets n))) (min to (total (runs lens sets n) + getD lens n 0)) (ones (getD sets n 0))) in
-            rw (← add-one n) (omega (arith, clipped-grows k n g))
-        | no g ↦ let e : k ≡ suc n = omega arith in rw e (omega arith)
-      ]
+  clipped-grows k n h = rising (λ i. length (clippedList least from to lens sets i)) (λ i. rw (← add-one i) (omega (arith, clipped-length i refl))) k n h
 
   pub clipped-most : (n : ℕ) → length (clippedList least from to lens sets n) ≤ 3 * n
   unfolding runs clipped asNumbers
   clipped-most zero = omega arith
   clipped-most (suc n) =
-      omega (
-        arith,
-        clipped-most n,
-        ap length (numbers-more least from to (run (getD lens n 0) (getD sets n 0)) (runs lens sets n)),
-        length-append (clippedList least from to lens sets n) (entry least (max from (total (runs lens sets n))) (min to (total (runs lens sets n) + getD lens n 0)) (ones (getD sets n 0))),
-        entry-most least (max from (total (runs lens sets n))) (min to (total (runs lens sets n) + getD lens n 0)) (ones (getD sets n 0)),
-      )
+      let m = entry-most least (max from (total (runs lens sets n))) (min to (total (runs lens sets n) + getD lens n 0)) (ones (getD sets n 0)) in
+      omega (arith, clipped-most n, rw (add-one n) at (clipped-length n refl))
 
 -- ---- the front of a buffer, and numbers written behind it
 pub front-write : (xs es out : List ℕ) → length xs + length es ≤ length out

@@ -1,6 +1,6 @@
 -- A renumbering of sets in place: the runs stay as they are, and every position's set is changed.
 use Prim.Native.Nat.{ℕ, zero, suc, _+_, _<_}
-use mathlib.Core.Path.{_≡_, refl, sym, ap, ap₂, _∙_, subst}
+use mathlib.Core.Path.{_≡_, refl, sym, ap₂, _∙_, subst}
 use mathlib.Core.List.{List, [], _∷_}
 use native.Mathlib.Omega.{arith}
 use native.Mathlib.Decide.{decLt}
@@ -8,7 +8,7 @@ use lib.ListN.{length, getD, set, length-set}
 use lib.Seq.{getD-set-same, getD-set-other}
 use Rattle.runs.specs.Runs.{Run, run, runs, total, setAt, Other, Canon, Spare}
 use Rattle.runs.specs.Gather.{Renumbered}
-use Rattle.runs.proofs.Laws.{at-in, at-last, at-past}
+use Rattle.laws.proofs.Cases.{cond-ap}
 
 -- each set is one of which P holds
 unfoldable pub AllSets : (ℕ → Type 0) → List Run → Type 0
@@ -26,24 +26,11 @@ module _ (f : ℕ → ℕ) where
   total-map [] = refl
   total-map (r ∷ rs) = omega (arith, total-map rs)
 
-  pub at-map-in : (rs : List Run) (p : ℕ) → p < total rs → setAt (mapRuns f rs) p ≡ f (setAt rs p)
-  unfolding mapRuns total
-  at-map-in [] p h = absurd (omega arith)
-  at-map-in (r ∷ rs) p h =
-      let t = total-map rs in
-      elim (decLt p (total rs)) [
-        | yes k ↦ at-in (run (r .len) (f (r .set))) (mapRuns f rs) p (omega arith) ∙ at-map-in rs p k ∙ ap f (sym (at-in r rs p k))
-        | no k ↦ at-last (run (r .len) (f (r .set))) (mapRuns f rs) p (omega arith) (omega arith) ∙ ap f (sym (at-last r rs p (omega arith) h))
-      ]
-
   -- where the empty set stays empty, also past the end
-  module _ (none : f 0 ≡ 0) where
-    pub at-map : (rs : List Run) (p : ℕ) → setAt (mapRuns f rs) p ≡ f (setAt rs p)
-    at-map rs p =
-        elim (decLt p (total rs)) [
-          | yes h ↦ at-map-in rs p h
-          | no h ↦ at-past (mapRuns f rs) p (omega (arith, total-map rs)) ∙ sym none ∙ ap f (sym (at-past rs p (omega arith)))
-        ]
+  pub at-map : f 0 ≡ 0 → (rs : List Run) (p : ℕ) → setAt (mapRuns f rs) p ≡ f (setAt rs p)
+  unfolding mapRuns setAt
+  at-map none [] p = sym none
+  at-map none (r ∷ rs) p = rw (total-map rs, at-map none rs p, cond-ap f, cond-ap f, none)
 
   -- different sets stay different
   module _ (P : ℕ → Type 0) (tells : (x y : ℕ) → P x → P y → f x ≡ f y → x ≡ y) where

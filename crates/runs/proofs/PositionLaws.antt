@@ -6,15 +6,16 @@ use mathlib.Core.List.{List, [], _∷_}
 use native.Mathlib.Omega.{arith}
 use native.Mathlib.Decide.{decLt, decLe}
 use native.Mathlib.Numerals.{sub-one}
-use borrow.Author.Tests.{lt-ltb, le-ltb, le-leb, lt-leb, eq-eqb, ne-eqb}
+use borrow.Author.Tests.{lt-ltb, le-ltb, le-leb, lt-leb}
 use lib.Count.{ones}
 use lib.Dec.{eqb}
 use lib.ListN.{length}
-use Rattle.runs.specs.Runs.{Run, runs, total, setAt, Other, Canon}
+use Rattle.runs.specs.Runs.{Run, runs, total, Canon}
 use Rattle.runs.specs.Positions.{Stretch, stretch, extended, stretchesAt, asNumbers}
 use Rattle.runs.specs.Stretches.{alikeIn, marksIn, listed, CanList}
 use Rattle.runs.proofs.Clipped.{clipped, clippedList, Fits}
 use Rattle.runs.proofs.Laws.{at-in, at-last}
+use Rattle.runs.proofs.StretchLaws.{edge, within-alike}
 
 stretch-eq : (a a′ b b′ c c′ : ℕ) (xs ys : List Stretch) → a ≡ a′ → b ≡ b′ → c ≡ c′ → xs ≡ ys → stretch a b c ∷ xs ≡ stretch a′ b′ c′ ∷ ys
 stretch-eq a a′ b b′ c c′ xs ys e f g h = λ i. stretch (e i) (f i) (g i) ∷ h i
@@ -54,7 +55,7 @@ at-ext alike alike′ count count′ from (suc p) h g =
     first a b p c = refl
 
 -- ---- the clipped runs
-clipped-none : (from to : ℕ) (rs : List Run) → total rs ≤ from → clipped from to rs ≡ []
+clipped-none : (from to : ℕ) (rs : List Run) → min to (total rs) ≤ from → clipped from to rs ≡ []
 unfolding clipped total
 clipped-none from to [] h = refl
 clipped-none from to (r ∷ rs) h =
@@ -83,17 +84,6 @@ clipped-end from to to′ (r ∷ rs) h g =
     rw (x, y, i)
 
 -- ---- the positions of the last run, one by one
--- its first one is not like the one before it
-edge : (r : Run) (rs : List Run) (n : ℕ) → Canon (r ∷ rs) → total rs ≡ suc n → alikeIn (r ∷ rs) n ≡ false
-unfolding Canon Other total
-edge r [] n c e = absurd (omega arith)
-edge r (z ∷ zs) n c e =
-    let pos = c .2 .0 in
-    let here = c .0 in
-    let a : setAt (r ∷ z ∷ zs) n ≡ z .set = at-in r (z ∷ zs) n (omega arith) ∙ at-last z zs n (omega arith) (omega arith) in
-    let b : setAt (r ∷ z ∷ zs) (suc n) ≡ r .set = at-last r (z ∷ zs) (suc n) (omega arith) (omega arith) in
-    ne-eqb (setAt (r ∷ z ∷ zs) n) (setAt (r ∷ z ∷ zs) (suc n)) (λ x. c .1 (sym a ∙ x ∙ b))
-
 -- a stretch begins where nothing is before it or what is before it is not alike
 begins : (t : Bool) (p c : ℕ) (xs : List Stretch) → (t ≡ true → xs ≡ []) → extended t p c xs ≡ stretch p (suc p) c ∷ xs
 unfolding extended
@@ -107,10 +97,6 @@ goes-on p c d a b t xs e = simp e
 
 module _ (from : ℕ) (r : Run) (rs : List Run) (canon : Canon (r ∷ rs))
     (before : clipped from (total rs) rs ≡ stretchesAt (alikeIn (r ∷ rs)) (marksIn (r ∷ rs)) from (total rs)) where
-  within-alike : (p : ℕ) → total rs ≤ p → suc p < total rs + r .len → alikeIn (r ∷ rs) p ≡ true
-  within-alike p a b =
-      eq-eqb (setAt (r ∷ rs) p) (setAt (r ∷ rs) (suc p)) (at-last r rs p a (omega arith) ∙ sym (at-last r rs (suc p) (omega arith) b))
-
   counted : (p : ℕ) → total rs ≤ p → p < total rs + r .len → marksIn (r ∷ rs) p ≡ ones (r .set)
   counted p a b = ap ones (at-last r rs p a b)
 
@@ -137,22 +123,16 @@ module _ (from : ℕ) (r : Run) (rs : List Run) (canon : Canon (r ∷ rs))
       ∙ elim (decLt from p) [
         | yes k ↦
             ap (extended (alikeIn (r ∷ rs) (p - 1)) p (marksIn (r ∷ rs) p)) (grown j (omega arith) k)
-            ∙ goes-on p (marksIn (r ∷ rs) p) (ones (r .set)) (max from (total rs)) p (alikeIn (r ∷ rs) (p - 1)) (clipped from (total rs) rs) (ap (alikeIn (r ∷ rs)) i ∙ within-alike (total rs + j) (omega arith) (omega arith))
+            ∙ goes-on p (marksIn (r ∷ rs) p) (ones (r .set)) (max from (total rs)) p (alikeIn (r ∷ rs) (p - 1)) (clipped from (total rs) rs) (ap (alikeIn (r ∷ rs)) i ∙ within-alike r rs (total rs + j) (omega arith) (omega arith))
         | no k ↦
             ap (extended (alikeIn (r ∷ rs) (p - 1)) p (marksIn (r ∷ rs) p)) (at-none (alikeIn (r ∷ rs)) (marksIn (r ∷ rs)) from p (omega arith))
             ∙ begins (alikeIn (r ∷ rs) (p - 1)) p (marksIn (r ∷ rs) p) [] (λ _. refl)
             ∙ stretch-eq _ _ _ _ _ _ _ _ (omega arith) refl (counted p (omega arith) (omega arith)) (sym (clipped-none from (total rs) rs (omega arith)))
       ])
 
-clipped-idle : (from to : ℕ) (rs : List Run) → to ≤ from → clipped from to rs ≡ []
-unfolding clipped
-clipped-idle from to [] h = refl
-clipped-idle from to (r ∷ rs) h =
-    simp (le-ltb (max from (total rs)) (min to (total rs + r .len)) (omega arith)) (clipped-idle from to rs h)
-
 pub clipped-is : (rs : List Run) (from to : ℕ) → Canon rs → to ≤ total rs → clipped from to rs ≡ stretchesAt (alikeIn rs) (marksIn rs) from to
 unfolding Canon total
-clipped-is [] from to c h = let e : to ≡ 0 = omega arith in rw e (clipped-idle from 0 [] (omega arith) ∙ sym (at-none (alikeIn []) (marksIn []) from 0 (omega arith)))
+clipped-is [] from to c h = let e : to ≡ 0 = omega arith in rw e (clipped-none from 0 [] (omega arith) ∙ sym (at-none (alikeIn []) (marksIn []) from 0 (omega arith)))
 clipped-is (r ∷ rs) from to c h =
     let down : (to′ : ℕ) → to′ ≤ total rs → clipped from to′ rs ≡ stretchesAt (alikeIn (r ∷ rs)) (marksIn (r ∷ rs)) from to′ =
     λ to′ l. clipped-is rs from to′ (c .2) l
@@ -164,7 +144,7 @@ clipped-is (r ∷ rs) from to c h =
       | yes k ↦ clipped-out from to r rs k ∙ down to k
       | no k ↦
           elim (decLt from to) [
-            | no l ↦ clipped-idle from to (r ∷ rs) (omega arith) ∙ sym (at-none (alikeIn (r ∷ rs)) (marksIn (r ∷ rs)) from to (omega arith))
+            | no l ↦ clipped-none from to (r ∷ rs) (omega arith) ∙ sym (at-none (alikeIn (r ∷ rs)) (marksIn (r ∷ rs)) from to (omega arith))
             | yes l ↦
                 let j = to - total rs - 1 in
                 let e : total rs + suc j ≡ to = omega arith in

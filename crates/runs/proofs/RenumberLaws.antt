@@ -2,36 +2,19 @@
 -- through the union of all sets.
 use Prim.Native.Nat.{ℕ, zero, suc, _/_, _%_, _^_, _≤_, _<_, min}
 use mathlib.Core.Path.{_≡_}
-use mathlib.Core.List.{List, [], _∷_}
+use mathlib.Core.List.{List}
 use native.Mathlib.Omega.{arith}
 use native.Mathlib.Nat.{pow-suc, min-le-left}
-use lib.Bits.{bitAnd, bitOr, and-step, and-le-r}
+use lib.Bits.{bitAnd, and-step, and-le-r}
 use Rattle.styles.specs.Bits.{openBit}
 use Rattle.styles.proofs.Built.{squeeze, squeezeStep}
 use Rattle.styles.proofs.UnionLaws.{open-or, squeeze-or, open-none, squeeze-none}
 use Rattle.runs.specs.Runs.{Run, Canon}
 use Rattle.runs.specs.Gather.{gather}
-use Rattle.styles.proofs.Digits.{or-digit, digit-within, within-digit}
 use Rattle.runs.proofs.MapLaws.{AllSets, mapRuns, canon-map}
-use Rattle.runs.proofs.GatherLaws.{gather-map}
+use Rattle.runs.proofs.GatherLaws.{all-sets-map, sets-within, gather-map}
 
--- ---- the sets of a list and their union
-pub all-sets-map : (P Q : ℕ → Type 0) → ((s : ℕ) → P s → Q s) → (rs : List Run) → AllSets P rs → AllSets Q rs
-unfolding AllSets
-all-sets-map P Q f [] a = tt
-all-sets-map P Q f (r ∷ rs) a = (f (r .set) (a .0), all-sets-map P Q f rs (a .1))
-
--- each set is within the union
-pub sets-within : (rs : List Run) → AllSets (λ s. bitAnd s (gather rs) ≡ s) rs
-unfolding AllSets gather
-sets-within [] = tt
-sets-within (r ∷ rs) = (
-  digit-within (r .set) (bitOr (r .set) (gather rs)) (λ i. omega (arith, or-digit (r .set) (gather rs) i)),
-  all-sets-map _ _
-      (λ s e. digit-within s (bitOr (r .set) (gather rs)) (λ i. omega (arith, or-digit (r .set) (gather rs) i, within-digit s (gather rs) e i)))
-      rs (sets-within rs),
-)
-
+-- ---- the sets of a list
 pub sets-less : (n : ℕ) (rs : List Run) → gather rs < 2 ^ n → AllSets (λ s. s < 2 ^ n) rs
 sets-less n rs h = all-sets-map _ _ (λ s e. omega (arith, and-le-r s (gather rs), e)) rs (sets-within rs)
 
@@ -41,23 +24,18 @@ unfolding openBit
 open-tells zero x y e = omega arith
 open-tells (suc i) x y e = omega (arith, open-tells i (x / 2) (y / 2) (omega arith))
 
-every : (rs : List Run) → AllSets (λ s. Unit {0}) rs
-unfolding AllSets
-every [] = tt
-every (r ∷ rs) = (tt, every rs)
-
 pub canon-open : (i : ℕ) (rs : List Run) → Canon rs → Canon (mapRuns (openBit i) rs)
-canon-open i rs c = canon-map (openBit i) (λ s. Unit {0}) (λ x y a b e. open-tells i x y e) rs (every rs) c
+canon-open i rs c = canon-map (openBit i) _ (λ x y a b e. open-tells i x y e) rs (sets-within rs) c
 
 pub gather-open : (i : ℕ) (rs : List Run) → gather (mapRuns (openBit i) rs) ≡ openBit i (gather rs)
 gather-open i rs = gather-map (openBit i) (open-none i) (open-or i) rs
 
 -- ---- bits squeezed out
-and-half : (a b : ℕ) → bitAnd a b ≡ a → bitAnd (a / 2) (b / 2) ≡ a / 2
-and-half a b e = let h : min (a % 2) (b % 2) ≤ a % 2 = min-le-left (a % 2) (b % 2) in omega (arith, and-step a b)
-
-and-last : (a b : ℕ) → bitAnd a b ≡ a → a % 2 ≤ b % 2
-and-last a b e = let h : min (a % 2) (b % 2) ≤ a % 2 = min-le-left (a % 2) (b % 2) in omega (arith, and-step a b)
+and-halves : (a b : ℕ) → bitAnd a b ≡ a → (bitAnd (a / 2) (b / 2) ≡ a / 2) × (a % 2 ≤ b % 2)
+and-halves a b e =
+    let h : min (a % 2) (b % 2) ≤ a % 2 = min-le-left (a % 2) (b % 2) in
+    let s = and-step a b in
+    (omega arith, omega arith)
 
 step-tells : (c b d q r : ℕ) → b < 2 → d < 2 → b ≤ c → d ≤ c → squeezeStep c b q ≡ squeezeStep c d r → (b ≡ d) × (q ≡ r)
 step-tells zero b d q r h k l m e = (omega arith, e)
@@ -68,8 +46,8 @@ unfolding squeeze
 squeeze-tells zero mask x y h a b e = omega (arith, and-le-r x mask, and-le-r y mask)
 squeeze-tells (suc k) mask x y h a b e =
     let p = pow-suc 2 k in
-    let s = step-tells (mask % 2) (x % 2) (y % 2) (squeeze k (mask / 2) (x / 2)) (squeeze k (mask / 2) (y / 2)) (omega arith) (omega arith) (and-last x mask a) (and-last y mask b) e in
-    omega (arith, s .0, squeeze-tells k (mask / 2) (x / 2) (y / 2) (omega arith) (and-half x mask a) (and-half y mask b) (s .1))
+    let s = step-tells (mask % 2) (x % 2) (y % 2) (squeeze k (mask / 2) (x / 2)) (squeeze k (mask / 2) (y / 2)) (omega arith) (omega arith) (and-halves x mask a .1) (and-halves y mask b .1) e in
+    omega (arith, s .0, squeeze-tells k (mask / 2) (x / 2) (y / 2) (omega arith) (and-halves x mask a .0) (and-halves y mask b .0) (s .1))
 
 pub canon-squeeze : (mask : ℕ) (rs : List Run) → mask < 2 ^ 64 → AllSets (λ s. bitAnd s mask ≡ s) rs → Canon rs → Canon (mapRuns (squeeze 64 mask) rs)
 canon-squeeze mask rs h a c = canon-map (squeeze 64 mask) (λ s. bitAnd s mask ≡ s) (λ x y l m e. squeeze-tells 64 mask x y h l m e) rs a c

@@ -1,7 +1,7 @@
--- The questions over a range: what `anyAt`, `allAt` and `stretchTo` say, and a turn of each loop over the runs.
+-- The questions over a range: what `anyAt`, `allAt` and `stretchTo` say, and a turn of the walk back over the runs.
 use Prim.Native.Nat.{ℕ, zero, suc, _+_, _-_, _^_, _≤_, _<_, min}
 use mathlib.Core.Path.{_≡_, refl, sym, ap, ap₂, _∙_}
-use mathlib.Core.Bool.{Bool, true, false, cond, not, _&&_, _||_, true≢false, and-eq-true-iff, or-true}
+use mathlib.Core.Bool.{Bool, true, false, cond, not, _&&_, _||_, true≢false, and-eq-true-iff, or-true, Bool·not-not}
 use mathlib.Core.List.{List}
 use native.Mathlib.Omega.{arith}
 use native.Mathlib.Decide.{decLt, decLe}
@@ -20,12 +20,12 @@ use Rattle.runs.proofs.Laws.{total-sums, found-set, at-past}
 pub second-fails : (a b : Bool) → a ≡ true → (a && b) ≡ false → b ≡ false
 second-fails a b h e = ap (λ x. x && b) (sym h) ∙ e
 
--- a set that meets a mask, and one that does not, as the code asks it
-pub some-bit : (s : ℕ) → not (eqb s 0) ≡ ltb 0 s
-some-bit s = elim (decLt 0 s) [ yes h ↦ simp (lt-ltb 0 s h, ne-eqb s 0 (λ e. omega arith)) | no h ↦ simp (le-ltb 0 s (omega arith), eq-eqb s 0 (omega arith)) ]
-
+-- a set that does not meet a mask, and one that does, as the code asks it
 pub no-bit : (s : ℕ) → eqb s 0 ≡ not (ltb 0 s)
 no-bit s = elim (decLt 0 s) [ yes h ↦ simp (lt-ltb 0 s h, ne-eqb s 0 (λ e. omega arith)) | no h ↦ simp (le-ltb 0 s (omega arith), eq-eqb s 0 (omega arith)) ]
+
+pub some-bit : (s : ℕ) → not (eqb s 0) ≡ ltb 0 s
+some-bit s = ap not (no-bit s) ∙ Bool·not-not _
 
 -- ---- some position passes
 module _ (test : ℕ → Bool) (from : ℕ) where

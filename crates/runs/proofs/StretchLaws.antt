@@ -1,7 +1,7 @@
 -- The number of runs of a joined list is a fact about its positions: how many of them start a stretch.
 use Prim.Native.Nat.{ℕ, zero, suc, _+_, _≤_, _<_}
 use mathlib.Core.Path.{_≡_, refl, sym, _∙_}
-use mathlib.Core.Bool.{Bool, true}
+use mathlib.Core.Bool.{Bool, true, false}
 use mathlib.Core.List.{List, [], _∷_}
 use native.Mathlib.Omega.{arith}
 use lib.Dec.{eqb}
@@ -33,18 +33,30 @@ level f n (suc j) h =
     rw e (omega (arith, level f n j (λ p a b. h p a (omega arith))))
 
 -- ---- runs
--- the last run starts a stretch
+-- the positions of the last run are alike
+pub within-alike : (r : Run) (rs : List Run) (p : ℕ) → total rs ≤ p → suc p < total rs + r .len → alikeIn (r ∷ rs) p ≡ true
+within-alike r rs p a b =
+    eq-eqb (setAt (r ∷ rs) p) (setAt (r ∷ rs) (suc p)) (at-last r rs p a (omega arith) ∙ sym (at-last r rs (suc p) (omega arith) b))
+
+-- and the first of them is not like the one before it
+pub edge : (r : Run) (rs : List Run) (n : ℕ) → Canon (r ∷ rs) → total rs ≡ suc n → alikeIn (r ∷ rs) n ≡ false
+unfolding Canon Other total
+edge r [] n c e = absurd (omega arith)
+edge r (z ∷ zs) n c e =
+    let pos = c .2 .0 in
+    let here = c .0 in
+    let a : setAt (r ∷ z ∷ zs) n ≡ z .set = at-in r (z ∷ zs) n (omega arith) ∙ at-last z zs n (omega arith) (omega arith) in
+    let b : setAt (r ∷ z ∷ zs) (suc n) ≡ r .set = at-last r (z ∷ zs) (suc n) (omega arith) (omega arith) in
+    ne-eqb (setAt (r ∷ z ∷ zs) n) (setAt (r ∷ z ∷ zs) (suc n)) (λ x. c .1 (sym a ∙ x ∙ b))
+
+-- so the last run starts a stretch
 last-starts : (r : Run) (rs : List Run) → Canon (r ∷ rs) → starts (alikeIn (r ∷ rs)) (total rs) ≡ 1
-unfolding Canon Other total starts
-last-starts r [] c = refl
-last-starts r (z ∷ zs) c = go (total zs + z .len) refl (c .0) (c .2 .0) (c .1)
+unfolding starts
+last-starts r rs c = go (total rs) refl
   where
-    go : (n : ℕ) → total zs + z .len ≡ n → 0 < r .len → 0 < z .len → (z .set ≡ r .set → ⊥) → starts (alikeIn (r ∷ z ∷ zs)) n ≡ 1
-    go zero e h k d = absurd (omega arith)
-    go (suc p) e h k d =
-        let a : setAt (r ∷ z ∷ zs) p ≡ z .set = at-in r (z ∷ zs) p (omega arith) ∙ at-last z zs p (omega arith) (omega arith) in
-        let b : setAt (r ∷ z ∷ zs) (suc p) ≡ r .set = at-last r (z ∷ zs) (suc p) (omega arith) (omega arith) in
-        simp (ne-eqb (setAt (r ∷ z ∷ zs) p) (setAt (r ∷ z ∷ zs) (suc p)) (λ x. d (sym a ∙ x ∙ b)))
+    go : (n : ℕ) → total rs ≡ n → starts (alikeIn (r ∷ rs)) n ≡ 1
+    go zero e = refl
+    go (suc p) e = simp (edge r rs p c e)
 
 one-more : (r : Run) (rs : List Run) (l : ℕ) → r .len ≡ l → Canon (r ∷ rs) → stretchCount (alikeIn rs) (total rs) ≡ length rs
     → stretchCount (alikeIn (r ∷ rs)) (total rs + l) ≡ suc (length rs)
@@ -53,8 +65,7 @@ one-more r rs zero e c h = let p = c .0 in absurd (omega arith)
 one-more r rs (suc j) e c h =
     omega (
       arith,
-      level (alikeIn (r ∷ rs)) (total rs) j
-          (λ p a b. eq-eqb (setAt (r ∷ rs) p) (setAt (r ∷ rs) (suc p)) (at-last r rs p a (omega arith) ∙ sym (at-last r rs (suc p) (omega arith) (omega arith)))),
+      level (alikeIn (r ∷ rs)) (total rs) j (λ p a b. within-alike r rs p a (omega arith)),
       stretch-count-ext (alikeIn (r ∷ rs)) (alikeIn rs) (total rs)
           (λ p k. λ i. eqb (at-in r rs p (omega arith) i) (at-in r rs (suc p) k i)),
       last-starts r rs c,

@@ -27,15 +27,19 @@ unfolding sumBelow
 sum-bound f k zero h = omega arith
 sum-bound f k (suc n) h = omega (arith, sum-bound f k n (λ u l. h u (omega arith)), h n (omega arith))
 
--- ---- more terms are no less
-pub sum-up : (f : ℕ → ℕ) (n m : ℕ) → n ≤ m → sumBelow f n ≤ sumBelow f m
-unfolding sumBelow
-sum-up f n zero h = let e : n ≡ 0 = omega arith in rw e (omega arith)
-sum-up f n (suc m) h =
+-- ---- what no step lessens is never less
+pub rising : (f : ℕ → ℕ) → ((k : ℕ) → f k ≤ f (suc k)) → (n m : ℕ) → n ≤ m → f n ≤ f m
+rising f up n zero h = let e : n ≡ 0 = omega arith in rw e (omega arith)
+rising f up n (suc m) h =
     elim (decLe n m) [
-      | yes l ↦ omega (arith, sum-up f n m l)
+      | yes l ↦ omega (arith, rising f up n m l, up m)
       | no l ↦ let e : n ≡ suc m = omega arith in rw e (omega arith)
     ]
+
+-- more terms
+pub sum-up : (f : ℕ → ℕ) (n m : ℕ) → n ≤ m → sumBelow f n ≤ sumBelow f m
+unfolding sumBelow
+sum-up f n m h = rising (sumBelow f) (λ k. omega arith) n m h
 
 pub sum-next : (f : ℕ → ℕ) (n m : ℕ) → n < m → sumBelow f n + f n ≤ sumBelow f m
 sum-next f n m h = omega (arith, sum-more f n, sum-up f (n + 1) m (omega arith))

@@ -9,7 +9,8 @@ use Rattle.runs.specs.Runs.{Run, runs, total, setAt, Canon, Other}
 use Rattle.runs.specs.Edits.{Appended}
 use Rattle.runs.specs.Count.{tallyOf}
 use Rattle.runs.proofs.Copies.{pushRun, copyRuns}
-use Rattle.runs.proofs.Laws.{push-none, push-join, push-new, length-copy, length-runs}
+use Rattle.runs.proofs.Laws.{push-none, push-join, push-new, length-runs}
+use Rattle.runs.proofs.CountLaws.{length-copy}
 use Rattle.runs.proofs.EditLaws.{pushed-is, pushed-joined, copied-joined}
 
 abbrev tally : ℕ → ℕ → Tally

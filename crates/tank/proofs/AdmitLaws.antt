@@ -1,5 +1,5 @@
 -- A new mark in the table, and a bit opened for it in every set: the tank means what it meant.
-use Prim.Native.Nat.{ℕ, zero, suc, _+_, _-_, _≤_, _<_, _^_}
+use Prim.Native.Nat.{ℕ, zero, suc, _+_, _≤_, _<_, _^_}
 use mathlib.Core.Path.{_≡_, sym, ap, _∙_}
 use mathlib.Core.Bool.{false}
 use mathlib.Core.List.{List, [], _∷_}
@@ -7,7 +7,6 @@ use native.Mathlib.Omega.{arith}
 use native.Mathlib.Numerals.{add-one}
 use lib.ListN.{length, getD, take, drop, length-take, length-drop}
 use lib.Pow.{pow-mono}
-use lib.Seq.{getD-drop}
 use Rattle.styles.specs.declared.Mark.{Mark}
 use Rattle.styles.specs.Order.{idOf}
 use Rattle.styles.specs.Values.{valueNan}
@@ -18,6 +17,7 @@ use Rattle.styles.proofs.TableLaws.{place-le, sorted-put, length-put, with-fron
 use Rattle.styles.proofs.UnionLaws.{open-within, open-none}
 use Rattle.runs.specs.Runs.{runs, total, setAt}
 use Rattle.runs.specs.Gather.{gather, Renumbered, CanOpen}
+use Rattle.runs.proofs.BehindLaws.{getD-behind}
 use Rattle.runs.proofs.MapLaws.{mapRuns, total-map, at-map, renumber-runs, renumber-spare, all-sets-at}
 use Rattle.runs.proofs.RenumberLaws.{canon-open, gather-open, sets-less}
 use Rattle.tank.specs.declared.Tank.{Tank}
@@ -82,11 +82,7 @@ module _ {t : Tank} (i : ℕ) (m : Mark) (h : CanAdmit t i m) where
         )
 
     blanks : (k : ℕ) → t .marks + 1 ≤ k → getD table k blank ≡ blank
-    blanks k g =
-        let e : t .marks + 1 + (k - (t .marks + 1)) ≡ k = omega arith in
-        ap (λ x. getD table x blank) (sym e) ∙ sym (getD-drop (t .marks + 1) table (k - (t .marks + 1)) blank)
-        ∙ ap (λ ms. getD ms (k - (t .marks + 1)) blank) rest
-        ∙ getD-drop (t .marks + 1) (t .table) (k - (t .marks + 1)) blank ∙ ap (λ x. getD (t .table) x blank) e ∙ h .laid .blanks k (omega arith)
+    blanks k g = getD-behind blank (t .marks + 1) k (t .table) table g rest ∙ h .laid .blanks k (omega arith)
 
     pub admit-done : Stepped (view t) (insertAt i m (tableOf t)) (openBit i (gather (runsOf t)))
         (record { touched = t .touched; length = t .length; runs = t .runs; marks = t .marks + 1; lens = t .lens; sets = sets; table = table })

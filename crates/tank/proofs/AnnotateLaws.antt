@@ -29,7 +29,7 @@ use Rattle.tank.specs.Steps.{Stepped, CanLay, CanAdmit, roomFor}
 use Rattle.tank.proofs.AdmitLaws.{place-fits}
 use Rattle.tank.proofs.Carried.{any-clash}
 use Rattle.tank.proofs.Calls.{number-3, number-4, number-6, number-7, number-8, number-0, refused, made}
-use Rattle.tank.proofs.RoomLaws.{room-known, room-new, room-clash, room-full, no-clash, known-is, place-in}
+use Rattle.tank.proofs.RoomLaws.{room-says, no-clash, known-is, place-in}
 use Rattle.tank.proofs.Unique.{table-length, marks-carried, runs-held}
 
 -- what an edit made is in form, where every mark of the table is carried
@@ -97,7 +97,7 @@ module _ {t : Tank} (s : Sound t) (start end : ℕ) (m : Mark) where
             any-clash m (tableOf t) (setAt (runsOf t)) (t .length) _ (s .formed .laid .sorted) (table ∙ sym (pick-all (tableOf t))) ∙ ap (clash m) (pick-all (tableOf t))
 
         pub refused-7 : roomFor m (tableOf t) ≡ Clash → Called (annotating start end m) t 7 t
-        refused-7 e = refused s 6 (number-7 (annotating start end m) (view t) some inside not-long is-number (clashing ∙ room-clash m (tableOf t) e))
+        refused-7 e = refused s 6 (number-7 (annotating start end m) (view t) some inside not-long is-number (clashing ∙ room-says m (tableOf t) e))
 
         clear : clash m (tableOf t) ≡ false → clashes (annotating start end m) (view t) ≡ false
         clear c = clashing ∙ c
@@ -105,7 +105,7 @@ module _ {t : Tank} (s : Sound t) (start end : ℕ) (m : Mark) where
         pub refused-8 : roomFor m (tableOf t) ≡ Full → Called (annotating start end m) t 8 t
         unfolding full
         refused-8 e =
-            let f = room-full m (tableOf t) e in
+            let f = room-says m (tableOf t) e in
             refused s 7
             (number-8 (annotating start end m) (view t) some inside not-long is-number (clear (no-clash m (tableOf t) (f .0)))
             (rw (table, f .0, f .1)))
@@ -113,7 +113,7 @@ module _ {t : Tank} (s : Sound t) (start end : ℕ) (m : Mark) where
         -- ---- a mark that the table has
         module _ (i : ℕ) (e : roomFor m (tableOf t) ≡ Known i) where
           known : (member (idOf m) (tableOf t) ≡ true) × (clash m (tableOf t) ≡ false) × (i ≡ placeOf (idOf m) (tableOf t))
-          known = room-known m (tableOf t) e
+          known = room-says m (tableOf t) e
 
           place-there : i < t .marks
           place-there =
@@ -142,7 +142,7 @@ module _ {t : Tank} (s : Sound t) (start end : ℕ) (m : Mark) where
         -- ---- a mark that is new to it
         module _ (i : ℕ) (e : roomFor m (tableOf t) ≡ New i) where
           new : (member (idOf m) (tableOf t) ≡ false) × (leb 64 (length (tableOf t)) ≡ false) × (i ≡ placeOf (idOf m) (tableOf t))
-          new = room-new m (tableOf t) e
+          new = room-says m (tableOf t) e
 
           pub can-admit : CanAdmit t i m
           can-admit =

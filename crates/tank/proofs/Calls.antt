@@ -1,12 +1,11 @@
 -- What a call hands back, for every edit at once: the number by its tests, the very same tank where it is refused, and one result.
-use Prim.Native.Nat.{ℕ, suc}
+use Prim.Native.Nat.{ℕ, suc, _<_}
 use mathlib.Core.Path.{_≡_, sym, _∙_}
 use mathlib.Core.Bool.{true, false}
 use native.Mathlib.Omega.{arith}
-use lib.Dec.{eqb}
 use borrow.Author.Tests.{ne-eqb}
 use Rattle.tank.specs.declared.Tank.{Tank}
-use Rattle.tank.specs.Rules.{View, Edit, after, empty, over, long, notNumber, clashes, full, refusal}
+use Rattle.tank.specs.Rules.{View, Edit, after, empty, over, long, notNumber, clashes, full, refusal, whenAccepted}
 use Rattle.tank.specs.State.{view, Formed, Sound, Called}
 use Rattle.tank.proofs.Unique.{same-tank}
 
@@ -45,12 +44,14 @@ module _ (e : Edit) (v : View) where
             unfolding refusal
             number-0 g = simp (a, b, c, d, f, g)
 
+-- what stands beside a refusal
+pub when-refused : {A : Type 0} (n : ℕ) (x y : A) → 0 < n → whenAccepted n x y ≡ y
+when-refused n x y h = rw (ne-eqb n 0 (λ z. omega arith))
+
 module _ {e : Edit} {t : Tank} where
   -- a refused call
   pub refused : Sound t → (n : ℕ) → refusal e (view t) ≡ suc n → Called e t (suc n) t
-  refused s n r =
-      let z : eqb (refusal e (view t)) 0 ≡ false = ne-eqb (refusal e (view t)) 0 (λ q. omega arith) in
-      record { number-is = sym r; formed = s .formed; is = simp z }
+  refused s n r = record { number-is = sym r; formed = s .formed; is = sym (when-refused (refusal e (view t)) _ _ (omega arith)) }
 
   -- an edit that is made
   pub made : {u : Tank} → refusal e (view t) ≡ 0 → Formed u → view u ≡ after e (view t) → Called e t 0 u

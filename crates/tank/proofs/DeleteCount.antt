@@ -15,6 +15,7 @@ use Rattle.styles.specs.Marks.{sameMarks}
 use Rattle.styles.proofs.OrderLaws.{is-same-of, same-eq}
 use Rattle.styles.proofs.SameLaws.{same-marks-self}
 use Rattle.runs.specs.Positions.{sumBelow, starts, stretchCount}
+use Rattle.runs.proofs.SumLaws.{sum-up}
 use Rattle.runs.proofs.StretchLaws.{stretch-count-ext}
 use Rattle.tank.specs.Rules.{View, afterDelete, alike, runsHeld}
 
@@ -34,9 +35,7 @@ same-chain (x ∷ xs) (y ∷ ys) (z ∷ zs) e f =
 
 -- ---- starts among more positions
 more-starts : (f : ℕ → Bool) (n j : ℕ) → stretchCount f n ≤ stretchCount f (n + j)
-unfolding sumBelow
-more-starts f n zero = let e : n + 0 ≡ n = omega arith in rw e (omega arith)
-more-starts f n (suc j) = let e : n + suc j ≡ suc (n + j) = omega arith in rw e (omega (arith, more-starts f n j))
+more-starts f n j = sum-up (starts f) n (n + j) (omega arith)
 
 no-start : (b : Bool) → _≡_ {A = ℕ} (cond b 0 1) 0 → b ≡ true
 no-start true e = refl

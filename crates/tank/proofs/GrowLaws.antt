@@ -1,10 +1,11 @@
 -- New positions: what `grow` asks of the run edit, and what it then means.
-use Prim.Native.Nat.{ℕ, _+_, _-_, _≤_, _<_, _^_}
+use Prim.Native.Nat.{ℕ, zero, suc, _+_, _≤_, _<_, _^_}
 use mathlib.Core.Path.{_≡_, ap, _∙_, sym}
 use mathlib.Core.Bool.{true}
 use mathlib.Core.List.{List}
 use native.Mathlib.Omega.{arith}
 use native.Mathlib.Decide.{decLt}
+use native.Mathlib.Numerals.{sub-one}
 use lib.Bits.{bitAnd, and-zero-l, and-le-r}
 use lib.ListN.{length}
 use borrow.Author.Tests.{eq-eqb, ne-eqb}
@@ -21,10 +22,10 @@ use Rattle.runs.specs.Gather.{gather}
 use Rattle.runs.specs.Scan.{commonAt}
 use Rattle.runs.proofs.Laws.{length-runs}
 use Rattle.runs.proofs.CountLaws.{inserted-runs}
-use Rattle.styles.proofs.Digits.{and-digit, digit-within, within-digit}
+use Rattle.styles.proofs.Digits.{and-digit, digit-within}
 use Rattle.runs.proofs.EditLaws.{one-joined, inserted-joined, total-inserted, canon-inserted}
-use Rattle.runs.proofs.GatherLaws.{set-within, gather-inserted}
-use Rattle.runs.proofs.ScanLaws.{common-end, common-inside}
+use Rattle.runs.proofs.GatherLaws.{gather-digit, gather-inserted}
+use Rattle.runs.proofs.ScanLaws.{common-end}
 use Rattle.tank.specs.declared.Tank.{Tank}
 use Rattle.tank.specs.Rules.{inherited, afterInsert, forInsert}
 use Rattle.tank.specs.State.{runsOf, tableOf, viewOf, view, Laid}
@@ -33,54 +34,33 @@ use Rattle.tank.proofs.Shape.{can-edit, over-runs, view-touched, steppe
 use Rattle.tank.proofs.ViewLaws.{view-inserted}
 
 -- ---- what the neighbours of pos have in common
-module _ (rs : List Run) (pos : ℕ) (fits : pos ≤ total rs) where
-  -- it is carried
-  pub common-there : bitAnd (commonAt rs pos) (gather rs) ≡ commonAt rs pos
-  unfolding commonAt
-  common-there =
-      elim (decLt 0 pos) [
-        | yes h ↦
-            elim (decLt pos (total rs)) [
-              | yes k ↦
-                  let x = setAt rs (pos - 1) in
-                  let y = setAt rs pos in
-                  let e = common-inside rs pos (λ q. omega arith) in
-                  rw e
-                  (digit-within (bitAnd x y) (gather rs)
-                  (λ i. omega (arith, and-digit x y i, within-digit y (gather rs) (set-within rs pos k) i)))
-              | no k ↦ let e = common-end rs pos (omega arith) in rw e (and-zero-l (gather rs))
-            ]
-        | no h ↦ let e : pos ≡ 0 = omega arith in rw e (and-zero-l (gather rs))
-      ]
+-- it is carried
+common-there : (rs : List Run) (pos : ℕ) → bitAnd (commonAt rs pos) (gather rs) ≡ commonAt rs pos
+unfolding commonAt
+common-there rs zero = and-zero-l (gather rs)
+common-there rs (suc p) =
+    digit-within (bitAnd (setAt rs p) (setAt rs (suc p))) (gather rs)
+    (λ i. omega (arith, and-digit (setAt rs p) (setAt rs (suc p)) i, gather-digit rs (suc p) i))
 
-  -- and its marks are the inherited ones
-  pub common-inherited : (ms : List Mark) → Sorted ms → pick ms (commonAt rs pos) ≡ inherited pos (viewOf true (total rs) ms rs)
-  unfolding inherited commonAt
-  common-inherited ms sorted =
-      elim (decLt 0 pos) [
-        | yes h ↦
-            elim (decLt pos (total rs)) [
-              | yes k ↦
-                  let e = common-inside rs pos (λ q. omega arith) in
-                  let a = ne-eqb pos 0 (λ q. omega arith) in
-                  let b = ne-eqb pos (total rs) (λ q. omega arith) in
-                  rw (e, a, b) (pick-both ms (setAt rs (pos - 1)) (setAt rs pos) sorted)
-              | no k ↦
-                  let e = common-end rs pos (omega arith) in
-                  let a = ne-eqb pos 0 (λ q. omega arith) in
-                  let b = eq-eqb pos (total rs) (omega arith) in
-                  rw (e, a, b) (pick-none ms)
-            ]
-        | no h ↦ let e : pos ≡ 0 = omega arith in rw e (pick-none ms)
-      ]
+-- and its marks are the inherited ones
+pub common-inherited : (rs : List Run) (pos : ℕ) → pos ≤ total rs → (ms : List Mark) → Sorted ms
+    → pick ms (commonAt rs pos) ≡ inherited pos (viewOf true (total rs) ms rs)
+unfolding inherited commonAt
+common-inherited rs zero fits ms sorted = pick-none ms
+common-inherited rs (suc p) fits ms sorted =
+    let a = ne-eqb (suc p) 0 (λ q. omega arith) in
+    elim (decLt (suc p) (total rs)) [
+      | yes k ↦ rw (a, ne-eqb (suc p) (total rs) (λ q. omega arith), sub-one) (pick-both ms (setAt rs p) (setAt rs (suc p)) sorted)
+      | no k ↦ rw (a, common-end rs (suc p) (omega arith), eq-eqb (suc p) (total rs) (omega arith)) (pick-none ms)
+    ]
 
 -- what new positions at pos get
-module _ {t : Tank} (f : Laid t) (pos : ℕ) (fits : pos ≤ t .length) where
-  pub common-small : commonAt (runsOf t) pos < 2 ^ t .marks
-  common-small =
-      let a = f .inside in
-      omega (arith, common-there (runsOf t) pos (reach f fits), and-le-r (commonAt (runsOf t) pos) (gather (runsOf t)))
+pub common-small : {t : Tank} → Laid t → (pos : ℕ) → commonAt (runsOf t) pos < 2 ^ t .marks
+common-small {t} f pos =
+    let a = f .inside in
+    omega (arith, common-there (runsOf t) pos, and-le-r (commonAt (runsOf t) pos) (gather (runsOf t)))
 
+module _ {t : Tank} (f : Laid t) (pos : ℕ) (fits : pos ≤ t .length) where
   pub common-for-insert : t .touched ≡ true → pick (tableOf t) (commonAt (runsOf t) pos) ≡ forInsert pos (view t)
   unfolding forInsert view
   common-for-insert e =
@@ -112,7 +92,7 @@ module _ {t : Tank} (pos len set : ℕ) (h : CanGrow t pos len set) where
       let out = inserted (runsOf t) pos len set in
       let z = total-inserted (runsOf t) pos len set fits in
       let g : gather out ≡ gather (runsOf t) =
-      gather-inserted (runsOf t) pos len set (f .canon) fits (rw (h .common) (common-there (runsOf t) pos fits))
+      gather-inserted (runsOf t) pos len set (f .canon) fits (rw (h .common) (common-there (runsOf t) pos))
       in
       stepped
       (over-runs f true lens sets n (t .length + len) out e (canon-inserted (runsOf t) pos len set) (omega arith) sp l l′

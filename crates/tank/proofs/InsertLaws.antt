@@ -16,7 +16,7 @@ use Rattle.tank.specs.Rules.{inserting, after, forInsert, afterInsert, e
 use Rattle.tank.specs.State.{runsOf, tableOf, view, Sound, Called}
 use Rattle.tank.specs.Steps.{Stepped, CanGrow}
 use Rattle.tank.proofs.AnnotateLaws.{formed-of}
-use Rattle.tank.proofs.Calls.{number-3, number-4, number-5, number-0, refused, made}
+use Rattle.tank.proofs.Calls.{number-3, number-4, number-5, number-0, when-refused, refused, made}
 use Rattle.tank.proofs.GrowLaws.{common-small, common-for-insert}
 use Rattle.tank.proofs.Unique.{table-length}
 
@@ -33,11 +33,8 @@ module _ {t : Tank} (s : Sound t) (pos len : ℕ) where
   kept {n} {r} g c e = (rw (g .0, g .2) c, g .1 ∙ ap stylesOf (sym e))
 
   -- refused: the empty set
-  none-beside : (n : ℕ) → refusal (inserting pos len) (view t) ≡ suc n → insertedSet pos len (view t) ≡ []
-  none-beside n e = let z = ne-eqb (refusal (inserting pos len) (view t)) 0 (λ q. omega arith) in simp z
-
   refused-as : (n : ℕ) {r : Inserted} → refusal (inserting pos len) (view t) ≡ suc n → Kept t (suc n) r → Gives t pos len r
-  refused-as n e g = kept g (refused s n e) (none-beside n e)
+  refused-as n e g = kept g (refused s n e) (when-refused (refusal (inserting pos len) (view t)) _ _ (omega arith))
 
   pub insert-3 : {r : Inserted} → len ≡ 0 → Kept t 3 r → Gives t pos len r
   unfolding empty
@@ -90,7 +87,7 @@ module _ {t : Tank} (s : Sound t) (pos len : ℕ) where
 
           module _ (set : ℕ) (q : set ≡ commonAt (runsOf t) pos) where
             pub set-inside : set < 2 ^ t .marks
-            set-inside = rw q (common-small (s .formed .laid) pos fits)
+            set-inside = rw q (common-small (s .formed .laid) pos)
 
             pub can-grow : CanGrow t pos len set
             can-grow =

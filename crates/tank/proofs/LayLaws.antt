@@ -26,7 +26,7 @@ use Rattle.tank.specs.Steps.{Stepped, CanLay}
 use Rattle.tank.proofs.Shape.{view-sum, stepped}
 use Rattle.tank.proofs.AlterLaws.{fits-runs, alter-done}
 use Rattle.tank.proofs.Unique.{table-length}
-use Rattle.tank.proofs.ViewLaws.{view-annotated}
+use Rattle.tank.proofs.ViewLaws.{view-altered}
 
 pub one-bit : (i : ℕ) → withBit i 0 ≡ 2 ^ i
 one-bit i = with-is i 0 ∙ or-zero-l (2 ^ i)
@@ -42,6 +42,7 @@ module _ {t : Tank} (start end i : ℕ) (h : CanLay t start end i) where
       → length lens ≡ 514 → length sets ≡ 514
       → Stepped (afterAnnotate start end (getD (tableOf t) i blank) (view t)) (tableOf t) (bitOr (gather (runsOf t)) (2 ^ i))
       (record { touched = true; length = t .length; runs = n; marks = t .marks; lens = lens; sets = sets; table = t .table })
+  unfolding afterAnnotate
   lay-done lens sets n made sp l l′ =
       let f = h .range .laid in
       let up = h .range .up in
@@ -52,7 +53,7 @@ module _ {t : Tank} (start end i : ℕ) (h : CanLay t start end i) where
       stepped
       (alter-done (h .range) (adding (withBit i 0)) true lens sets n made sp l l′
       (rw g (or-lt (t .marks) (gather (runsOf t)) (2 ^ i) (f .inside) (pow-lt (h .there)))))
-      (view-annotated (runsOf t) start end (adding (withBit i 0)) up fits (tableOf t) (getD (tableOf t) i blank) (t .touched)
+      (view-altered (runsOf t) start end (adding (withBit i 0)) up fits (tableOf t) (insertMark (getD (tableOf t) i blank)) true
       (adds-mark (tableOf t) i (f .sorted) (let q = h .there in omega (arith, table-length f)))
       ∙ ap (afterAnnotate start end (getD (tableOf t) i blank)) (view-sum f))
       g

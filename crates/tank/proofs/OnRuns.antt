@@ -19,7 +19,7 @@ use Rattle.runs.specs.Gather.{gather}
 use Rattle.runs.specs.Scan.{commonAt}
 use Rattle.runs.proofs.EditLaws.{canon-altered, canon-deleted, canon-inserted}
 use Rattle.runs.proofs.ScanLaws.{stretch-le}
-use Rattle.tank.specs.Rules.{Edit, annotating, inserting, deleting, removing, afterInsert, afterDelete, afterRemove, backFrom, after, empty, over, long, notNumber, clash, clashes, full, refusal, afterCall}
+use Rattle.tank.specs.Rules.{Edit, annotating, inserting, deleting, removing, afterAnnotate, afterInsert, afterDelete, stripped, afterRemove, backFrom, after, empty, over, long, notNumber, clash, clashes, full, refusal}
 use Rattle.tank.specs.State.{viewOf}
 use Rattle.tank.proofs.Carried.{gathered-is, any-clash}
 use Rattle.tank.proofs.GrowLaws.{common-inherited}
@@ -27,7 +27,7 @@ use Rattle.tank.proofs.LayLaws.{adds-mark}
 use Rattle.tank.proofs.RoomLaws.{place-in, place-id, known-is}
 use Rattle.tank.proofs.Sequences.{accepted-fits}
 use Rattle.tank.proofs.StripLaws.{drops-mark}
-use Rattle.tank.proofs.ViewLaws.{view-annotated, view-inserted, view-deleted, view-stripped}
+use Rattle.tank.proofs.ViewLaws.{view-altered, view-inserted, view-deleted}
 
 -- the bit of an identity's place in the table
 abbrev bitOf : List Mark → Identity → ℕ
@@ -89,23 +89,23 @@ module _ (ms : List Mark) (sorted : Sorted ms) where
   removed-on : (id : Identity) (last : ℕ) (t : Bool) (rs : List Run) → member id ms ≡ true → last < total rs
       → afterRemove id last (viewOf t (total rs) ms rs)
       ≡ viewOf t (total (runsAfter ms (removing id last) t rs)) ms (runsAfter ms (removing id last) t rs)
-  unfolding afterRemove runsAfter backFrom
+  unfolding afterRemove stripped runsAfter backFrom
   removed-on id last t rs k h =
       let v = viewOf t (total rs) ms rs in
       sym
-      (view-stripped rs (backFrom id last v) (last + 1) (changing 0 (bitOf ms id)) (stretch-le (λ p. member id (v .at p)) (last + 1)) (omega arith) ms id t
+      (view-altered rs (backFrom id last v) (last + 1) (changing 0 (bitOf ms id)) (stretch-le (λ p. member id (v .at p)) (last + 1)) (omega arith) ms (removeMark id) t
       (λ s.
       drops-mark ms (placeOf id ms) sorted (place-in ms id sorted k) s ∙ ap (λ i. removeMark i (pick ms s)) (place-id ms id sorted k)))
 
   after-on : (e : Edit) (t : Bool) (rs : List Run) → known ms e ≡ true → empty e ≡ false → over e (viewOf t (total rs) ms rs) ≡ false
       → after e (viewOf t (total rs) ms rs) ≡ viewOf (touchedAfter e t) (total (runsAfter ms e t rs)) ms (runsAfter ms e t rs)
-  unfolding known empty over after afterRemove runsAfter touchedAfter afterInsert afterDelete
+  unfolding known empty over after afterAnnotate afterRemove runsAfter touchedAfter afterInsert afterDelete
   after-on (annotating a b m) t rs k n o =
       let j = and-eq-true-iff (member (idOf m) ms) (not (clash m ms)) .0 k in
       let up = leb-false b a n in
       let same = known-is m ms sorted (j .0) (not-true (clash m ms) (j .1)) in
       sym
-      (view-annotated rs a b (adding (bitOf ms (idOf m))) (omega arith) (ltb-false (total rs) b o) ms m t
+      (view-altered rs a b (adding (bitOf ms (idOf m))) (omega arith) (ltb-false (total rs) b o) ms (insertMark m) true
       (λ s. adds-mark ms (placeOf (idOf m) ms) sorted (place-in ms (idOf m) sorted (j .0)) s ∙ ap (λ x. insertMark x (pick ms s)) same))
   after-on (inserting pos len) true rs k n o =
       let fits = ltb-false (total rs) pos o in
@@ -117,8 +117,7 @@ module _ (ms : List Mark) (sorted : Sorted ms) where
 
   -- an accepted edit of runs is the edit of what they mean
   pub call-on : (e : Edit) (t : Bool) (rs : List Run) → Canon rs → known ms e ≡ true → numberOn ms e t rs ≡ 0
-      → afterCall e (viewOf t (total rs) ms rs) ≡ viewOf (touchedAfter e t) (total (runsAfter ms e t rs)) ms (runsAfter ms e t rs)
+      → after e (viewOf t (total rs) ms rs) ≡ viewOf (touchedAfter e t) (total (runsAfter ms e t rs)) ms (runsAfter ms e t rs)
   call-on e t rs c k n =
-      let r = refusal-on e t rs c ∙ n in
-      let f = accepted-fits e (viewOf t (total rs) ms rs) r in
-      simp r (after-on e t rs k (f .0) (f .1))
+      let f = accepted-fits e (viewOf t (total rs) ms rs) (refusal-on e t rs c ∙ n) in
+      after-on e t rs k (f .0) (f .1)

@@ -8,7 +8,7 @@ use native.Mathlib.Decide.{decLt}
 use lib.Bits.{or-zero-r}
 use lib.ListN.{getD, take}
 use lib.Pow.{pow-mono}
-use borrow.Author.Tests.{le-leb, lt-leb, ne-eqb}
+use borrow.Author.Tests.{le-leb, lt-leb}
 use Rattle.styles.specs.declared.Identity.{Identity}
 use Rattle.styles.specs.declared.Mark.{Mark}
 use Rattle.styles.specs.Order.{idOf}
@@ -25,7 +25,7 @@ use Rattle.tank.specs.declared.Removed.{Removed}
 use Rattle.tank.specs.Rules.{View, removing, after, backFrom, stripped, afterRemove, empty, over, long, notNumber, clashes, full, refusal, removedFirst}
 use Rattle.tank.specs.State.{runsOf, tableOf, view, Laid, Formed, Sound, Called}
 use Rattle.tank.specs.Steps.{Trimmed, CanStrip}
-use Rattle.tank.proofs.Calls.{number-4, number-0, refused, made}
+use Rattle.tank.proofs.Calls.{number-4, number-0, when-refused, refused, made}
 use Rattle.tank.proofs.RoomLaws.{place-in, place-id}
 use Rattle.tank.proofs.Shape.{can-look}
 use Rattle.tank.proofs.StripLaws.{meets-mark}
@@ -69,8 +69,7 @@ module _ {t : Tank} (s : Sound t) (id : Identity) (last : ℕ) where
   unfolding empty over view
   remove-4 h =
       let r = number-4 (removing id last) (view t) refl (le-leb (t .length) last h) in
-      let z = ne-eqb (refusal (removing id last) (view t)) 0 (λ q. omega arith) in
-      (refused s 3 r, simp z)
+      (refused s 3 r, sym (when-refused (refusal (removing id last) (view t)) _ _ (omega arith)))
 
   module _ (fits : last < t .length) where
     accepted : refusal (removing id last) (view t) ≡ 0

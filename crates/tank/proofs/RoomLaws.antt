@@ -1,6 +1,6 @@
 -- How a mark stands to a sorted table, and what each case says.
 use Prim.Native.Nat.{ℕ, suc, _<_}
-use mathlib.Core.Path.{_≡_, refl, sym, ap, _∙_}
+use mathlib.Core.Path.{_≡_, refl, sym, ap, _∙_, subst}
 use mathlib.Core.Bool.{Bool, true, false, cond, _||_, not, true≢false}
 use mathlib.Core.List.{List, [], _∷_}
 use native.Mathlib.Omega.{arith}
@@ -19,6 +19,7 @@ use Rattle.styles.proofs.PickLaws.{above-trans, not-member}
 use Rattle.styles.proofs.StyleLaws.{mark-eq}
 use Rattle.styles.proofs.TableLaws.{member-at}
 use Rattle.styles.proofs.ValueLaws.{content-eq}
+use Rattle.tank.specs.declared.Room.{Room}
 use Rattle.tank.specs.declared.Room.the-variants.{Known, New, Clash, Full}
 use Rattle.tank.specs.Rules.{clash}
 use Rattle.tank.specs.Steps.{roomFor}
@@ -71,46 +72,22 @@ clash-at m (x ∷ xs) h e =
     clash-step (stands (idOf x) (idOf m)) m x (clash m xs) true true (placeOf (idOf m) xs) xs refl (clash-at m xs (h .1)) h e
 
 -- ---- the cases
-module _ (m : Mark) (ms : List Mark) where
-  known-by : (a b c : Bool) (i q : ℕ) → cond a (cond b Clash (Known q)) (cond c Full (New q)) ≡ Known i → (a ≡ true) × (b ≡ false) × (i ≡ q)
-  known-by true true c i q e = (cc, cc, cc)
-  known-by true false c i q e = (refl, refl, cc)
-  known-by false b true i q e = (cc, cc, cc)
-  known-by false b false i q e = (cc, cc, cc)
+abbrev pub RoomSays : Mark → List Mark → Room → Type 0
+RoomSays m ms (Known i) = (member (idOf m) ms ≡ true) × (clash m ms ≡ false) × (i ≡ placeOf (idOf m) ms)
+RoomSays m ms (New i) = (member (idOf m) ms ≡ false) × (leb 64 (length ms) ≡ false) × (i ≡ placeOf (idOf m) ms)
+RoomSays m ms Clash = clash m ms ≡ true
+RoomSays m ms Full = (member (idOf m) ms ≡ false) × (leb 64 (length ms) ≡ true)
 
-  new-by : (a b c : Bool) (i q : ℕ) → cond a (cond b Clash (Known q)) (cond c Full (New q)) ≡ New i → (a ≡ false) × (c ≡ false) × (i ≡ q)
-  new-by true true c i q e = (cc, cc, cc)
-  new-by true false c i q e = (cc, cc, cc)
-  new-by false b true i q e = (cc, cc, cc)
-  new-by false b false i q e = (refl, refl, cc)
-
-  clash-by : (a b c : Bool) (q : ℕ) → cond a (cond b Clash (Known q)) (cond c Full (New q)) ≡ Clash → (a ≡ true) × (b ≡ true)
-  clash-by true true c q e = (refl, refl)
-  clash-by true false c q e = (cc, cc)
-  clash-by false b true q e = (cc, cc)
-  clash-by false b false q e = (cc, cc)
-
-  full-by : (a b c : Bool) (q : ℕ) → cond a (cond b Clash (Known q)) (cond c Full (New q)) ≡ Full → (a ≡ false) × (c ≡ true)
-  full-by true true c q e = (cc, cc)
-  full-by true false c q e = (cc, cc)
-  full-by false b true q e = (refl, refl)
-  full-by false b false q e = (cc, cc)
-
-  pub room-known : {i : ℕ} → roomFor m ms ≡ Known i → (member (idOf m) ms ≡ true) × (clash m ms ≡ false) × (i ≡ placeOf (idOf m) ms)
-  unfolding roomFor
-  room-known {i} e = known-by (member (idOf m) ms) (clash m ms) (leb 64 (length ms)) i (placeOf (idOf m) ms) e
-
-  pub room-new : {i : ℕ} → roomFor m ms ≡ New i → (member (idOf m) ms ≡ false) × (leb 64 (length ms) ≡ false) × (i ≡ placeOf (idOf m) ms)
-  unfolding roomFor
-  room-new {i} e = new-by (member (idOf m) ms) (clash m ms) (leb 64 (length ms)) i (placeOf (idOf m) ms) e
-
-  pub room-clash : roomFor m ms ≡ Clash → clash m ms ≡ true
-  unfolding roomFor
-  room-clash e = clash-by (member (idOf m) ms) (clash m ms) (leb 64 (length ms)) (placeOf (idOf m) ms) e .1
-
-  pub room-full : roomFor m ms ≡ Full → (member (idOf m) ms ≡ false) × (leb 64 (length ms) ≡ true)
-  unfolding roomFor
-  room-full e = full-by (member (idOf m) ms) (clash m ms) (leb 64 (length ms)) (placeOf (idOf m) ms) e
+pub room-says : (m : Mark) (ms : List Mark) {r : Room} → roomFor m ms ≡ r → RoomSays m ms r
+unfolding roomFor
+room-says m ms e = subst (RoomSays m ms) e (go (member (idOf m) ms) (clash m ms) (leb 64 (length ms)) refl refl refl)
+  where
+    go : (a b c : Bool) → member (idOf m) ms ≡ a → clash m ms ≡ b → leb 64 (length ms) ≡ c
+        → RoomSays m ms (cond a (cond b Clash (Known (placeOf (idOf m) ms))) (cond c Full (New (placeOf (idOf m) ms))))
+    go true true c x y z = y
+    go true false c x y z = (x, y, refl)
+    go false b true x y z = (x, z)
+    go false b false x y z = (x, z, refl)
 
 -- a mark that the table has with one content is the table's
 pub known-is : (m : Mark) (ms : List Mark) → Sorted ms → member (idOf m) ms ≡ true → clash m ms ≡ false → getD ms (placeOf (idOf m) ms) blank ≡ m

@@ -1,12 +1,13 @@
 -- A mark of the table taken off a range: what the tank then means.
 use Prim.Native.Nat.{ℕ, zero, suc, _+_, _-_, _*_, _/_, _%_, _<_, _^_}
 use mathlib.Core.Path.{_≡_, sym, ap, _∙_}
+use mathlib.Core.Bool.{_&&_}
 use mathlib.Core.List.{List}
 use native.Mathlib.Omega.{arith}
 use native.Mathlib.Nat.{pow-suc, min-zero}
 use native.Mathlib.Decide.{decLt}
 use lib.Bits.{bitAnd, and-step, and-high, and-zero-r}
-use lib.Dec.{ltb}
+use lib.Dec.{ltb, leb}
 use lib.ListN.{length, getD}
 use lib.Pow.{pow-pos, pow-add}
 use borrow.Author.Tests.{lt-ltb, le-ltb, eq-eqb, ne-eqb}
@@ -14,6 +15,7 @@ use Rattle.styles.specs.declared.Mark.{Mark}
 use Rattle.styles.specs.Order.{idOf}
 use Rattle.styles.specs.Marks.{Sorted, member, removeMark, blank}
 use Rattle.styles.specs.Bits.{pick, hasBit, withBit, withoutBit}
+use Rattle.laws.proofs.Cases.{cond-by}
 use Rattle.styles.proofs.PickLaws.{pick-without}
 use Rattle.styles.proofs.MaskLaws.{member-pick}
 use Rattle.runs.specs.Runs.{runs, total, setAt, changing, Spare}
@@ -21,7 +23,7 @@ use Rattle.runs.specs.Edits.{Joined}
 use Rattle.runs.specs.Positions.{alteredAt}
 use Rattle.runs.proofs.Copies.{altered}
 use Rattle.runs.specs.Scan.{meets}
-use Rattle.runs.proofs.EditLaws.{drop-is, total-altered, altered-in, altered-out, canon-altered}
+use Rattle.runs.proofs.EditLaws.{drop-is, at-altered, canon-altered}
 use Rattle.tank.specs.declared.Tank.{Tank}
 use Rattle.tank.specs.Rules.{stripped}
 use Rattle.tank.specs.State.{runsOf, tableOf, view, Laid}
@@ -31,7 +33,7 @@ use Rattle.tank.proofs.LayLaws.{one-bit}
 use Rattle.tank.proofs.Shape.{gather-small, view-sum}
 use Rattle.tank.proofs.AlterLaws.{fits-runs, alter-done}
 use Rattle.tank.proofs.Unique.{table-length}
-use Rattle.tank.proofs.ViewLaws.{view-stripped}
+use Rattle.tank.proofs.ViewLaws.{view-altered}
 
 -- ---- one bit of a set
 -- taken away
@@ -77,30 +79,16 @@ module _ {t : Tank} (start end i : ℕ) (h : CanStrip t start end i) where
   at-small : (p : ℕ) → p < total (altered (runsOf t) start end (changing 0 (withBit i 0)))
       → setAt (altered (runsOf t) start end (changing 0 (withBit i 0))) p < 2 ^ t .marks
   at-small p k =
-      let up = h .range .up in
-      let fits = fits-runs (h .range) in
       let old = at-inside (runsOf t) (t .marks) p (h .range .laid .inside) in
-      let z = total-altered (runsOf t) start end (changing 0 (withBit i 0)) up fits in
-      elim (decLt p start) [
-        | yes a ↦ omega (arith, altered-out (runsOf t) start end (changing 0 (withBit i 0)) up fits p (λ x y. omega arith) (omega arith))
-        | no a ↦
-            elim (decLt p end) [
-              | yes b ↦
-                  omega (
-                    arith,
-                    altered-in (runsOf t) start end (changing 0 (withBit i 0)) up fits p (omega arith) b,
-                    drop-is (withBit i 0) (setAt (runsOf t) p),
-                  )
-              | no b ↦
-                  omega (arith, altered-out (runsOf t) start end (changing 0 (withBit i 0)) up fits p (λ x y. omega arith) (omega arith))
-            ]
-      ]
+      rw (at-altered (runsOf t) start end (changing 0 (withBit i 0)) (h .range .up) (fits-runs (h .range)) p)
+      (cond-by (λ x. x < 2 ^ t .marks) (leb start p && ltb p end) (omega (arith, drop-is (withBit i 0) (setAt (runsOf t) p))) old)
 
   pub strip-done : (lens sets : List ℕ) (n : ℕ) → Joined (t .length) (alteredAt start end (changing 0 (withBit i 0)) (setAt (runsOf t))) (runs lens sets n)
       → Spare lens sets n
       → length lens ≡ 514 → length sets ≡ 514
       → let r : Tank = record { touched = t .touched; length = t .length; runs = n; marks = t .marks; lens = lens; sets = sets; table = t .table } in
       (Laid r) × (view r ≡ stripped (idOf (getD (tableOf t) i blank)) start end (view t))
+  unfolding stripped
   strip-done lens sets n made sp l l′ =
       let f = h .range .laid in
       let out = altered (runsOf t) start end (changing 0 (withBit i 0)) in
@@ -110,7 +98,7 @@ module _ {t : Tank} (start end i : ℕ) (h : CanStrip t start end i) where
       in (
         s .laid,
         s .is
-            ∙ view-stripped (runsOf t) start end (changing 0 (withBit i 0)) (h .range .up) (fits-runs (h .range)) (tableOf t) (idOf (getD (tableOf t) i blank)) (t .touched)
+            ∙ view-altered (runsOf t) start end (changing 0 (withBit i 0)) (h .range .up) (fits-runs (h .range)) (tableOf t) (removeMark (idOf (getD (tableOf t) i blank))) (t .touched)
             (drops-mark (tableOf t) i (f .sorted) (let q = h .there in omega (arith, table-length f)))
             ∙ ap (stripped (idOf (getD (tableOf t) i blank)) start end) (view-sum f),
       )

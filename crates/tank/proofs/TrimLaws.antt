@@ -1,34 +1,33 @@
 -- Marks that no position carries leave the table, and their bits leave every set: the tank means what it meant.
-use Prim.Native.Nat.{ℕ, zero, suc, _+_, _-_, _/_, _%_, _≤_, _<_, _^_}
+use Prim.Native.Nat.{ℕ, _-_, _/_, _%_, _≤_, _<_, _^_}
 use mathlib.Core.Path.{_≡_, refl, sym, ap, _∙_}
 use mathlib.Core.Bool.{true, true≢false}
 use mathlib.Core.List.{List, [], _∷_, _++_}
 use native.Mathlib.Omega.{arith}
 use native.Mathlib.Nat.{pow-suc}
-use native.Mathlib.Decide.{decLt}
-use lib.Bits.{bitAnd, and-zero-l}
+use lib.Bits.{bitAnd}
 use lib.Count.{ones}
 use lib.ListN.{length, getD, take, replicate, length-append, length-replicate}
 use lib.Pow.{pow-mono, pow-pos}
-use lib.Seq.{take-at, getD-append-add}
-use Rattle.laws.proofs.Cases.{getD-blank}
+use lib.Seq.{take-at}
+use Rattle.laws.proofs.Cases.{getD-past}
 use Rattle.styles.specs.declared.Mark.{Mark}
 use Rattle.styles.specs.declared.Styles.{Styles}
 use Rattle.styles.specs.Answers.{stylesOf}
 use Rattle.styles.specs.Marks.{blank}
-use Rattle.styles.specs.Bits.{keepBit, pick, Squeezed}
+use Rattle.styles.specs.Bits.{pick, Squeezed}
 use Rattle.styles.proofs.Built.{squeeze}
 use Rattle.styles.proofs.BitLaws.{half-less}
 use Rattle.styles.proofs.CountLaws.{length-keep, pick-length}
+use Rattle.styles.proofs.PickLaws.{keep-by}
 use Rattle.styles.proofs.SqueezeLaws.{pick-squeeze, squeeze-only}
 use Rattle.styles.proofs.UnionLaws.{squeeze-all, squeeze-none}
 use Rattle.styles.proofs.WalkLaws.{sorted-pick, pick-length-le}
 use Rattle.runs.specs.Runs.{runs, total, setAt}
 use Rattle.runs.specs.Gather.{gather, Renumbered}
-use Rattle.runs.proofs.Laws.{at-past}
 use Rattle.runs.proofs.MapLaws.{mapRuns, total-map, at-map, renumber-runs, renumber-spare}
-use Rattle.runs.proofs.GatherLaws.{set-within}
-use Rattle.runs.proofs.RenumberLaws.{canon-squeeze, gather-squeeze, sets-within}
+use Rattle.runs.proofs.GatherLaws.{sets-within, set-within}
+use Rattle.runs.proofs.RenumberLaws.{canon-squeeze, gather-squeeze}
 use Rattle.tank.specs.declared.Tank.{Tank}
 use Rattle.tank.specs.State.{runsOf, tableOf, view, Numbers, Laid}
 use Rattle.tank.specs.Steps.{Trimmed}
@@ -44,15 +43,10 @@ pick-whole (m ∷ ms) s h e =
     let l = pick-length-le ms (s / 2) in
     omega (arith, pick-whole ms (s / 2) (half-less (length ms) s h) (omega arith), pow-suc 2 (length ms), pow-pos (length ms))
 
-numbers-keep : (b : ℕ) (m : Mark) (xs ms : List Mark) → Numbers (m ∷ ms) → Numbers xs → Numbers (keepBit b m xs)
-unfolding Numbers
-numbers-keep zero m xs ms n k = k
-numbers-keep (suc b) m xs ms n k = (n .0, k)
-
 numbers-pick : (ms : List Mark) (s : ℕ) → Numbers ms → Numbers (pick ms s)
 unfolding Numbers pick
 numbers-pick [] s n = tt
-numbers-pick (m ∷ ms) s n = numbers-keep (s % 2) m (pick ms (s / 2)) ms n (numbers-pick ms (s / 2) (n .1))
+numbers-pick (m ∷ ms) s n = let k = numbers-pick ms (s / 2) (n .1) in keep-by Numbers (s % 2) k (n .0, k)
 
 module _ {t : Tank} (f : Laid t) (e : t .touched ≡ true) where
   -- what is carried are marks of the table
@@ -102,17 +96,10 @@ module _ {t : Tank} (f : Laid t) (e : t .touched ≡ true) where
         ∙ (omega (arith, count-is, length-replicate (64 - kept .count) blank))
 
     blanks : (i : ℕ) → kept .count ≤ i → getD (kept .marks) i blank ≡ blank
-    blanks i h =
-        let k : length (pick (tableOf t) carried) + (i - kept .count) ≡ i = omega (arith, count-is) in
-        ap (λ ms. getD ms i blank) table-is ∙ ap (λ x. getD (pick (tableOf t) carried ++ replicate (64 - kept .count) blank) x blank) (sym k)
-        ∙ getD-append-add (pick (tableOf t) carried) (replicate (64 - kept .count) blank) (i - kept .count) blank ∙ getD-blank blank (64 - kept .count) (i - kept .count)
+    blanks i h = ap (λ ms. getD ms i blank) table-is ∙ getD-past blank (64 - kept .count) i (pick (tableOf t) carried) (omega (arith, count-is))
 
     within : (p : ℕ) → bitAnd (setAt (runsOf t) p) carried ≡ setAt (runsOf t) p
-    within p =
-        elim (decLt p (total (runsOf t))) [
-          | yes h ↦ ap (bitAnd (setAt (runsOf t) p)) g ∙ set-within (runsOf t) p h
-          | no h ↦ let z = at-past (runsOf t) p (omega arith) in rw z (and-zero-l carried)
-        ]
+    within p = ap (bitAnd (setAt (runsOf t) p)) g ∙ set-within (runsOf t) p
 
     ones-are : ones carried ≡ kept .count
     ones-are = sym (pick-length (tableOf t) carried (rw g (inside-table f))) ∙ sym count-is

@@ -8,15 +8,13 @@ use native.Mathlib.Decide.{decLe}
 use lib.Dec.{ltb}
 use borrow.Author.Tests.{lt-ltb, le-ltb, le-leb, lt-leb}
 use Rattle.laws.proofs.Cases.{cond-ap}
-use Rattle.styles.specs.declared.Identity.{Identity}
 use Rattle.styles.specs.declared.Mark.{Mark}
-use Rattle.styles.specs.Marks.{insertMark, removeMark}
 use Rattle.styles.specs.Bits.{pick}
 use Rattle.runs.specs.Runs.{Run, total, setAt}
 use Rattle.runs.proofs.Copies.{altered, deleted, inserted}
 use Rattle.runs.proofs.EditLaws.{total-altered, at-altered, total-deleted, at-deleted, total-inserted, at-inserted}
-use Rattle.tank.specs.Rules.{View, afterAnnotate, inherited, afterInsert, afterDelete, stripped}
-use Rattle.runs.specs.Positions.{within}
+use Rattle.tank.specs.Rules.{View, inherited, afterInsert, afterDelete}
+use Rattle.runs.specs.Positions.{within, alteredAt}
 use Rattle.tank.specs.State.{viewOf}
 
 -- two views are equal where they agree at each position
@@ -57,28 +55,15 @@ module _ (rs : List Run) (pos l s : ℕ) (fits : pos ≤ total rs) where
       ∙ ap (cond (ltb p pos) (pick ms (setAt rs p)))
       (cond-ap (pick ms) (ltb p (pos + l)) _ _ ∙ ap (λ x. cond (ltb p (pos + l)) x (pick ms (setAt rs (p - l)))) e))
 
--- ---- sets changed in a range
-module _ (rs : List Run) (a b : ℕ) (f : ℕ → ℕ) (up : a ≤ b) (fits : b ≤ total rs) where
-  -- where f does to a set's bits what g does to its marks
-  module _ (ms : List Mark) (g : List Mark → List Mark) (does : (s : ℕ) → pick ms (f s) ≡ g (pick ms s)) where
-    marks-altered : (p : ℕ) → pick ms (setAt (altered rs a b f) p) ≡ cond (within a b p) (g (pick ms (setAt rs p))) (pick ms (setAt rs p))
-    marks-altered p =
-        ap (pick ms) (at-altered rs a b f up fits p) ∙ cond-ap (pick ms) (within a b p) _ _
-        ∙ ap (λ x. cond (within a b p) x (pick ms (setAt rs p))) (does (setAt rs p))
-
-pub view-annotated : (rs : List Run) (a b : ℕ) (f : ℕ → ℕ) → a ≤ b → b ≤ total rs → (ms : List Mark) (m : Mark) (t : Bool)
-    → ((s : ℕ) → pick ms (f s) ≡ insertMark m (pick ms s))
-    → viewOf true (total (altered rs a b f)) ms (altered rs a b f) ≡ afterAnnotate a b m (viewOf t (total rs) ms rs)
-unfolding afterAnnotate
-view-annotated rs a b f up fits ms m t does =
-    view-ext _ _ (total-altered rs a b f up fits) refl (marks-altered rs a b f up fits ms (insertMark m) does)
-
-pub view-stripped : (rs : List Run) (a b : ℕ) (f : ℕ → ℕ) → a ≤ b → b ≤ total rs → (ms : List Mark) (id : Identity) (t : Bool)
-    → ((s : ℕ) → pick ms (f s) ≡ removeMark id (pick ms s))
-    → viewOf t (total (altered rs a b f)) ms (altered rs a b f) ≡ stripped id a b (viewOf t (total rs) ms rs)
-unfolding stripped
-view-stripped rs a b f up fits ms id t does =
-    view-ext _ _ (total-altered rs a b f up fits) refl (marks-altered rs a b f up fits ms (removeMark id) does)
+-- ---- sets changed in a range, where f does to a set's bits what g does to its marks
+pub view-altered : (rs : List Run) (a b : ℕ) (f : ℕ → ℕ) → a ≤ b → b ≤ total rs → (ms : List Mark) (g : List Mark → List Mark) (t : Bool)
+    → ((s : ℕ) → pick ms (f s) ≡ g (pick ms s))
+    → viewOf t (total (altered rs a b f)) ms (altered rs a b f) ≡ record { length = total rs; touched = t; at = alteredAt a b g (λ p. pick ms (setAt rs p)) }
+view-altered rs a b f up fits ms g t does =
+    view-ext _ _ (total-altered rs a b f up fits) refl
+    (λ p.
+    ap (pick ms) (at-altered rs a b f up fits p) ∙ cond-ap (pick ms) (within a b p) _ _
+    ∙ ap (λ x. cond (within a b p) x (pick ms (setAt rs p))) (does (setAt rs p)))
 
 -- ---- sets and table renumbered together
 pub view-renumbered : (t : Bool) (l : ℕ) (ms ns : List Mark) (rs qs : List Run) → ((p : ℕ) → pick ns (setAt qs p) ≡ pick ms (setAt rs p))

@@ -3,11 +3,11 @@ use Prim.Native.Nat.{ℕ, _≤_, _<_}
 use mathlib.Core.Path.{_≡_, refl, sym, ap, _∙_}
 use mathlib.Core.List.{[]}
 use native.Mathlib.Omega.{arith}
-use borrow.Author.Tests.{ne-eqb}
 use Rattle.styles.specs.Answers.{stylesOf}
 use Rattle.tank.specs.declared.Tank.{Tank}
 use Rattle.tank.specs.Rules.{freshView, Edit, annotating, inserting, deleting, removing, refusal, insertedSet, removedFirst, View, forInsert, backFrom, whenAccepted}
 use Rattle.tank.specs.State.{view, Sound}
+use Rattle.tank.proofs.Calls.{when-refused}
 use Rattle.tanks.specs.declared.Done.{Done}
 use Rattle.tanks.specs.declared.Performed.{Performed}
 use Rattle.tanks.specs.declared.Tanks.{Tanks}
@@ -33,13 +33,10 @@ module _ (s : Tanks) (t : ℕ) where
   pub taken-past : {x : Tank} → 8 ≤ t → (Sound x) × (view x ≡ freshView) → Taken s t x
   taken-past h new = record { is = new .1 ∙ sym (tank-past s t freshView h); sound = new .0 }
 
-  -- what stands beside an edit's number: the tank's own, where the house accepts it, and nothing beside a refusal
+  -- what stands beside an edit's number: the tank's own, where the house accepts it
   beside-done : {A : Type 0} (e : Edit) (given : View → A) (none : A) (x : Tank) → t < 8 → TakenOut s t x → refusalAt (meaning s) t e ≡ 0
       → whenAccepted (refusal e (view x)) (given (view x)) none ≡ whenAccepted (refusalAt (meaning s) t e) (given (tankAt (meaning s) t)) none
   beside-done e given none x h taken z = rw (own-view x h taken, z, own-zero e h z)
-
-  beside-refused : {A : Type 0} (e : Edit) (given none : A) → 0 < refusalAt (meaning s) t e → none ≡ whenAccepted (refusalAt (meaning s) t e) given none
-  beside-refused e given none h = rw (ne-eqb (refusalAt (meaning s) t e) 0 (λ z. omega arith))
 
   -- the same for every edit
   set-beside : (e : Edit) (x : Tank) → t < 8 → TakenOut s t x → refusalAt (meaning s) t e ≡ 0 → setBeside (λ pos len. insertedSet pos len (view x)) e ≡ setBeside (insertedSetAt (meaning s) t) e
@@ -59,7 +56,7 @@ module _ (s : Tanks) (t : ℕ) where
   no-set : (e : Edit) → 0 < refusalAt (meaning s) t e → [] ≡ setBeside (insertedSetAt (meaning s) t) e
   unfolding insertedSetAt
   no-set (annotating a b m) h = refl
-  no-set (inserting pos len) h = beside-refused (inserting pos len) (forInsert pos (tankAt (meaning s) t)) [] h
+  no-set (inserting pos len) h = sym (when-refused _ _ _ h)
   no-set (deleting a b) h = refl
   no-set (removing id last) h = refl
 
@@ -68,7 +65,7 @@ module _ (s : Tanks) (t : ℕ) where
   no-first (annotating a b m) h = refl
   no-first (inserting pos len) h = refl
   no-first (deleting a b) h = refl
-  no-first (removing id last) h = beside-refused (removing id last) (backFrom id last (tankAt (meaning s) t)) 0 h
+  no-first (removing id last) h = sym (when-refused _ _ _ h)
 
   -- a refused edit
   pub done-refused : (e : Edit) (v : ℕ) (r : Done) → CalledAt s t e v s → 0 < v → (r .number ≡ v) × (r .styles ≡ stylesOf []) × (r .first ≡ 0) × (r .tanks ≡ s) → DoneAt s t e r

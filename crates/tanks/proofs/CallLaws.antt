@@ -4,10 +4,11 @@ use mathlib.Core.Path.{_≡_, refl, sym, ap, _∙_, subst}
 use mathlib.Core.Bool.{Bool, true, false, cond}
 use native.Mathlib.Omega.{arith}
 use lib.Dec.{eqb}
-use borrow.Author.Tests.{eqb-true, le-leb, lt-leb, ne-eqb}
+use borrow.Author.Tests.{eqb-true, le-leb, lt-leb}
 use Rattle.tank.specs.declared.Tank.{Tank}
 use Rattle.tank.specs.Rules.{View, freshView, runsHeld, Edit, after, refusal, afterCall, first}
 use Rattle.tank.specs.State.{view, Called}
+use Rattle.tank.proofs.Calls.{when-refused}
 use Rattle.tank.proofs.Unique.{runs-held}
 use Rattle.tanks.specs.declared.Tanks.{Tanks}
 use Rattle.tanks.specs.Settings.{judgement}
@@ -37,7 +38,7 @@ refusal-past h t e l = rw (le-leb 8 t l)
 
 pub after-refused : (h : House) (t : ℕ) (e : Edit) → 0 < refusalAt h t e → afterAt h t e ≡ h
 unfolding afterAt
-after-refused h t e l = rw (ne-eqb (refusalAt h t e) 0 (λ z. omega arith))
+after-refused h t e l = when-refused _ _ h l
 
 pub after-done : (h : House) (t : ℕ) (e : Edit) → refusalAt h t e ≡ 0 → afterAt h t e ≡ withTank h t (after e (tankAt h t))
 unfolding afterAt

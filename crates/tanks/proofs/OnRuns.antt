@@ -4,7 +4,6 @@ use mathlib.Core.Path.{_≡_, refl, sym, ap, _∙_, fun-ext}
 use mathlib.Core.Bool.{Bool, true, false, cond, _&&_, and-eq-true-iff}
 use mathlib.Core.List.{List, [], _∷_, map}
 use native.Mathlib.Omega.{arith}
-use native.Mathlib.Decide.{decLt}
 use lib.Dec.{ltb, eqb}
 use lib.ListN.{length, getD, set, replicate, List·getD-map}
 use lib.Pow.{pow-pos}
@@ -16,7 +15,8 @@ use Rattle.styles.specs.Bits.{pick}
 use Rattle.styles.proofs.UnionLaws.{pick-none}
 use Rattle.runs.specs.Runs.{Run, run, total, Other, Canon}
 use Rattle.runs.specs.Gather.{gather}
-use Rattle.runs.proofs.Laws.{at-last, at-past}
+use Rattle.runs.proofs.GatherLaws.{all-at}
+use Rattle.runs.proofs.MapLaws.{AllSets}
 use Rattle.tank.specs.Rules.{View, freshLength, freshView, runsHeld, Edit, after, refusal, first}
 use Rattle.tank.specs.State.{viewOf}
 use Rattle.tank.proofs.Counted.{counted}
@@ -128,17 +128,8 @@ tried-clear ms w t e m = and-eq-true-iff (w .clear) _ .0 m
 
 module _ (ms : List Mark) (sorted : Sorted ms) where
   fresh-is : freshView ≡ viewOn ms fresh
-  unfolding freshView total
-  fresh-is =
-      view-ext _ _ refl refl
-      (λ p.
-      sym
-      (ap (pick ms)
-      (elim (decLt p freshLength) [
-        | yes h ↦ at-last (run freshLength 0) [] p (omega arith) (omega arith)
-        | no h ↦ at-past (run freshLength 0 ∷ []) p (omega arith)
-      ])
-      ∙ pick-none ms))
+  unfolding freshView total AllSets
+  fresh-is = view-ext _ _ refl refl (λ p. sym (ap (pick ms) (all-at (λ s. s ≡ 0) (run freshLength 0 ∷ []) refl (refl, tt) p) ∙ pick-none ms))
 
   fresh-fit : Fit ms fresh
   unfolding Canon Other gather
@@ -152,10 +143,7 @@ module _ (ms : List Mark) (sorted : Sorted ms) where
   -- an accepted edit of a tank
   edit-on : (e : Edit) (k : Kept) → Fit ms k → known ms e ≡ true → numberOn ms e (k .touched) (k .runs) ≡ 0
       → after e (viewOn ms k) ≡ viewOn ms (keptAfter ms e k)
-  edit-on e k f g z =
-      let v = viewOn ms k in
-      let r = refusal-on ms sorted e (k .touched) (k .runs) (f .canon) ∙ z in
-      sym (ap (λ n. cond (eqb n 0) (after e v) v) r) ∙ call-on ms sorted e (k .touched) (k .runs) (f .canon) g z
+  edit-on e k f g z = call-on ms sorted e (k .touched) (k .runs) (f .canon) g z
 
   held-in : (k : Kept) → Fit ms k → runsHeld (viewOn ms k) ≡ length (k .runs)
   held-in k f = counted ms (k .runs) sorted (f .inside) (f .canon)

@@ -1,12 +1,12 @@
 -- A fresh state: eight fresh tanks, sound.
-use Prim.Native.Nat.{ℕ, zero, suc, _+_, _-_, _≤_, _<_}
+use Prim.Native.Nat.{ℕ, zero, suc, _≤_, _<_}
 use mathlib.Core.Path.{_≡_, refl, sym, ap, _∙_, subst}
 use mathlib.Core.Bool.{true, false}
 use mathlib.Core.List.{List, [], _∷_, map}
 use native.Mathlib.Omega.{arith}
 use lib.ListN.{length, take, set, replicate, getD-replicate, List·getD-append}
-use lib.Seq.{drop-cons, getD-append-add}
-use Rattle.laws.proofs.Cases.{getD-blank}
+use lib.Seq.{drop-cons}
+use Rattle.laws.proofs.Cases.{getD-blank, getD-past}
 use Rattle.styles.specs.Marks.{blank}
 use Rattle.runs.specs.Runs.{Spare}
 use Rattle.runs.specs.Positions.{sumBelow, allAt}
@@ -96,9 +96,7 @@ module _ (st : List Setting) where
       limits = λ u h. omega (arith, runs-one u h, accepted-at st ok u h);
       sum = omega (arith, claims-one, accepted-sum st ok);
       each = λ u h. subst Formed (sym (tank-fresh u h)) (fresh-is .0 .formed);
-      spare = λ k h.
-          let e : 8 + (k - 8) ≡ k = omega (arith, below-one 8 (omega arith)) in
-          (rw e at (getD-append-add (replicate 8 (record { len = T; set = 0 })) (replicate 504 noRun) (k - 8) noRun)) ∙ getD-blank noRun 504 (k - 8);
+      spare = λ k h. getD-past noRun 504 k (replicate 8 (record { len = T; set = 0 })) (omega (arith, below-one 8 (omega arith)));
     }
 
     pub opens : Opens st (record { number = 0; tanks = freshly st })

@@ -22,7 +22,7 @@ returns-2 c =
     let s = e .before .before in (
       ap (pick (tableOf (s .args .t))) (c .common-at .ensures)
           ∙ common-for-insert (s .pre .0 .laid) (s .args .pos) (s .pre .1) (not-false _ (e .if1 .left)),
-      omega (arith, c .common-at .ensures, common-small (s .pre .0 .laid) (s .args .pos) (s .pre .1)),
+      omega (arith, c .common-at .ensures, common-small (s .pre .0 .laid) (s .args .pos)),
     )
 
 pub set-for-insert-spec : {M : Type 1} → statement M

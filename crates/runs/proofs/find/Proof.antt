@@ -1,11 +1,11 @@
 -- `runs::find` meets its contract. The invariant: run i starts at `start`, which `pos` has reached.
-use Prim.Native.Nat.{_+_, _-_, _≤_}
+use Prim.Native.Nat.{_-_, _≤_}
 use mathlib.Core.Path.{_≡_, refl}
 use native.Mathlib.Omega.{arith}
 use lib.ListN.{getD}
 use Rattle.runs.specs.Positions.{sumBelow}
 use Rattle.runs.specs.Runs.{sums}
-use Rattle.runs.proofs.SumLaws.{sum-more, sum-up}
+use Rattle.runs.proofs.SumLaws.{sum-more, sum-next}
 use Rattle.runs.proofs.find.Statement.{statement}
 use Rattle.runs.proofs.find.Tie as tie
 
@@ -29,7 +29,7 @@ add-end : tie.Need-add-end Inv-loop μ-loop
 add-end c =
     let a = c .before .before .before .args in
     let i = c .before .before .loop .i in
-    omega (arith, sum-more (λ k. getD (a .lens .now) k 0) i, sum-up (λ k. getD (a .lens .now) k 0) (i + 1) (a .n) (omega arith))
+    omega (arith, sum-next (λ k. getD (a .lens .now) k 0) i (a .n) (omega arith))
 
 returns : tie.Need-returns Inv-loop μ-loop
 returns c = omega arith

@@ -5,14 +5,14 @@ use mathlib.Core.List.{List, _++_}
 use native.Mathlib.Omega.{arith}
 use borrow.Author.Needs.{needs}
 use lib.Count.{ones}
-use lib.ListN.{length, getD, take, drop, length-append}
+use lib.ListN.{length, getD, take, drop}
 use Rattle.runs.specs.Runs.{runs, total}
 use Rattle.runs.specs.Positions.{asNumbers}
 use Rattle.runs.specs.Stretches.{entry, inFront}
 use Rattle.runs.proofs.Clipped.{clipped, clippedList, Fits}
 use Rattle.runs.proofs.PositionLaws.{listed-is, fits-of}
 use Rattle.runs.proofs.Laws.{total-more, turn-end}
-use Rattle.runs.proofs.ListLaws.{clipped-more, clipped-grows, front-write, front-length}
+use Rattle.runs.proofs.ListLaws.{clipped-more, clipped-length, clipped-grows, front-write, front-length}
 use Rattle.runs.proofs.stretches.list.Statement.{statement}
 use Rattle.runs.proofs.stretches.list.Tie as tie
 
@@ -38,13 +38,7 @@ module _ {lens sets : List ℕ} {n from to least : ℕ} {out₀ out : List ℕ} 
   turn-list = rw (inv .begun) (clipped-more least from to lens sets k)
 
   turn-fits : length (clippedList least from to lens sets k) + length (more least from to start (getD lens k 0) (getD sets k 0)) ≤ length out₀
-  turn-fits =
-      omega (
-        arith,
-        ap length turn-list,
-        length-append (clippedList least from to lens sets k) (more least from to start (getD lens k 0) (getD sets k 0)),
-        clipped-grows least from to lens sets (k + 1) n (omega arith),
-      )
+  turn-fits = omega (arith, clipped-length least from to lens sets k (inv .begun), clipped-grows least from to lens sets (k + 1) n (omega arith))
 
   turn-room : at + length (more least from to start (getD lens k 0) (getD sets k 0)) ≤ length out
   turn-room = omega (arith, turn-fits, ap length (inv .done), front-length (clippedList least from to lens sets k) out₀ (omega (arith, turn-fits)))
@@ -57,8 +51,7 @@ module _ {lens sets : List ℕ} {n from to least : ℕ} {out₀ out : List ℕ} 
       record {
         within = omega arith;
         begun = omega (arith, total-more lens sets k);
-        place =
-            omega (arith, ap length turn-list, length-append (clippedList least from to lens sets k) (more least from to start (getD lens k 0) (getD sets k 0)));
+        place = omega (arith, clipped-length least from to lens sets k (inv .begun));
         done =
             e
             ∙ placed (clippedList least from to lens sets k) (more least from to start (getD lens k 0) (getD sets k 0)) out₀ out at (inv .place) (inv .done) turn-fits

@@ -1,11 +1,11 @@
 -- `stretches::need` meets its contract. The invariant: `count` is the length of the list of the first k runs.
 use Prim.Native.Nat.{ℕ, _+_, _-_, _*_, _≤_, _<_, _^_, min, max}
-use mathlib.Core.Path.{_≡_, refl, ap}
-use mathlib.Core.List.{List, _++_}
+use mathlib.Core.Path.{_≡_, refl}
+use mathlib.Core.List.{List}
 use native.Mathlib.Omega.{arith}
 use borrow.Author.Needs.{needs}
 use lib.Count.{ones}
-use lib.ListN.{length, getD, length-append}
+use lib.ListN.{length, getD}
 use Rattle.runs.specs.Runs.{runs, total}
 use Rattle.runs.specs.Count.{CanTally}
 use Rattle.runs.specs.Positions.{asNumbers}
@@ -13,7 +13,7 @@ use Rattle.runs.specs.Stretches.{entry}
 use Rattle.runs.proofs.Clipped.{clipped, clippedList}
 use Rattle.runs.proofs.PositionLaws.{listed-is}
 use Rattle.runs.proofs.Laws.{total-more, turn-end}
-use Rattle.runs.proofs.ListLaws.{clipped-more, clipped-most, entry-most}
+use Rattle.runs.proofs.ListLaws.{clipped-length, clipped-most, entry-most}
 use Rattle.runs.proofs.stretches.need.Statement.{statement}
 use Rattle.runs.proofs.stretches.need.Tie as tie
 
@@ -32,15 +32,7 @@ module _ {lens sets : List ℕ} {n from to least k start count : ℕ} (can : Can
       record {
         within = omega arith;
         begun = omega (arith, total-more lens sets k);
-        place =
-            let b = inv .begun in
-            let l : length (clippedList least from to lens sets (k + 1)) ≡ length (clippedList least from to lens sets k ++ entry least (max from start) (min to (start + getD lens k 0)) (ones (getD sets k 0))) =
-            rw b (ap length (clipped-more least from to lens sets k))
-            in
-            omega (
-              arith,
-              length-append (clippedList least from to lens sets k) (entry least (max from start) (min to (start + getD lens k 0)) (ones (getD sets k 0))),
-            );
+        place = omega (arith, clipped-length least from to lens sets k (inv .begun));
       }
 
 abbrev Inv-loop : tie.InvT-loop
