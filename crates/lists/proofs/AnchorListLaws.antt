@@ -2,13 +2,14 @@
 use Prim.Native.Nat.{ℕ, zero, suc, _≤_, _<_}
 use mathlib.Core.Path.{_≡_, refl, sym, ap, _∙_, subst}
 use mathlib.Core.Bool.{Bool, true, false, cond}
-use mathlib.Core.List.{List, [], _∷_, _++_}
+use mathlib.Core.List.{List, [], _++_}
 use native.Mathlib.Omega.{arith}
+use native.Mathlib.Nat.{add-zero}
 use native.Mathlib.Numerals.{add-one}
 use native.Mathlib.Decide.{decLt}
 use lib.Dec.{eqb}
 use lib.ListN.{length, getD, set, take, drop, length-set}
-use lib.Seq.{drop-cons, drop-drop, set-at, take-suc, take-length, append-snoc, length-take-le}
+use lib.Seq.{drop-cons, drop-drop, getD-drop, set-at, take-suc, take-length, append-snoc, length-take-le}
 use borrow.Author.Tests.{lt-ltb, le-ltb, ne-eqb}
 use Rattle.tank.specs.declared.Tank.{Tank}
 use Rattle.lists.specs.declared.Listed.{Listed}
@@ -132,10 +133,4 @@ stand-next {t} j c d s g =
     }
 
 pub stand-anchor : {t : Tank} (j : ℕ) (c : AnchorCursor) → Standing t j c → getD (rest t c) 0 noAnchor ≡ nth (anchors (view t)) j
-stand-anchor {t} j c s = ap (λ (l : List Anchor). getD l 0 noAnchor) (s .come) ∙ first-of (anchors (view t)) j
-  where
-    first-of : (xs : List Anchor) (i : ℕ) → getD (drop i xs) 0 noAnchor ≡ nth xs i
-    first-of [] zero = refl
-    first-of [] (suc i) = refl
-    first-of (x ∷ xs) zero = refl
-    first-of (x ∷ xs) (suc i) = first-of xs i
+stand-anchor {t} j c s = ap (λ (l : List Anchor). getD l 0 noAnchor) (s .come) ∙ getD-drop j (anchors (view t)) 0 noAnchor ∙ ap (nth (anchors (view t))) (add-zero j)
