@@ -8,8 +8,7 @@ use native.Mathlib.Decide.{decLt}
 use native.Mathlib.Numerals.{add-one}
 use lib.ListN.{length, getD, set, replicate, length-append, length-set, getD-replicate, length-replicate, List·getD-append}
 use lib.Seq.{getD-append-add, getD-set-same, getD-set-other, set-comm, ext-getD}
-use Rattle.runs.specs.Positions.{sumBelow}
-use Rattle.runs.proofs.SumLaws.{sum-same}
+use Rattle.runs.proofs.SumLaws.{sum-same, sum-but-one}
 use Rattle.tanks.specs.declared.Head.{Head}
 use Rattle.tanks.specs.Pool.{noHead, runsIn, runsBelow}
 
@@ -91,13 +90,8 @@ below-same hs t h u l =
     sum-same (runsIn (set hs t h)) (runsIn hs) u (λ v k. ap (λ (x : Head). x .runs) (getD-set-other hs t v h noHead (λ e. omega arith)))
 
 pub below-later : (hs : List Head) (t : ℕ) (h : Head) (u : ℕ) → t < length hs → t < u → runsBelow (set hs t h) u + runsIn hs t ≡ runsBelow hs u + h .runs
-unfolding sumBelow
-below-later hs t h zero g l = absurd (omega arith)
-below-later hs t h (suc u) g l =
-    elim (decLt t u) [
-      | yes k ↦
-          omega (arith, below-later hs t h u g k, ap (λ (x : Head). x .runs) (getD-set-other hs t u h noHead (λ e. omega arith)))
-      | no k ↦
-          let e : u ≡ t = omega arith in
-          rw e (omega (arith, below-same hs t h t (omega arith), ap (λ (x : Head). x .runs) (getD-set-same hs t h noHead g)))
-    ]
+below-later hs t h u g l =
+    let same = ap (λ (x : Head). x .runs) (getD-set-same hs t h noHead g) in
+    let other : (v : ℕ) → v ≢ t → runsIn (set hs t h) v ≡ runsIn hs v = λ v ne. ap (λ (x : Head). x .runs) (getD-set-other hs t v h noHead ne) in
+    let below = sum-but-one (runsIn (set hs t h)) (runsIn hs) t u l (λ v _ ne. omega (arith, other v ne)) in
+    omega (arith, same, below, sum-but-one (runsIn hs) (runsIn (set hs t h)) t u l (λ v _ ne. omega (arith, other v ne)))

@@ -9,7 +9,7 @@ use lib.Dec.{ltb, eqb}
 use lib.ListN.{length, getD, set, replicate, List·getD-map}
 use lib.Pow.{pow-pos}
 use borrow.Author.Tests.{ltb-true, eqb-true}
-use Rattle.styles.proofs.Cases.{cond-by}
+use Rattle.styles.proofs.Cases.{cond-by, cond-ap}
 use Rattle.styles.specs.declared.Mark.{Mark}
 use Rattle.styles.specs.Marks.{Sorted}
 use Rattle.styles.specs.Bits.{pick}
@@ -25,7 +25,7 @@ use Rattle.tank.proofs.ViewLaws.{view-ext}
 use Rattle.tanks.specs.declared.Setting.{Setting}
 use Rattle.tanks.specs.Settings.{accepted, judgement}
 use Rattle.tanks.specs.House.{House, tankAt, held, opening, noTank, refusalAt, withTank, afterAt, Call, afterAll}
-use Rattle.tanks.proofs.CallLaws.{first-when}
+use Rattle.tanks.proofs.CallLaws.{cond-when, first-when}
 use Rattle.tanks.proofs.SettingLaws.{first-zero}
 
 -- ---- tanks on runs
@@ -224,13 +224,12 @@ module _ (ms : List Mark) (sorted : Sorted ms) where
 
         pub after-on : afterAt h t e ≡ houseOn st ms (allAfter st ms ks t e)
         unfolding afterAt allAfter numberAt
-        after-on = ap (λ n. cond (eqb n 0) (withTank h t (after e (tankAt h t))) h) number-on ∙ go (eqb (numberAt st ms ks t e) 0) refl
-          where
-            go : (b : Bool) → eqb (numberAt st ms ks t e) 0 ≡ b → cond b (withTank h t (after e (tankAt h t))) h ≡ houseOn st ms (cond b (set ks t new) ks)
-            go true z =
-                let m = moved (eqb-true (numberAt st ms ks t e) 0 z) in
-                λ i. record { settings = st; tanks = (ap (set (map (viewOn ms) ks) t) m ∙ map-set (viewOn ms) new ks t) i }
-            go false z = refl
+        after-on =
+            let b = eqb (numberAt st ms ks t e) 0 in
+            ap (λ n. cond (eqb n 0) (withTank h t (after e (tankAt h t))) h) number-on
+            ∙ cond-when b _ (houseOn st ms (set ks t new)) h
+            (λ z i. record { settings = st; tanks = (ap (set (map (viewOn ms) ks) t) (moved (eqb-true (numberAt st ms ks t e) 0 z)) ∙ map-set (viewOn ms) new ks t) i })
+            ∙ sym (cond-ap (houseOn st ms) b (set ks t new) ks)
 
       -- what the rules say of an edit that was tried
       pub own-on : (t : ℕ) (e : Edit) → AllFit ms ks

@@ -24,7 +24,7 @@ use Rattle.tanks.specs.Settings.{accepted, shareOf, shares, claim, claim
 use Rattle.tanks.specs.House.{smallest, openNumber, opening}
 use Rattle.tanks.specs.Pool.{noHead, noRun, noTable, runsIn, runsBelow, ownRuns, zeroFilled, tankIn, tankOf, headOf, tableIn, meaning, Sound, freshly}
 use Rattle.tanks.specs.Contracts.{Opens}
-use Rattle.tanks.proofs.PutLaws.{tank-eq}
+use Rattle.tank.proofs.Unique.{tank-eq}
 use Rattle.tanks.proofs.SettingLaws.{accepted-at, accepted-sum}
 use Rattle.tanks.proofs.MeaningLaws.{views-are}
 

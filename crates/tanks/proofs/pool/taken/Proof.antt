@@ -9,7 +9,7 @@ use Rattle.tanks.specs.declared.Run.{Run}
 use Rattle.tanks.specs.Pool.{noRun, runsIn, runsBelow, tankIn}
 use Rattle.tanks.proofs.LaidLaws.{laid, laid-more-front}
 use Rattle.tanks.proofs.SliceLaws.{own-laid}
-use Rattle.tanks.proofs.PutLaws.{tank-eq}
+use Rattle.tank.proofs.Unique.{tank-eq}
 use Rattle.tanks.proofs.pool.taken.Statement.{statement}
 use Rattle.tanks.proofs.pool.taken.Tie as tie
 
