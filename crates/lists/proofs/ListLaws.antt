@@ -90,7 +90,7 @@ module _ (a b : ℕ) (v : View) where
 
 -- ---- the ways out of a list's call, over the number that comes before 11
 -- what is handed over: the answer, and the buffer
-abbrev pub Handed : ℕ → List ℕ → List ℕ → Listed → List ℕ → Type 0
+abbrev pub Handed : {A : Type 0} → ℕ → List A → List A → Listed → List A → Type 0
 Handed number xs out r out′ = (r ≡ filledBeside number xs) × (out′ ≡ inFront (unlessRefused number xs) out)
 
 still : (lower room : ℕ) (xs : List ℕ) → length (unlessRefused lower xs) ≡ 0 → listRefusal lower room (length xs) ≡ lower
