@@ -8,9 +8,10 @@ use native.Mathlib.Nat.{add-zero}
 use native.Mathlib.Numerals.{add-one}
 use native.Mathlib.Decide.{decLt}
 use lib.Dec.{eqb}
-use lib.ListN.{length, getD, set, take, drop, length-set}
-use lib.Seq.{drop-cons, drop-drop, getD-drop, set-at, take-suc, take-length, append-snoc, length-take-le}
+use lib.ListN.{length, getD, drop}
+use lib.Seq.{drop-drop, getD-drop, take-length}
 use borrow.Author.Tests.{lt-ltb, le-ltb, ne-eqb}
+use Rattle.styles.proofs.Cases.{stored, stored-is}
 use Rattle.tank.specs.declared.Tank.{Tank}
 use Rattle.lists.specs.declared.Listed.{Listed}
 use Rattle.lists.specs.declared.anchors.Anchor.{Anchor}
@@ -69,30 +70,14 @@ count-room xs zero room = elim (decLt room (length xs)) [
 count-room xs (suc lower) room = simp (ne-eqb (suc lower) 0 (λ e. omega arith)) (omega arith)
 
 -- ---- the list after j stores
-abbrev pub stored : (ℕ → Anchor) → List Anchor → ℕ → List Anchor
-stored f ys zero = ys
-stored f ys (suc j) = set (stored f ys j) j (f j)
-
-pub length-stored : (f : ℕ → Anchor) (ys : List Anchor) (j : ℕ) → length (stored f ys j) ≡ length ys
-length-stored f ys zero = refl
-length-stored f ys (suc j) = length-set (stored f ys j) j (f j) ∙ length-stored f ys j
-
 -- the anchors that a walk stores, one by one
 abbrev pub nth : List Anchor → ℕ → Anchor
 nth xs j = getD xs j noAnchor
 
-stored-is : (xs ys : List Anchor) (n : ℕ) → n ≤ length xs → n ≤ length ys → stored (nth xs) ys n ≡ take n xs ++ drop n ys
-stored-is xs ys zero h g = refl
-stored-is xs ys (suc n) h g =
-    ap (λ (zs : List Anchor). set zs n (nth xs n))
-    (stored-is xs ys n (omega arith) (omega arith) ∙ ap (λ (zs : List Anchor). take n xs ++ zs) (drop-cons ys n noAnchor (omega arith)))
-    ∙ set-at (take n xs) _ (drop (suc n) ys) (nth xs n) n (length-take-le n xs (omega arith))
-    ∙ sym (ap (λ (zs : List Anchor). zs ++ drop (suc n) ys) (take-suc xs n noAnchor (omega arith)) ∙ append-snoc (take n xs) (nth xs n) (drop (suc n) ys))
-
 front-by : (all : Bool) (xs ys : List Anchor) (n : ℕ) → n ≡ length (cond all xs []) → n ≤ length ys
     → stored (nth xs) ys n ≡ inFront (cond all xs []) ys
 front-by true xs ys n e h =
-    stored-is xs ys n (omega arith) h ∙ rw e (ap (λ (zs : List Anchor). zs ++ drop (length xs) ys) (take-length xs))
+    stored-is (nth xs) xs ys noAnchor n (omega arith) h (λ _ _. refl) ∙ rw e (ap (λ (zs : List Anchor). zs ++ drop (length xs) ys) (take-length xs))
 front-by false xs ys n e h = rw e
 
 -- all of them or none

@@ -1,13 +1,13 @@
--- A list written place by place, as the loops write the pool and a tank's arrays; and the laws of `runsBelow`.
-use Prim.Native.Nat.{ℕ, zero, suc, _+_, _-_, _≤_, _<_}
-use mathlib.Core.Path.{_≡_, refl, sym, ap, _∙_}
+-- A list written place by place, as the loop of `edit` writes the pool; and the laws of `runsBelow`.
+use Prim.Native.Nat.{ℕ, zero, suc, _+_, _≤_, _<_}
+use mathlib.Core.Path.{_≡_, refl, ap, _∙_}
 use mathlib.Core.Logic.{_≢_}
-use mathlib.Core.List.{List, _++_}
+use mathlib.Core.List.{List}
 use native.Mathlib.Omega.{arith}
 use native.Mathlib.Decide.{decLt}
 use native.Mathlib.Numerals.{add-one}
-use lib.ListN.{length, getD, set, replicate, length-append, length-set, getD-replicate, length-replicate, List·getD-append}
-use lib.Seq.{getD-append-add, getD-set-same, getD-set-other, set-comm, ext-getD}
+use lib.ListN.{length, getD, set, length-set}
+use lib.Seq.{getD-set-same, getD-set-other, set-comm}
 use Rattle.runs.proofs.SumLaws.{sum-same, sum-but-one}
 use Rattle.tanks.specs.declared.Head.{Head}
 use Rattle.tanks.specs.Pool.{noHead, runsIn, runsBelow}
@@ -40,12 +40,6 @@ module _ {A : Type 0} where
             rw e (getD-set-same (laid p at f n) (at + n) (f n) d (omega (arith, length-laid p at f n)))
       ]
 
-  -- at the front, with no `0 +`
-  laid-front : (p : List A) (f : ℕ → A) (n k : ℕ) (d : A) → n ≤ length p → k < n → getD (laid p 0 f n) k d ≡ f k
-  laid-front p f n k d h g =
-      let e : 0 + k ≡ k = omega arith in
-      rw e at (laid-in p 0 f n k d (omega arith) g)
-
   pub laid-cong : (p : List A) (at : ℕ) (f g : ℕ → A) (n : ℕ) → ((k : ℕ) → k < n → f k ≡ g k) → laid p at f n ≡ laid p at g n
   unfolding laid
   laid-cong p at f g zero h = refl
@@ -55,10 +49,6 @@ module _ {A : Type 0} where
   unfolding laid
   laid-more p at f n = rw add-one
 
-  pub laid-more-front : (p : List A) (f : ℕ → A) (n : ℕ) → set (laid p 0 f n) n (f n) ≡ laid p 0 f (n + 1)
-  unfolding laid
-  laid-more-front p f n = let e : 0 + n ≡ n = omega arith in rw (add-one, e)
-
   -- from the back
   pub laid-back : (p : List A) (at : ℕ) (f : ℕ → A) (n : ℕ) → set (laid p (suc at) (λ k. f (suc k)) n) at (f 0) ≡ laid p at f (suc n)
   unfolding laid
@@ -67,22 +57,6 @@ module _ {A : Type 0} where
       let e : at + suc n ≡ suc at + n = omega arith in
       set-comm (laid p (suc at) (λ k. f (suc k)) n) (suc at + n) at (f (suc n)) (f 0) (λ z. omega arith)
       ∙ rw e (ap (λ (l : List A). set l (suc at + n) (f (suc n))) (laid-back p at f n))
-
-  -- xs laid at the front of blanks, with blanks behind it
-  pub laid-blanks : (m : ℕ) (z : A) (xs : List A) (f : ℕ → A) (n : ℕ) (d : A) → length xs ≡ n → n ≤ m → ((k : ℕ) → k < n → f k ≡ getD xs k d)
-      → laid (replicate m z) 0 f n ≡ xs ++ replicate (m - n) z
-  laid-blanks m z xs f n d l r eq =
-      let a = length-laid (replicate m z) 0 f n in
-      let b = length-replicate m z in
-      ext-getD d (laid (replicate m z) 0 f n) (xs ++ replicate (m - n) z)
-      (omega (arith, a, b, length-append xs (replicate (m - n) z), length-replicate (m - n) z))
-      (λ k g. elim (decLt k n) [
-        | yes h ↦ laid-front (replicate m z) f n k d (omega arith) h ∙ eq k h ∙ sym (List·getD-append xs (replicate (m - n) z) d k (omega arith))
-        | no h ↦
-            let e : length xs + (k - n) ≡ k = omega arith in
-            laid-out (replicate m z) 0 f n k d (λ j q i. omega arith) ∙ getD-replicate m k z d (omega arith)
-            ∙ sym (rw e at (getD-append-add xs (replicate (m - n) z) (k - n) d ∙ getD-replicate (m - n) (k - n) z d (omega arith)))
-      ])
 
 -- ---- where tanks begin
 pub below-same : (hs : List Head) (t : ℕ) (h : Head) (u : ℕ) → u ≤ t → runsBelow (set hs t h) u ≡ runsBelow hs u

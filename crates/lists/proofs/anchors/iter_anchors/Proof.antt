@@ -52,6 +52,7 @@ use denote.Triple.Walked.{says, needs, Stays, stay-slice, stay-none, walkOf, goe
 use denote.Exit.{yes as is-kept}
 use borrow.Author.Needs.{scaled-fits}
 use borrow.Author.Tests.{lt-ltb, le-ltb}
+use Rattle.styles.proofs.Cases.{stored, length-stored}
 use Rattle.tank.specs.declared.Tank.{Tank}
 use Rattle.lists.specs.declared.Listed.{Listed}
 use Rattle.lists.specs.declared.anchors.Anchor.{Anchor}
@@ -59,7 +60,7 @@ use Rattle.lists.specs.declared.anchors.AnchorCursor.{AnchorCursor}
 use Rattle.tank.specs.State.{view, Sound}
 use Rattle.lists.specs.Anchors.{anchors, anchorsAfter, Stands}
 use Rattle.lists.proofs.Leaves.{leaves-to}
-use Rattle.lists.proofs.AnchorListLaws.{stored, length-stored, nth, stored-front, Said-turns, Said-first, Said-anchor, Said-advance, Said-judged, Standing, stand-first, stand-next, stand-anchor}
+use Rattle.lists.proofs.AnchorListLaws.{nth, stored-front, Said-turns, Said-first, Said-anchor, Said-advance, Said-judged, Standing, stand-first, stand-next, stand-anchor}
 use Rattle.tank.proofs.Tank as S
 use Rattle.tank.proofs.Tank.Laws as S′
 use Rattle.lists.proofs.Listed as R
