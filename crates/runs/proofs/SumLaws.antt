@@ -1,4 +1,4 @@
--- Sums over the first n: one term more, term by term, and a longer sum. Assumes nothing.
+-- Sums over the first n: one term more, term by term, a longer sum, and sums compared but for one term. Assumes nothing.
 use mathlib.Core.Path.{_≡_, refl}
 use mathlib.Core.Logic.{_≢_}
 use Prim.Native.Nat.{ℕ, zero, suc, _+_, _*_, _≤_, _<_}

@@ -7,10 +7,10 @@ use mathlib.Core.Path.{_≡_, refl, _∙_}
 use lib.ListN.{length, getD, replicate}
 use Rattle.styles.proofs.Cases.{stored}
 use Rattle.runs.proofs.SumLaws.{sum-next}
+use Rattle.tank.proofs.Unique.{tank-eq}
 use Rattle.tanks.specs.declared.Run.{Run}
 use Rattle.tanks.specs.Pool.{noRun, runsIn, runsBelow, tankIn}
 use Rattle.tanks.proofs.SliceLaws.{own-stored}
-use Rattle.tank.proofs.Unique.{tank-eq}
 use Rattle.tanks.proofs.pool.taken.Statement.{statement}
 use Rattle.tanks.proofs.pool.taken.Tie as tie
 
