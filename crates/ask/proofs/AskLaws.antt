@@ -19,7 +19,7 @@ use Rattle.lists.specs.declared.anchors.Anchor.{Anchor}
 use Rattle.runs.specs.Stretches.{inFront}
 use Rattle.lists.specs.Lists.{listRefusal, unlessRefused, filledBeside}
 use Rattle.lists.specs.Anchors.{anchors, anchorsAfter, anchorsNumber}
-use Rattle.lists.proofs.ListLaws.{handed-part, handed-count}
+use Rattle.lists.proofs.ListLaws.{Handed, handed-part, handed-count}
 use Rattle.ask.specs.Asks.{askAt, noList}
 
 module _ {R : Type 0} (s : Tanks) (t : ℕ) (refused : R) (asks : View → R) where
@@ -32,8 +32,20 @@ module _ {R : Type 0} (s : Tanks) (t : ℕ) (refused : R) (asks : View → R) wh
   inside {r} {x} h k a = rw (lt-leb 8 t h) (a ∙ ap asks (k .is))
 
 -- a count with its number
-pub listed : (r : Listed) (a b : ℕ) → r .number ≡ a → r .count ≡ b → r ≡ record { number = a; count = b }
-listed r a b e g = λ i. record { number = e i; count = g i }
+pub listed-eq : (r : Listed) (a b : ℕ) → r .number ≡ a → r .count ≡ b → r ≡ record { number = a; count = b }
+listed-eq r a b e g = λ i. record { number = e i; count = g i }
+
+-- ---- a list's call: the answer, and what is left of the list lent to it
+abbrev pub Listed-at : {A : Type 0} → House → ℕ → (View → ℕ) → (View → List A) → List A → Listed → List A → Type 0
+Listed-at h t number xs out r last =
+    (r ≡ askAt h t noList (λ v. filledBeside (number v) (xs v))) × (last ≡ askAt h t out (λ v. inFront (unlessRefused (number v) (xs v)) out))
+
+module _ {A : Type 0} (s : Tanks) (t : ℕ) (number : View → ℕ) (xs : View → List A) (out : List A) {r : Listed} {last : List A} where
+  pub list-past : 8 ≤ t → r ≡ noList → last ≡ out → Listed-at (meaning s) t number xs out r last
+  list-past h e g = rw (le-leb 8 t h) (e, g)
+
+  pub list-inside : {x : Tank} → t < 8 → Taken s t x → Handed (number (view x)) (xs (view x)) out r last → Listed-at (meaning s) t number xs out r last
+  list-inside h k a = rw (lt-leb 8 t h) (subst (λ (v : View). Handed (number v) (xs v) out r last) (k .is) a)
 
 -- ---- the part of a buffer that a list filled
 module _ (number : ℕ) (xs out : List ℕ) (r : Listed) (last : List ℕ) where
@@ -45,8 +57,7 @@ module _ (number : ℕ) (xs out : List ℕ) (r : Listed) (last : List ℕ) where
   count-by true e g = ap (λ (x : Listed). x .count) e ∙ sym (ap length (part-by true e g))
   count-by false e g = handed-count number xs out r last (e, g)
 
-module _ (h : House) (t : ℕ) (number : View → ℕ) (xs : View → List ℕ) (out : List ℕ) (r : Listed) (last : List ℕ)
-    (said : (r ≡ askAt h t noList (λ v. filledBeside (number v) (xs v))) × (last ≡ askAt h t out (λ v. inFront (unlessRefused (number v) (xs v)) out))) where
+module _ (h : House) (t : ℕ) (number : View → ℕ) (xs : View → List ℕ) (out : List ℕ) (r : Listed) (last : List ℕ) (said : Listed-at h t number xs out r last) where
   pub asked-part : take (r .count) last ≡ askAt h t [] (λ v. unlessRefused (number v) (xs v))
   asked-part = part-by (number (tankAt h t)) (xs (tankAt h t)) out r last (noTank t) (said .0) (said .1)
 
@@ -56,28 +67,21 @@ module _ (h : House) (t : ℕ) (number : View → ℕ) (xs : View → List ℕ) 
 -- ---- a list that its callee refuses where there is no such tank
 -- what the walk of `iter_anchors` hears of its callee, and what it says
 abbrev pub Said-listed : Tank → ℕ → List Anchor → Listed → List Anchor → Type 0
-Said-listed x n ys r zs =
-    (r ≡ filledBeside (anchorsAfter n (length ys) (view x)) (anchors (view x))) × (zs ≡ inFront (unlessRefused (anchorsAfter n (length ys) (view x)) (anchors (view x))) ys)
+Said-listed x n ys = Handed (anchorsAfter n (length ys) (view x)) (anchors (view x)) ys
 
 abbrev pub Says-asked : Tanks → ℕ → List Anchor → Listed → List Anchor → Type 0
-Says-asked s t ys r zs =
-    (r ≡ askAt (meaning s) t noList (λ v. filledBeside (anchorsNumber (length ys) v) (anchors v)))
-    × (zs ≡ askAt (meaning s) t ys (λ v. inFront (unlessRefused (anchorsNumber (length ys) v) (anchors v)) ys))
+Says-asked s t ys = Listed-at (meaning s) t (anchorsNumber (length ys)) anchors ys
 
 pub anchors-asked : (s : Tanks) (t n : ℕ) (x : Tank) (ys zs : List Anchor) (r : Listed) → Taken s t x → n ≡ askNumber t → Said-listed x n ys r zs → Says-asked s t ys r zs
 unfolding listRefusal
 anchors-asked s t n x ys zs r k e said =
-    let number : View → ℕ = anchorsNumber (length ys) in
-    let asks : View → Listed = λ v. filledBeside (number v) (anchors v) in
-    let leaves : View → List Anchor = λ v. inFront (unlessRefused (number v) (anchors v)) ys in
     elim (decLt t 8) [
       | yes h ↦
           let is : n ≡ 0 = e ∙ ap (λ (b : Bool). cond b 1 0) (lt-leb 8 t h) in
-          let a : Said-listed x 0 ys r zs = subst (λ (m : ℕ). Said-listed x m ys r zs) is said in
-          (inside s t noList asks h k (a .0), inside s t ys leaves h k (a .1))
+          list-inside s t (anchorsNumber (length ys)) anchors ys h k (subst (λ (m : ℕ). Said-listed x m ys r zs) is said)
       | no h ↦
           let l : 8 ≤ t = omega arith in
           let is : n ≡ 1 = e ∙ ap (λ (b : Bool). cond b 1 0) (le-leb 8 t l) in
           let a : Said-listed x 1 ys r zs = subst (λ (m : ℕ). Said-listed x m ys r zs) is said in
-          (past s t noList asks l (a .0), past s t ys leaves l (a .1))
+          list-past s t (anchorsNumber (length ys)) anchors ys l (a .0) (a .1)
     ]

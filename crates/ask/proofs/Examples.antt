@@ -26,7 +26,7 @@ use Rattle.tanks.specs.declared.Setting.{Setting}
 use Rattle.tanks.specs.Settings.{accepted, claims, judgement}
 use Rattle.tanks.specs.House.{House, tankAt, openNumber, noTank, refusalAt, insertedSetAt, removedFirstAt}
 use Rattle.tanks.specs.Pool.{tankNumbers}
-use Rattle.tanks.proofs.OnRuns.{Kept, fresh, keptAt, keptAfter, tried, tried-clear, own-on, heldOn, viewOn, houseOn, numberAt, allAfter, may, Way, step, steps, Fit, AllFit, all-fresh, opening-on, tank-on, held-on, number-on, after-fit, after-on, step-clear, steps-clear, steps-on}
+use Rattle.tanks.proofs.OnRuns.{RunsKept, fresh, keptAt, keptAfter, tried, tried-clear, own-on, heldOn, viewOn, houseOn, numberAt, allAfter, may, Way, step, steps, Fit, AllFit, all-fresh, opening-on, tank-on, held-on, number-on, after-fit, after-on, step-clear, steps-clear, steps-on}
 use Rattle.ask.specs.Examples.{Answer, refused, taken, gives, begins, reply, answer, marksAt, Look, Looks, winners, Line, given, made, would, runsAre, containsKey, wins, anchored, Says, leaves, AllSaid, Case, Holds, AllHold, A, B, C, table}
 use Rattle.ask.proofs.Ranges.{rangeOf, ranges, ranges-at}
 
@@ -57,12 +57,12 @@ answer-by h t (deleting a b) = refl
 answer-by h t (removing id last) = refl
 
 -- ---- a line computed on runs
-unfoldable lookOn : Kept → Look
+unfoldable lookOn : RunsKept → Look
 unfolding abc
 lookOn k = record { length = total (k .runs); runs = length (k .runs); marks = ranges abc (k .runs) }
 
 -- the line with what is found in place of what it says
-unfoldable finds : List Setting → List Kept → Line → Line
+unfoldable finds : List Setting → List RunsKept → Line → Line
 unfolding answerOn lookOn abc
 finds st ks (given cs) = given cs
 finds st ks (made t e says look) =
@@ -85,7 +85,7 @@ next st w (wins t key p ws) = w
 next st w (anchored t xs) = w
 
 -- ---- what is found on runs holds of positions
-look-on : (k : Kept) (look : Look) → Fit abc k → lookOn k ≡ look → Looks look (viewOn abc k)
+look-on : (k : RunsKept) (look : Look) → Fit abc k → lookOn k ≡ look → Looks look (viewOn abc k)
 unfolding lookOn
 look-on k look f e = record {
   length-is = ap (λ (l : Look). l .length) e;
@@ -100,7 +100,7 @@ record Stands (st : List Setting) (w : Way) (l : Line) : Type 0 where
   fits : AllFit abc (next st w l .kept)
 
 module _ (st : List Setting) (w : Way) (f : AllFit abc (w .kept)) where
-  abbrev ks : List Kept
+  abbrev ks : List RunsKept
   ks = w .kept
 
   abbrev h : House

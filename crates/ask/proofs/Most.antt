@@ -1,17 +1,15 @@
 -- How long a list can be in a sound state: each other tank claims a run at least, so that one tank holds 505 at most.
-use Prim.Native.Nat.{ℕ, zero, suc, _+_, _≤_, _<_}
-use mathlib.Core.Path.{_≡_, ap}
-use mathlib.Core.List.{List}
+use Prim.Native.Nat.{ℕ, _≤_, _<_}
+use mathlib.Core.Path.{_≡_, refl, ap}
 use native.Mathlib.Omega.{arith}
-use native.Mathlib.Decide.{decLt}
 use lib.ListN.{length}
 use borrow.Author.Tests.{le-ltb}
 use Rattle.runs.specs.Positions.{sumBelow}
+use Rattle.runs.proofs.SumLaws.{sum-but-one}
 use Rattle.tank.specs.Rules.{View, freshView}
 use Rattle.tank.specs.State.{view}
 use Rattle.tanks.specs.declared.Tanks.{Tanks}
-use Rattle.tanks.specs.declared.Setting.{Setting}
-use Rattle.tanks.specs.Settings.{shareOf, claims}
+use Rattle.tanks.specs.Settings.{claim}
 use Rattle.tanks.specs.House.{tankAt}
 use Rattle.tanks.specs.Pool.{runsIn, tankIn, tankOf, meaning, Sound}
 use Rattle.tanks.proofs.SettingLaws.{accepted-at}
@@ -21,24 +19,15 @@ use Rattle.lists.specs.Anchors.{anchors, anchorsNumber}
 use Rattle.lists.proofs.Most.{list-most, anchors-most}
 
 -- ---- the runs of one tank
-module _ (st : List Setting) (f : ℕ → ℕ) where
-  claims-some : (n : ℕ) → ((u : ℕ) → u < n → 1 ≤ shareOf st u) → n ≤ claims st f n
-  unfolding sumBelow
-  claims-some zero h = omega arith
-  claims-some (suc n) h = omega (arith, claims-some n (λ u l. h u (omega arith)), h n (omega arith))
-
-  claims-one : (n t : ℕ) → ((u : ℕ) → u < n → 1 ≤ shareOf st u) → t < n → f t + n ≤ claims st f n + 1
-  unfolding sumBelow
-  claims-one zero t h l = absurd (omega arith)
-  claims-one (suc n) t h l =
-      elim (decLt t n) [
-        | yes k ↦ omega (arith, claims-one n t (λ u g. h u (omega arith)) k, h n (omega arith))
-        | no k ↦ let e : t ≡ n = omega arith in omega (arith, ap f e, claims-some n (λ u g. h u (omega arith)))
-      ]
+eight-ones : sumBelow (λ _. 1) 8 ≡ 8
+unfolding sumBelow
+eight-ones = refl
 
 module _ (s : Tanks) (ok : Sound s) (t : ℕ) (h : t < 8) where
   pub runs-505 : runsIn (s .heads) t ≤ 505
-  runs-505 = omega (arith, ok .sum, claims-one (s .settings) (runsIn (s .heads)) 8 t (λ u g. accepted-at (s .settings) (ok .rule) u g .low) h)
+  runs-505 =
+      let f = claim (s .settings) (runsIn (s .heads)) in
+      omega (arith, ok .sum, eight-ones, sum-but-one (λ _. 1) f t 8 h (λ u g _. omega (arith, accepted-at (s .settings) (ok .rule) u g .low)))
 
   -- ---- its lists
   abbrev is-view : tankAt (meaning s) t ≡ view (tankOf s t)

@@ -10,7 +10,7 @@ use native.Mathlib.Omega.{arith}
 use lib.ListN.{length, getD, take, drop, set, replicate, drop-of-length-le, length-map, length-set, List·getD-map, getD-replicate}
 use lib.Seq.{drop-cons, length-take-le, getD-take, getD-drop, getD-set-same, getD-set-other, take-set-lt, take-suc-set, drop-set-lt, drop-drop, ext-getD}
 use borrow.Author.Tests.{eq-eqb, ne-eqb}
-use Rattle.laws.proofs.Cases.{map-set}
+use Rattle.laws.proofs.Lists.{map-set}
 use Rattle.text.specs.Bytes.{sameOf}
 use Rattle.config.specs.Names.{holdsColon}
 use Rattle.config.specs.Table.{Named, Table, find, place, entered, refuses, withEntry, styleFor}

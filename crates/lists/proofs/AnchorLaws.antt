@@ -2,7 +2,7 @@
 use Prim.Native.Nat.{ℕ, zero, suc, _+_, _-_, _*_, _/_, _%_, _≤_, _<_, _^_, min}
 use mathlib.Core.Path.{_≡_, refl, sym, ap, ap₂, _∙_, subst}
 use mathlib.Core.Bool.{Bool, not}
-use mathlib.Core.List.{List, [], _++_}
+use mathlib.Core.List.{List, [], _++_, append-assoc}
 use native.Mathlib.Omega.{arith}
 use native.Mathlib.Decide.{decLt}
 use native.Mathlib.Numerals.{add-one}
@@ -52,6 +52,17 @@ lack-none s u a b = omega (arith, and-comm s u, and-le-l s u, and-le-l u s)
 pub lack-self : (s : ℕ) → lackingBits s s ≡ 0
 lack-self s = omega (arith, and-self s)
 
+-- ---- boundaries, and those behind them
+pub split : (p j n : ℕ) (v : View) → boundaries p (j + n) v ≡ boundaries p j v ++ boundaries (p + j) n v
+unfolding boundaries
+split p zero n v = let e : p + 0 ≡ p = omega arith in let g : 0 + n ≡ n = omega arith in rw (e, g)
+split p (suc j) n v =
+    let e : p + suc j ≡ suc p + j = omega arith in
+    let g : suc j + n ≡ suc (j + n) = omega arith in
+    rw (e, g)
+    (ap (λ (l : List Anchor). boundary p v ++ l) (split (suc p) j n v)
+    ∙ sym (append-assoc (boundary p v) (boundaries (suc p) j v) (boundaries (suc p + j) n v)))
+
 -- ---- a boundary by bits
 -- the anchors between a set x and a set y, over a table
 abbrev pub between : List Mark → ℕ → ℕ → ℕ → List Anchor
@@ -91,19 +102,18 @@ module _ (touched : Bool) (l : ℕ) (ms : List Mark) (rs : List Run) (sorted : S
       let y = setAt rs p in
       rw (before-is p, behind-is p, pick-lacking ms x y sorted, pick-lacking ms y x sorted)
 
+  -- where one set goes on no boundary has an anchor
+  pub flat : (p n s : ℕ) → ((q : ℕ) → p ≤ q → q ≤ p + n → setAt rs q ≡ s) → boundaries (suc p) n (viewOf touched l ms rs) ≡ []
+  unfolding boundaries
+  flat p zero s h = refl
+  flat p (suc n) s h =
+      ap₂ (λ (xs ys : List Anchor). xs ++ ys)
+      (boundary-on (suc p) ∙ ap₂ (between ms (suc p)) (h p (omega arith) (omega arith)) (h (suc p) (omega arith) (omega arith)) ∙ between-same ms (suc p) s)
+      (flat (suc p) n s (λ q a b. h q (omega arith) (omega arith)))
+
 pub boundary-is : {t : Tank} → Laid t → (p : ℕ) → boundary p (view t) ≡ between (tableOf t) p (setBefore (runsOf t) p) (setAt (runsOf t) p)
 unfolding view
 boundary-is {t} f p = boundary-on (t .touched) (t .length) (tableOf t) (runsOf t) (f .sorted) (f .sum) p
-
--- ---- boundaries without anchors are passed
-pub pass : (p j n : ℕ) (v : View) → ((q : ℕ) → p ≤ q → q < p + j → boundary q v ≡ []) → boundaries p (j + n) v ≡ boundaries (p + j) n v
-unfolding boundaries
-pass p zero n v h = let e : p + 0 ≡ p = omega arith in let g : 0 + n ≡ n = omega arith in rw (e, g)
-pass p (suc j) n v h =
-    let e : p + suc j ≡ suc p + j = omega arith in
-    let g : suc j + n ≡ suc (j + n) = omega arith in
-    let i = pass (suc p) j n v (λ q a b. h q (omega arith) (omega arith)) in
-    rw (e, g) (rw (h p (omega arith) (omega arith)) i)
 
 -- ---- runs in joined form
 module _ (lens sets : List ℕ) where
@@ -161,14 +171,6 @@ module _ {t : Tank} (f : Laid t) (k p : ℕ) (in-runs : k < t .runs) (at-is : p 
   here : (q : ℕ) → p ≤ q → q < p + getD (t .lens) k 0 → setAt (runsOf t) q ≡ getD (t .sets) k 0
   here q a b = at-run (t .lens) (t .sets) (t .runs) k q in-runs (omega arith) (omega arith)
 
-  -- inside the run no boundary has an anchor
-  inside : (q : ℕ) → suc p ≤ q → q < p + getD (t .lens) k 0 → boundary q (view t) ≡ []
-  inside zero a b = absurd (omega arith)
-  inside (suc q) a b =
-      boundary-is f (suc q)
-      ∙ ap₂ (between (tableOf t) (suc q)) (here q (omega arith) (omega arith)) (here (suc q) (omega arith) b)
-      ∙ between-same (tableOf t) (suc q) (getD (t .sets) k 0)
-
   at-next : boundary (p + getD (t .lens) k 0) (view t) ≡ between (tableOf t) (p + getD (t .lens) k 0) (getD (t .sets) k 0) (getD (t .sets) (k + 1) 0)
   at-next =
       let q = p + getD (t .lens) k 0 in
@@ -180,14 +182,15 @@ module _ {t : Tank} (f : Laid t) (k p : ℕ) (in-runs : k < t .runs) (at-is : p 
   pub to-next : boundaries (suc p) (t .length - p) (view t)
       ≡ between (tableOf t) (p + getD (t .lens) k 0) (getD (t .sets) k 0) (getD (t .sets) (k + 1) 0)
       ++ boundaries (suc (p + getD (t .lens) k 0)) (t .length - (p + getD (t .lens) k 0)) (view t)
-  unfolding boundaries
+  unfolding boundaries view
   to-next =
       let l = getD (t .lens) k 0 in
       let e : t .length - p ≡ l - 1 + suc (t .length - (p + l)) = omega (arith, run-some, run-fits) in
       let g : suc p + (l - 1) ≡ p + l = omega (arith, run-some) in
       ap (λ n. boundaries (suc p) n (view t)) e
-      ∙ pass (suc p) (l - 1) (suc (t .length - (p + l))) (view t) (λ q a b. inside q a (omega (arith, run-some)))
-      ∙ ap (λ q. boundaries q (suc (t .length - (p + l))) (view t)) g
+      ∙ split (suc p) (l - 1) (suc (t .length - (p + l))) (view t)
+      ∙ ap₂ (λ (xs : List Anchor) q. xs ++ boundaries q (suc (t .length - (p + l))) (view t))
+      (flat (t .touched) (t .length) (tableOf t) (runsOf t) (f .sorted) (f .sum) p (l - 1) _ (λ q a b. here q a (omega (arith, run-some)))) g
       ∙ ap (λ (l′ : List Anchor). l′ ++ boundaries (suc (p + l)) (t .length - (p + l)) (view t)) at-next
 
   -- where a run begins at the next boundary, it has an anchor

@@ -2,14 +2,16 @@
 use Prim.Native.Nat.{ℕ, zero, suc, _≤_, _<_}
 use mathlib.Core.Path.{_≡_, refl, sym, ap, _∙_, subst}
 use mathlib.Core.Bool.{Bool, true, false, cond}
-use mathlib.Core.List.{List, [], _∷_, _++_}
+use mathlib.Core.List.{List, [], _++_}
 use native.Mathlib.Omega.{arith}
+use native.Mathlib.Nat.{add-zero}
 use native.Mathlib.Numerals.{add-one}
 use native.Mathlib.Decide.{decLt}
 use lib.Dec.{eqb}
-use lib.ListN.{length, getD, set, take, drop, length-set}
-use lib.Seq.{drop-cons, drop-drop, set-at, take-suc, take-length, append-snoc, length-take-le}
+use lib.ListN.{length, getD, drop}
+use lib.Seq.{drop-drop, getD-drop, take-length}
 use borrow.Author.Tests.{lt-ltb, le-ltb, ne-eqb}
+use Rattle.laws.proofs.Lists.{stored, stored-is}
 use Rattle.tank.specs.declared.Tank.{Tank}
 use Rattle.lists.specs.declared.Listed.{Listed}
 use Rattle.lists.specs.declared.anchors.Anchor.{Anchor}
@@ -68,30 +70,14 @@ count-room xs zero room = elim (decLt room (length xs)) [
 count-room xs (suc lower) room = simp (ne-eqb (suc lower) 0 (λ e. omega arith)) (omega arith)
 
 -- ---- the list after j stores
-abbrev pub stored : (ℕ → Anchor) → List Anchor → ℕ → List Anchor
-stored f ys zero = ys
-stored f ys (suc j) = set (stored f ys j) j (f j)
-
-pub length-stored : (f : ℕ → Anchor) (ys : List Anchor) (j : ℕ) → length (stored f ys j) ≡ length ys
-length-stored f ys zero = refl
-length-stored f ys (suc j) = length-set (stored f ys j) j (f j) ∙ length-stored f ys j
-
 -- the anchors that a walk stores, one by one
 abbrev pub nth : List Anchor → ℕ → Anchor
 nth xs j = getD xs j noAnchor
 
-stored-is : (xs ys : List Anchor) (n : ℕ) → n ≤ length xs → n ≤ length ys → stored (nth xs) ys n ≡ take n xs ++ drop n ys
-stored-is xs ys zero h g = refl
-stored-is xs ys (suc n) h g =
-    ap (λ (zs : List Anchor). set zs n (nth xs n))
-    (stored-is xs ys n (omega arith) (omega arith) ∙ ap (λ (zs : List Anchor). take n xs ++ zs) (drop-cons ys n noAnchor (omega arith)))
-    ∙ set-at (take n xs) _ (drop (suc n) ys) (nth xs n) n (length-take-le n xs (omega arith))
-    ∙ sym (ap (λ (zs : List Anchor). zs ++ drop (suc n) ys) (take-suc xs n noAnchor (omega arith)) ∙ append-snoc (take n xs) (nth xs n) (drop (suc n) ys))
-
 front-by : (all : Bool) (xs ys : List Anchor) (n : ℕ) → n ≡ length (cond all xs []) → n ≤ length ys
     → stored (nth xs) ys n ≡ inFront (cond all xs []) ys
 front-by true xs ys n e h =
-    stored-is xs ys n (omega arith) h ∙ rw e (ap (λ (zs : List Anchor). zs ++ drop (length xs) ys) (take-length xs))
+    stored-is (nth xs) xs ys noAnchor n (omega arith) h (λ _ _. refl) ∙ rw e (ap (λ (zs : List Anchor). zs ++ drop (length xs) ys) (take-length xs))
 front-by false xs ys n e h = rw e
 
 -- all of them or none
@@ -132,10 +118,4 @@ stand-next {t} j c d s g =
     }
 
 pub stand-anchor : {t : Tank} (j : ℕ) (c : AnchorCursor) → Standing t j c → getD (rest t c) 0 noAnchor ≡ nth (anchors (view t)) j
-stand-anchor {t} j c s = ap (λ (l : List Anchor). getD l 0 noAnchor) (s .come) ∙ first-of (anchors (view t)) j
-  where
-    first-of : (xs : List Anchor) (i : ℕ) → getD (drop i xs) 0 noAnchor ≡ nth xs i
-    first-of [] zero = refl
-    first-of [] (suc i) = refl
-    first-of (x ∷ xs) zero = refl
-    first-of (x ∷ xs) (suc i) = first-of xs i
+stand-anchor {t} j c s = ap (λ (l : List Anchor). getD l 0 noAnchor) (s .come) ∙ getD-drop j (anchors (view t)) 0 noAnchor ∙ ap (nth (anchors (view t))) (add-zero j)

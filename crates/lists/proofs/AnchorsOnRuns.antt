@@ -1,8 +1,8 @@
 -- A whole tank's anchors computed on runs, where there are more positions than can be looked at.
-use Prim.Native.Nat.{ℕ, zero, suc, _+_, _-_, _≤_, _<_}
-use mathlib.Core.Path.{_≡_, refl, sym, ap, ap₂, _∙_}
+use Prim.Native.Nat.{ℕ, zero, suc, _+_, _-_, _<_}
+use mathlib.Core.Path.{_≡_, refl, ap, ap₂, _∙_}
 use mathlib.Core.Bool.{Bool}
-use mathlib.Core.List.{List, [], _∷_, _++_, append-assoc, append-nil}
+use mathlib.Core.List.{List, [], _∷_, _++_, append-nil}
 use native.Mathlib.Omega.{arith}
 use Rattle.styles.specs.declared.Mark.{Mark}
 use Rattle.styles.specs.Marks.{Sorted}
@@ -12,7 +12,7 @@ use Rattle.tank.specs.Rules.{View}
 use Rattle.tank.specs.State.{viewOf}
 use Rattle.lists.specs.declared.anchors.Anchor.{Anchor}
 use Rattle.lists.specs.Anchors.{boundary, boundaries, anchors}
-use Rattle.lists.proofs.AnchorLaws.{between, between-same, setBefore, boundary-on, pass}
+use Rattle.lists.proofs.AnchorLaws.{between, setBefore, split, boundary-on, flat}
 
 -- the anchors of the boundaries that runs begin at
 unfoldable pub edges : List Mark → List Run → List Anchor
@@ -23,16 +23,6 @@ edges ms (r ∷ rs) = edges ms rs ++ between ms (total rs) (setBefore rs (total 
 unfoldable pub anchorsOn : List Mark → List Run → List Anchor
 unfolding edges
 anchorsOn ms rs = edges ms rs ++ between ms (total rs) (setBefore rs (total rs)) 0
-
-split : (p j n : ℕ) (v : View) → boundaries p (j + n) v ≡ boundaries p j v ++ boundaries (p + j) n v
-unfolding boundaries
-split p zero n v = let e : p + 0 ≡ p = omega arith in let g : 0 + n ≡ n = omega arith in rw (e, g)
-split p (suc j) n v =
-    let e : p + suc j ≡ suc p + j = omega arith in
-    let g : suc j + n ≡ suc (j + n) = omega arith in
-    rw (e, g)
-    (ap (λ (l : List Anchor). boundary p v ++ l) (split (suc p) j n v)
-    ∙ sym (append-assoc (boundary p v) (boundaries (suc p) j v) (boundaries (suc p + j) n v)))
 
 split-first : (j n : ℕ) (v : View) → boundaries 0 (j + n) v ≡ boundaries 0 j v ++ boundaries j n v
 split-first j n v = let e : 0 + j ≡ j = omega arith in split 0 j n v ∙ ap (λ p. boundaries 0 j v ++ boundaries p n v) e
@@ -52,15 +42,6 @@ module _ (touched : Bool) (ms : List Mark) (all : List Run) (sorted : Sorted ms)
       go zero e = refl
       go (suc n) e = same n (omega arith)
 
-  -- inside a run no boundary has an anchor
-  inside : (r : Run) (rs : List Run) → First (r ∷ rs) → (q : ℕ) → suc (total rs) ≤ q → q < total rs + r .len → boundary q meant ≡ []
-  unfolding total
-  inside r rs same zero a b = absurd (omega arith)
-  inside r rs same (suc q) a b =
-      let x = same q (omega arith) ∙ at-last r rs q (omega arith) (omega arith) in
-      let y = same (suc q) b ∙ at-last r rs (suc q) (omega arith) b in
-      boundary-on touched (total all) ms all sorted refl (suc q) ∙ ap₂ (between ms (suc q)) x y ∙ between-same ms (suc q) (r .set)
-
   -- the boundary that a run begins at
   begin : (r : Run) (rs : List Run) → 0 < r .len → First (r ∷ rs) → boundary (total rs) meant ≡ between ms (total rs) (setBefore rs (total rs)) (r .set)
   unfolding total
@@ -71,12 +52,12 @@ module _ (touched : Bool) (ms : List Mark) (all : List Run) (sorted : Sorted ms)
 
   one-run : (r : Run) (rs : List Run) → 0 < r .len → First (r ∷ rs)
       → boundaries (total rs) (r .len) meant ≡ between ms (total rs) (setBefore rs (total rs)) (r .set)
-  unfolding boundaries
+  unfolding boundaries total
   one-run r rs some same =
-      let e : r .len ≡ suc (r .len - 1 + 0) = omega arith in
+      let e : r .len ≡ suc (r .len - 1) = omega arith in
       ap (λ n. boundaries (total rs) n meant) e
       ∙ ap₂ (λ (x y : List Anchor). x ++ y) (begin r rs some same)
-      (pass (suc (total rs)) (r .len - 1) 0 meant (λ q a b. inside r rs same q a (omega arith)))
+      (flat touched (total all) ms all sorted refl (total rs) (r .len - 1) (r .set) (λ q a b. same q (omega arith) ∙ at-last r rs q a (omega arith)))
       ∙ append-nil _
 
   edges-are : (rs : List Run) → Canon rs → First rs → boundaries 0 (total rs) meant ≡ edges ms rs

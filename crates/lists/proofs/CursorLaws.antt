@@ -5,7 +5,7 @@ use mathlib.Core.List.{List, [], _∷_, _++_}
 use native.Mathlib.Omega.{arith}
 use native.Mathlib.Decide.{decLt}
 use lib.Count.{ones, ones-step, trailingZeros}
-use lib.ListN.{length, getD, length-append}
+use lib.ListN.{length, getD, length-append, length-map}
 use lib.Pow.{pow-pos}
 use lib.Seq.{getD-take}
 use Rattle.styles.specs.declared.Mark.{Mark}
@@ -18,7 +18,6 @@ use Rattle.runs.specs.Runs.{runs, total, lackingBits}
 use Rattle.tank.specs.declared.Tank.{Tank}
 use Rattle.lists.specs.declared.anchors.Anchor.{Anchor}
 use Rattle.lists.specs.declared.anchors.AnchorCursor.{AnchorCursor}
-use Rattle.richtext.specs.declared.AnchorType.{AnchorType}
 use Rattle.richtext.specs.declared.AnchorType.the-variants.{Start, End}
 use Rattle.lists.specs.declared.anchors.NextAnchor.the-variants.{NoMore, Found}
 use Rattle.tank.specs.State.{tableOf, view, Laid}
@@ -142,6 +141,9 @@ module _ {t : Tank} (f : Laid t) (s : ℕ) (inside : s < 2 ^ t .marks) (has : 0 
       lowest-less (t .marks) 64 s (f .few) inside
       (elim (decLt 0 (ones s)) [ yes k ↦ k | no k ↦ absurd (omega (arith, ones-some (t .marks) s inside (omega arith))) ])
 
+  pub mark-64 : (i : ℕ) → i ≡ trailingZeros 64 s → i < 64
+  mark-64 i e = let l = f .few in omega (arith, lowest-mark)
+
   -- it comes first
   pub lowest-first : pick (tableOf t) s ≡ getD (t .table) (trailingZeros 64 s) blank ∷ pick (tableOf t) (withoutBit (trailingZeros 64 s) s)
   lowest-first =
@@ -153,12 +155,6 @@ module _ {t : Tank} (f : Laid t) (s : ℕ) (inside : s < 2 ^ t .marks) (has : 0 
 module _ {t : Tank} (f : Laid t) (c d : AnchorCursor) (g : Settles t c d) where
   pub end-place : 0 < d .ends → 0 < d .at
   end-place h = elim (decLt 0 (d .at)) [ yes k ↦ k | no k ↦ absurd (omega (arith, g .stands .none-before (omega arith))) ]
-
-  pub end-mark : (i : ℕ) → 0 < d .ends → i ≡ trailingZeros 64 (d .ends) → i < 64
-  end-mark i h e = let l = f .few in omega (arith, lowest-mark f (d .ends) (g .stands .ends-in) h)
-
-  pub start-mark : (i : ℕ) → 0 < d .starts → i ≡ trailingZeros 64 (d .starts) → i < 64
-  start-mark i h e = let l = f .few in omega (arith, lowest-mark f (d .starts) (g .stands .starts-in) h)
 
   -- an end, and the cursor without its bit
   pub takes-end : (a : Anchor) (i u : ℕ) → 0 < d .ends → i ≡ trailingZeros 64 (d .ends) → a ≡ anchorOf (d .at - 1) End (getD (t .table) i blank)
@@ -205,25 +201,18 @@ module _ {t : Tank} (f : Laid t) (c d : AnchorCursor) (g : Settles t c d) where
   takes-none a b = g .same ∙ g .over a b
 
 -- ---- the count
-pub length-anchors : (p : ℕ) (side : AnchorType) (ms : List Mark) → length (anchorsOf p side ms) ≡ length ms
-unfolding anchorsOf
-length-anchors p side [] = refl
-length-anchors p side (m ∷ ms) = omega (arith, length-anchors p side ms)
+pub left-length : (t : Tank) (c : AnchorCursor) → length (leftAt t c) ≡ length (pick (tableOf t) (c .ends)) + length (pick (tableOf t) (c .starts))
+unfolding leftAt anchorsOf
+left-length t c =
+    let ends = pick (tableOf t) (c .ends) in
+    let starts = pick (tableOf t) (c .starts) in
+    length-append (anchorsOf (c .at - 1) End ends) (anchorsOf (c .at) Start starts)
+    ∙ ap₂ (λ (x y : ℕ). x + y) (length-map ends (anchorOf (c .at - 1) End)) (length-map starts (anchorOf (c .at) Start))
 
 pub left-count : {t : Tank} → Laid t → (c : AnchorCursor) → Stands t c → ones (c .ends) + ones (c .starts) ≡ length (leftAt t c)
-unfolding leftAt
 left-count {t} f c s =
-    let e = pick (tableOf t) (c .ends) in
-    let b = pick (tableOf t) (c .starts) in
     let n = table-length f in
-    omega (
-      arith,
-      length-append (anchorsOf (c .at - 1) End e) (anchorsOf (c .at) Start b),
-      length-anchors (c .at - 1) End e,
-      length-anchors (c .at) Start b,
-      pick-length (tableOf t) (c .ends) (rw n (s .ends-in)),
-      pick-length (tableOf t) (c .starts) (rw n (s .starts-in)),
-    )
+    omega (arith, left-length t c, pick-length (tableOf t) (c .ends) (rw n (s .ends-in)), pick-length (tableOf t) (c .starts) (rw n (s .starts-in)))
 
 -- the count at a boundary, with what comes behind it, is the whole count
 pub record Tallied (t : Tank) (c : AnchorCursor) (count : ℕ) : Type 0 where

@@ -1,10 +1,10 @@
 -- The stretch lists by position are those of the runs, and what each way out of a list's call hands back.
 use Prim.Native.Nat.{ℕ, zero, suc, _≤_, _<_}
 use mathlib.Core.Path.{_≡_, refl, sym, ap, _∙_}
-use mathlib.Core.List.{List, [], _∷_}
+use mathlib.Core.List.{List, []}
 use native.Mathlib.Omega.{arith}
 use native.Mathlib.Decide.{decLe}
-use lib.ListN.{length, drop, take}
+use lib.ListN.{length, drop, take, drop-of-length-le}
 use lib.Seq.{take-at}
 use borrow.Author.Tests.{lt-ltb, le-ltb, le-leb, lt-leb, ne-eqb}
 use Rattle.styles.proofs.CountLaws.{pick-length}
@@ -85,12 +85,8 @@ module _ (a b : ℕ) (v : View) where
       ]
 
 -- ---- the ways out of a list's call, over the number that comes before 11
-no-room : {A : Type 0} (xs : List A) → length xs ≡ 0 → xs ≡ []
-no-room [] e = refl
-no-room (x ∷ xs) e = absurd (omega arith)
-
 -- what is handed over: the answer, and the buffer
-abbrev pub Handed : ℕ → List ℕ → List ℕ → Listed → List ℕ → Type 0
+abbrev pub Handed : {A : Type 0} → ℕ → List A → List A → Listed → List A → Type 0
 Handed number xs out r out′ = (r ≡ filledBeside number xs) × (out′ ≡ inFront (unlessRefused number xs) out)
 
 still : (lower room : ℕ) (xs : List ℕ) → length (unlessRefused lower xs) ≡ 0 → listRefusal lower room (length xs) ≡ lower
@@ -103,7 +99,8 @@ pub handed-none : (lower : ℕ) (xs out : List ℕ) (r : Listed) → r ≡ fille
     → Handed (listRefusal lower (length out) (length xs)) xs out r out
 handed-none lower xs out r e z =
     let k : length (unlessRefused lower xs) ≡ 0 = sym (ap (λ (x : Listed). x .count) e) ∙ z in
-    rw (still lower (length out) xs k) (e, rw (no-room (unlessRefused lower xs) k))
+    let none : unlessRefused lower xs ≡ [] = drop-of-length-le (unlessRefused lower xs) {i = 0} (omega arith) in
+    rw (still lower (length out) xs k) (e, rw none)
 
 pub handed-short : (lower : ℕ) (xs out : List ℕ) → lower ≡ 0 → length out < length xs
     → Handed (listRefusal lower (length out) (length xs)) xs out (record { number = 11; count = 0 }) out

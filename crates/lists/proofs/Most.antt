@@ -14,21 +14,20 @@ use Rattle.tank.specs.declared.Tank.{Tank}
 use Rattle.tank.specs.State.{tableOf, view, Laid}
 use Rattle.tank.proofs.Unique.{table-length}
 use Rattle.lists.specs.declared.anchors.AnchorCursor.{AnchorCursor}
-use Rattle.richtext.specs.declared.AnchorType.the-variants.{Start, End}
 use Rattle.lists.specs.Lists.{listOver}
-use Rattle.lists.specs.Anchors.{anchors, anchorsOf, leftAt, laterThan, rest, Stands, Follows}
+use Rattle.lists.specs.Anchors.{anchors, leftAt, laterThan, Stands, Follows}
 use Rattle.runs.specs.Runs.{lackingBits}
 use Rattle.lists.proofs.ListLaws.{list-is}
 use Rattle.lists.proofs.AnchorLaws.{lack-step}
-use Rattle.lists.proofs.CursorLaws.{first-is, follows, none-later, length-anchors}
+use Rattle.lists.proofs.CursorLaws.{first-is, follows, none-later, left-length}
 
 -- ---- a boundary
 lack-length : (m : Mark) (ms : List Mark) (s u : ℕ)
     → length (pick (m ∷ ms) (lackingBits s u)) ≡ (s % 2 - min (s % 2) (u % 2)) + length (pick ms (lackingBits (s / 2) (u / 2)))
 lack-length m ms s u =
     let b : ℕ = s % 2 - min (s % 2) (u % 2) in
-    let rest = lackingBits (s / 2) (u / 2) in
-    ap (λ x. length (pick (m ∷ ms) x)) (lack-step s u) ∙ ap length (pick-cons m ms rest b (omega arith)) ∙ length-keep b m (pick ms rest) (omega arith)
+    let halves = lackingBits (s / 2) (u / 2) in
+    ap (λ x. length (pick (m ∷ ms) x)) (lack-step s u) ∙ ap length (pick-cons m ms halves b (omega arith)) ∙ length-keep b m (pick ms halves) (omega arith)
 
 one-side : (x y : ℕ) → x < 2 → y < 2 → (x - min x y) + (y - min y x) ≤ 1
 one-side x y h k = omega arith
@@ -41,16 +40,11 @@ both-lack (m ∷ ms) s u =
     omega (arith, lack-length m ms s u, lack-length m ms u s, one-side (s % 2) (u % 2) (omega arith) (omega arith), both-lack ms (s / 2) (u / 2))
 
 left-most : {t : Tank} → Laid t → (c : AnchorCursor) (s u : ℕ) → c .ends ≡ lackingBits s u → c .starts ≡ lackingBits u s → length (leftAt t c) ≤ 64
-unfolding leftAt
 left-most {t} f c s u e g =
     let few = f .few in
-    let ends = pick (tableOf t) (c .ends) in
-    let starts = pick (tableOf t) (c .starts) in
     omega (
       arith,
-      length-append (anchorsOf (c .at - 1) End ends) (anchorsOf (c .at) Start starts),
-      length-anchors (c .at - 1) End ends,
-      length-anchors (c .at) Start starts,
+      left-length t c,
       ap (λ x. length (pick (tableOf t) x)) e,
       ap (λ x. length (pick (tableOf t) x)) g,
       both-lack (tableOf t) s u,

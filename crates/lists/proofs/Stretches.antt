@@ -4,7 +4,7 @@ use Prim.Native.Nat.{ℕ, zero, suc, _+_, _-_, _≤_, _<_}
 use mathlib.Core.Path.{_≡_, refl, sym, ap, _∙_}
 use mathlib.Core.Bool.{Bool, true, false, cond, false≢true, and-eq-true-iff}
 use mathlib.Core.List.{List, [], _∷_}
-use native.Mathlib.Omega.{arith}
+use native.Mathlib.Omega.{arith, by-contra}
 use native.Mathlib.Decide.{decLt, decLe}
 use borrow.Author.Tests.{le-leb, lt-leb}
 use lib.ListN.{length}
@@ -16,12 +16,9 @@ use Rattle.runs.proofs.SumLaws.{sum-next}
 use Rattle.tank.specs.Rules.{View, alike, runsHeld}
 use Rattle.lists.specs.Lists.{stretchesOver, Maximal, Tiles, TilesOver}
 
-pub not-lt : {p q : ℕ} → (p < q → ⊥) → q ≤ p
-not-lt k = omega arith
-
-module _ (alike : ℕ → Bool) (count : ℕ → ℕ) where
-  module _ (same : (p : ℕ) → alike p ≡ true → count p ≡ count (suc p)) (a : ℕ) where
-    begins : (p : ℕ) (xs : List Stretch) → a ≤ p → (a < p → alike (p - 1) ≡ false) → Tiles alike count a p xs → Tiles alike count a (suc p) (stretch p (suc p) (count p) ∷ xs)
+module _ (equal : ℕ → Bool) (count : ℕ → ℕ) where
+  module _ (same : (p : ℕ) → equal p ≡ true → count p ≡ count (suc p)) (a : ℕ) where
+    begins : (p : ℕ) (xs : List Stretch) → a ≤ p → (a < p → equal (p - 1) ≡ false) → Tiles equal count a p xs → Tiles equal count a (suc p) (stretch p (suc p) (count p) ∷ xs)
     unfolding Tiles
     begins p xs h g t = (
       record {
@@ -35,7 +32,7 @@ module _ (alike : ℕ → Bool) (count : ℕ → ℕ) where
       t,
     )
 
-    goes-on : (p : ℕ) (x : Stretch) (xs : List Stretch) → alike (p - 1) ≡ true → Tiles alike count a p (x ∷ xs) → Tiles alike count a (suc p) (stretch (x .start) (suc p) (x .marks) ∷ xs)
+    goes-on : (p : ℕ) (x : Stretch) (xs : List Stretch) → equal (p - 1) ≡ true → Tiles equal count a p (x ∷ xs) → Tiles equal count a (suc p) (stretch (x .start) (suc p) (x .marks) ∷ xs)
     unfolding Tiles
     goes-on p x xs e t =
         let m = t .0 in
@@ -49,7 +46,7 @@ module _ (alike : ℕ → Bool) (count : ℕ → ℕ) where
                 λ q i k.
                 elim (decLt (suc q) p) [
                   | yes h ↦ m .one q i (omega arith)
-                  | no h ↦ let z : q ≡ p - 1 = omega arith in ap alike z ∙ e
+                  | no h ↦ let z : q ≡ p - 1 = omega arith in ap equal z ∙ e
                 ];
             counted =
                 λ q i k.
@@ -64,23 +61,23 @@ module _ (alike : ℕ → Bool) (count : ℕ → ℕ) where
           t .1,
         )
 
-    longer : (t : Bool) (p : ℕ) (xs : List Stretch) → alike (p - 1) ≡ t → a ≤ p → Tiles alike count a p xs → Tiles alike count a (suc p) (extended t p (count p) xs)
+    longer : (t : Bool) (p : ℕ) (xs : List Stretch) → equal (p - 1) ≡ t → a ≤ p → Tiles equal count a p xs → Tiles equal count a (suc p) (extended t p (count p) xs)
     unfolding extended Tiles
     longer t p [] e h g = begins p [] h (λ k. absurd (omega arith)) g
     longer true p (x ∷ xs) e h g = goes-on p x xs e g
     longer false p (x ∷ xs) e h g = begins p (x ∷ xs) h (λ k. e) g
 
-    pub tiles : (b : ℕ) → Tiles alike count a b (stretchesAt alike count a b)
+    pub tiles : (b : ℕ) → Tiles equal count a b (stretchesAt equal count a b)
     unfolding stretchesAt Tiles
     tiles zero = omega arith
     tiles (suc p) =
         elim (decLe a p) [
-          | yes h ↦ rw (le-leb a p h) (longer (alike (p - 1)) p (stretchesAt alike count a p) refl h (tiles p))
+          | yes h ↦ rw (le-leb a p h) (longer (equal (p - 1)) p (stretchesAt equal count a p) refl h (tiles p))
           | no h ↦ rw (lt-leb a p (omega arith)) (omega arith)
         ]
 
   -- one of two stretches that end a range does not begin before the other
-  not-before : (a b : ℕ) (x y : Stretch) → Maximal alike count a b x → Maximal alike count a b y → x .start < y .start → ⊥
+  not-before : (a b : ℕ) (x y : Stretch) → Maximal equal count a b x → Maximal equal count a b y → x .start < y .start → ⊥
   not-before a b x y m n h =
       let i = m .inside in
       let l = m .last in
@@ -88,7 +85,7 @@ module _ (alike : ℕ → Bool) (count : ℕ → ℕ) where
       let s = n .some in
       false≢true (sym (n .begun (omega arith)) ∙ m .one (y .start - 1) (omega arith) (omega arith))
 
-  pub only-one : (a b : ℕ) (xs ys : List Stretch) → Tiles alike count a b xs → Tiles alike count a b ys → xs ≡ ys
+  pub only-one : (a b : ℕ) (xs ys : List Stretch) → Tiles equal count a b xs → Tiles equal count a b ys → xs ≡ ys
   unfolding Tiles
   only-one a b [] [] t u = refl
   only-one a b [] (y ∷ ys) t u = let i = u .0 .inside in let l = u .0 .last in let s = u .0 .some in absurd (omega arith)
@@ -96,7 +93,7 @@ module _ (alike : ℕ → Bool) (count : ℕ → ℕ) where
   only-one a b (x ∷ xs) (y ∷ ys) t u =
       let m = t .0 in
       let n = u .0 in
-      let s : x .start ≡ y .start = omega (arith, not-lt (not-before a b x y m n), not-lt (not-before a b y x n m)) in
+      let s : x .start ≡ y .start = omega (arith, by-contra _ _ (not-before a b x y m n), by-contra _ _ (not-before a b y x n m)) in
       let c : x .marks ≡ y .marks = sym (m .counted (x .start) (omega arith) (m .some)) ∙ ap count s ∙ n .counted (y .start) (omega arith) (n .some) in
       let e : x .end ≡ y .end = m .last ∙ sym (n .last) in
       let r = only-one a (x .start) xs ys (t .1) (rw s (u .1)) in

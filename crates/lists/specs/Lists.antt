@@ -7,7 +7,7 @@ use lib.Dec.{ltb}
 use lib.ListN.{length}
 use Rattle.runs.specs.Positions.{Stretch, stretchesAt, asNumbers}
 use Rattle.lists.specs.declared.Listed.{Listed}
-use Rattle.tank.specs.Rules.{View, alike, askedRange, first, whenAccepted}
+use Rattle.tank.specs.Rules.{View, alike, askedRange, firstRefusal, whenAccepted}
 
 -- ---- What maximal stretches are
 -- x is the last maximal stretch of a .. b, clipped to it: neighbouring positions with equal sets, each with as many marks as x says, which
@@ -54,7 +54,7 @@ rangeRefusal a b v = askedRange a b 0 v
 
 -- 11 where no lower number is given and the list is longer than the caller's buffer or list of `room` places
 unfoldable pub listRefusal : ℕ → ℕ → ℕ → ℕ
-listRefusal lower room needed = first lower (cond (ltb room needed) 11 0)
+listRefusal lower room needed = firstRefusal lower (cond (ltb room needed) 11 0)
 
 -- what is handed over beside a number: the list, and nothing beside a refusal
 abbrev pub unlessRefused : {A : Type 0} → ℕ → List A → List A

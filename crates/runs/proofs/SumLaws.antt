@@ -1,9 +1,10 @@
--- Sums over the first n: one term more, term by term, and a longer sum. Assumes nothing.
+-- Sums over the first n: one term more, term by term, a longer sum, and sums compared but for one term. Assumes nothing.
 use mathlib.Core.Path.{_≡_, refl}
+use mathlib.Core.Logic.{_≢_}
 use Prim.Native.Nat.{ℕ, zero, suc, _+_, _*_, _≤_, _<_}
 use native.Mathlib.Numerals.{add-one}
 use native.Mathlib.Omega.{arith}
-use native.Mathlib.Decide.{decLe}
+use native.Mathlib.Decide.{decLe, decLt}
 use Rattle.runs.specs.Positions.{sumBelow}
 
 pub sum-more : (f : ℕ → ℕ) (n : ℕ) → sumBelow f (n + 1) ≡ sumBelow f n + f n
@@ -43,3 +44,13 @@ sum-up f n m h = rising (sumBelow f) (λ k. omega arith) n m h
 
 pub sum-next : (f : ℕ → ℕ) (n m : ℕ) → n < m → sumBelow f n + f n ≤ sumBelow f m
 sum-next f n m h = omega (arith, sum-more f n, sum-up f (n + 1) m (omega arith))
+
+-- ---- term by term, but for one
+pub sum-but-one : (f g : ℕ → ℕ) (t n : ℕ) → t < n → ((u : ℕ) → u < n → u ≢ t → f u ≤ g u) → sumBelow f n + g t ≤ sumBelow g n + f t
+unfolding sumBelow
+sum-but-one f g t zero l h = absurd (omega arith)
+sum-but-one f g t (suc n) l h =
+    elim (decLt t n) [
+      | yes k ↦ omega (arith, sum-but-one f g t n k (λ u a. h u (omega arith)), h n (omega arith) (λ e. omega arith))
+      | no k ↦ let e : t ≡ n = omega arith in rw e (omega (arith, sum-least f g n (λ u a. h u (omega arith) (λ z. omega arith))))
+    ]

@@ -7,7 +7,7 @@ use native.Mathlib.Omega.{arith}
 use lib.Bits.{or-lt}
 use lib.ListN.{length, replicate}
 use lib.Pow.{pow-pos}
-use Rattle.laws.proofs.Cases.{getD-blank}
+use Rattle.laws.proofs.Lists.{getD-blank}
 use Rattle.styles.specs.declared.Mark.{Mark}
 use Rattle.runs.specs.Runs.{Run, runs, total, setAt, Canon, Spare}
 use Rattle.runs.specs.Edits.{Joined, CanEdit}

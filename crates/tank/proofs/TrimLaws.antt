@@ -10,7 +10,7 @@ use lib.Count.{ones}
 use lib.ListN.{length, getD, take, replicate, length-append, length-replicate}
 use lib.Pow.{pow-mono, pow-pos}
 use lib.Seq.{take-at}
-use Rattle.laws.proofs.Cases.{getD-past}
+use Rattle.laws.proofs.Lists.{getD-past}
 use Rattle.styles.specs.declared.Mark.{Mark}
 use Rattle.styles.specs.declared.Styles.{Styles}
 use Rattle.styles.specs.Answers.{stylesOf}

@@ -46,6 +46,10 @@ marks-carried {t} f =
     ∙ pick-all (tableOf t)
 
 -- ---- one view, one tank
+-- two tanks with equal fields are equal
+pub tank-eq : (x y : Tank) → x .touched ≡ y .touched → x .length ≡ y .length → x .runs ≡ y .runs → x .marks ≡ y .marks → x .lens ≡ y .lens → x .sets ≡ y .sets → x .table ≡ y .table → x ≡ y
+tank-eq x y a b c d e f g = λ i. record { touched = a i; length = b i; runs = c i; marks = d i; lens = e i; sets = f i; table = g i }
+
 module _ {t u : Tank} (f : Formed t) (g : Formed u) (e : view t ≡ view u) where
   same-length : t .length ≡ u .length
   unfolding view
@@ -107,12 +111,4 @@ module _ {t u : Tank} (f : Formed t) (g : Formed u) (e : view t ≡ view u) wher
       let lens = ext-getD 0 (t .lens) (u .lens) (a .lens-514 ∙ sym (b .lens-514)) (λ i k. same-entry i .0) in
       let sets = ext-getD 0 (t .sets) (u .sets) (a .sets-514 ∙ sym (b .sets-514)) (λ i k. same-entry i .1) in
       let table = ext-getD blank (t .table) (u .table) (a .table-64 ∙ sym (b .table-64)) (λ i k. same-mark i) in
-      λ i. record {
-        touched = same-touched i;
-        length = same-length i;
-        runs = same-held i;
-        marks = same-count i;
-        lens = lens i;
-        sets = sets i;
-        table = table i;
-      }
+      tank-eq t u same-touched same-length same-held same-count lens sets table

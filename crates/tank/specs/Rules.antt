@@ -180,8 +180,8 @@ abbrev pub whenAccepted : {A : Type 0} → ℕ → A → A → A
 whenAccepted number given refused = cond (eqb number 0) given refused
 
 -- the first number, or the second where the first is 0
-abbrev pub first : ℕ → ℕ → ℕ
-first n m = whenAccepted n m n
+abbrev pub firstRefusal : ℕ → ℕ → ℕ
+firstRefusal n m = whenAccepted n m n
 
 -- the tank after a call: a refused one leaves it as it was
 abbrev pub afterCall : Edit → View → View

@@ -1,12 +1,13 @@
 -- One law for every edit: the tank's own call, then the judgement, is the call of the house.
 use Prim.Native.Nat.{ℕ, _≤_, _<_}
-use mathlib.Core.Path.{_≡_, refl, sym, ap, _∙_, subst}
-use mathlib.Core.Bool.{Bool, true, false, cond}
+use mathlib.Core.Path.{_≡_, sym, ap, _∙_, subst}
+use mathlib.Core.Bool.{cond}
 use native.Mathlib.Omega.{arith}
 use lib.Dec.{eqb}
 use borrow.Author.Tests.{eqb-true, le-leb, lt-leb}
+use Rattle.laws.proofs.Cases.{cond-when}
 use Rattle.tank.specs.declared.Tank.{Tank}
-use Rattle.tank.specs.Rules.{View, freshView, runsHeld, Edit, after, refusal, afterCall, first}
+use Rattle.tank.specs.Rules.{View, freshView, runsHeld, Edit, after, refusal, afterCall, firstRefusal}
 use Rattle.tank.specs.State.{view, Called}
 use Rattle.tank.proofs.Calls.{when-refused}
 use Rattle.tank.proofs.Unique.{runs-held}
@@ -18,17 +19,12 @@ use Rattle.tanks.specs.Contracts.{CalledAt}
 use Rattle.tanks.proofs.SettingLaws.{first-zero, TakenOut}
 use Rattle.tanks.proofs.MeaningLaws.{tank-at, judged-is, Tail}
 
--- where the test holds the two agree, so they agree under it
-pub cond-when : {A : Type 0} (b : Bool) (x y z : A) → (b ≡ true → x ≡ y) → cond b x z ≡ cond b y z
-cond-when true x y z h = h refl
-cond-when false x y z h = refl
-
-pub first-when : (n x y : ℕ) → (n ≡ 0 → x ≡ y) → first n x ≡ first n y
+pub first-when : (n x y : ℕ) → (n ≡ 0 → x ≡ y) → firstRefusal n x ≡ firstRefusal n y
 first-when n x y h = cond-when (eqb n 0) x y n (λ e. h (eqb-true n 0 e))
 
 -- ---- the refusal, where there is such a tank and where there is none
 pub refusal-in : (h : House) (t : ℕ) (e : Edit) → t < 8
-    → refusalAt h t e ≡ first (refusal e (tankAt h t)) (judgement (h .settings) (held h) t (runsHeld (after e (tankAt h t))))
+    → refusalAt h t e ≡ firstRefusal (refusal e (tankAt h t)) (judgement (h .settings) (held h) t (runsHeld (after e (tankAt h t))))
 unfolding refusalAt
 refusal-in h t e l = rw (lt-leb 8 t l)
 
@@ -71,7 +67,7 @@ module _ (s : Tanks) (t : ℕ) (e : Edit) (number : ℕ) (x : Tank) (v : ℕ) (n
   is-number =
       tail .verdict-is
       ∙ first-when number _ _ is-judged
-      ∙ ap (λ (n : ℕ). first n (judgement (s .settings) (held (meaning s)) t (runsHeld (after e (tankAt (meaning s) t))))) is-refusal
+      ∙ ap (λ (n : ℕ). firstRefusal n (judgement (s .settings) (held (meaning s)) t (runsHeld (after e (tankAt (meaning s) t))))) is-refusal
       ∙ sym (refusal-in (meaning s) t e t8)
 
   is-state : meaning next ≡ afterAt (meaning s) t e

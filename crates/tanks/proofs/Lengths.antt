@@ -1,20 +1,21 @@
 -- One tank of the house over time. The calls on it are calls in a row on that tank alone, so document 01's rules of one tank hold of each of the
 -- eight: touched never turns back, and a touched tank's length is T, plus all lengths inserted and less all deleted since its first accepted annotate.
 use Prim.Native.Nat.{ℕ, _+_, _<_}
-use mathlib.Core.Path.{_≡_, refl, sym, ap, _∙_}
+use mathlib.Core.Path.{_≡_, refl, sym, ap, ap₂, _∙_}
 use mathlib.Core.Bool.{Bool, true, false, cond, _&&_, false≢true}
 use mathlib.Core.List.{List, [], _∷_, _++_}
 use native.Mathlib.Omega.{arith}
 use lib.Dec.{eqb}
-use borrow.Author.Tests.{eqb-true, eqb-false, eq-eqb}
+use borrow.Author.Tests.{eqb-true, eq-eqb, ne-eqb}
 use lib.ListN.{length, length-set, getD-replicate}
 use Rattle.laws.proofs.Cases.{cond-ap}
-use Rattle.tank.specs.Rules.{View, freshLength, freshView, runsHeld, Edit, annotating, inserting, deleting, removing, afterInsert, afterDelete, afterRemove, stripped, after, refusal, first}
+use Rattle.tank.specs.Rules.{View, freshLength, freshView, runsHeld, Edit, annotating, inserting, deleting, removing, afterInsert, afterDelete, afterRemove, stripped, after, refusal, firstRefusal}
 use Rattle.tank.specs.Lengths.{gained, lost, annotates}
 use Rattle.tank.proofs.Sequences as own
 use Rattle.tanks.specs.declared.Setting.{Setting}
 use Rattle.tanks.specs.Settings.{accepted, judgement}
 use Rattle.tanks.specs.House.{House, tankAt, held, opening, refusalAt, withTank, afterAt, Call, afterAll, reached, sumOn, FirstOn, houseThen}
+use Rattle.tanks.proofs.SettingLaws.{at-each}
 use Rattle.tanks.proofs.CallLaws.{refusal-in}
 use Rattle.tanks.proofs.Theorems.{with-same, others-stay, reached-kept, after-by}
 
@@ -37,10 +38,10 @@ callsOn t h (c ∷ cs) =
 
 -- ---- one call
 -- the first of two numbers is 0 exactly where both are
-first-both : (n m : ℕ) → eqb (first n m) 0 ≡ (eqb m 0 && eqb n 0)
+first-both : (n m : ℕ) → eqb (firstRefusal n m) 0 ≡ (eqb m 0 && eqb n 0)
 first-both n m = go (eqb n 0) (eqb m 0) refl refl
   where
-    go : (a b : Bool) → eqb n 0 ≡ a → eqb m 0 ≡ b → eqb (first n m) 0 ≡ (eqb m 0 && eqb n 0)
+    go : (a b : Bool) → eqb n 0 ≡ a → eqb m 0 ≡ b → eqb (firstRefusal n m) 0 ≡ (eqb m 0 && eqb n 0)
     go true true e f = simp (e, f)
     go true false e f = simp (e, f)
     go false true e f = simp (e, f)
@@ -58,11 +59,9 @@ module _ (h : House) (t : ℕ) (e : Edit) (t8 : t < 8) (eight : length (h .tanks
   -- what a call on tank t leaves of it
   tank-after : tankAt (afterAt h t e) t ≡ cond (eqb (refusalAt h t e) 0) (after e (tankAt h t)) (tankAt h t)
   unfolding afterAt
-  tank-after = go (eqb (refusalAt h t e) 0)
-    where
-      go : (b : Bool) → tankAt (cond b (withTank h t (after e (tankAt h t))) h) t ≡ cond b (after e (tankAt h t)) (tankAt h t)
-      go true = with-same h t (after e (tankAt h t)) eight t8
-      go false = refl
+  tank-after =
+      cond-ap (λ (g : House). tankAt g t) (eqb (refusalAt h t e) 0) (withTank h t (after e (tankAt h t))) h
+      ∙ ap (λ (v : View). cond (eqb (refusalAt h t e) 0) v (tankAt h t)) (with-same h t (after e (tankAt h t)) eight t8)
 
   -- the same that its own call leaves
   own-call : tankAt (afterAt h t e) t ≡ own.afterOne (ownCall h t e) (tankAt h t)
@@ -72,12 +71,10 @@ module _ (h : House) (t : ℕ) (e : Edit) (t8 : t < 8) (eight : length (h .tanks
 call-then : (h : House) (t u : ℕ) (e : Edit) → t < 8 → length (h .tanks) ≡ 8 → (xs : List own.OwnCall)
     → own.afterCalls xs (tankAt (afterAt h u e) t) ≡ own.afterCalls (cond (eqb u t) (ownCall h t e ∷ xs) xs) (tankAt h t)
 unfolding own.afterCalls
-call-then h t u e t8 eight xs = go (eqb u t) refl
-  where
-    go : (b : Bool) → eqb u t ≡ b → own.afterCalls xs (tankAt (afterAt h u e) t) ≡ own.afterCalls (cond b (ownCall h t e ∷ xs) xs) (tankAt h t)
-    go true s =
-        ap (λ (w : ℕ). own.afterCalls xs (tankAt (afterAt h w e) t)) (eqb-true u t s) ∙ ap (own.afterCalls xs) (own-call h t e t8 eight)
-    go false s = ap (own.afterCalls xs) (others-stay h u e t (λ z. eqb-false u t s (sym z)))
+call-then h t u e t8 eight xs =
+    at-each (λ w. own.afterCalls xs (tankAt (afterAt h w e) t) ≡ own.afterCalls (cond (eqb w t) (ownCall h t e ∷ xs) xs) (tankAt h t)) t u
+    (rw (eq-eqb t t refl) (ap (own.afterCalls xs) (own-call h t e t8 eight)))
+    (λ ne. rw (ne-eqb u t ne) (ap (own.afterCalls xs) (others-stay h u e t (λ z. ne (sym z)))))
 
 -- ---- calls one after another: tank t is what the calls on it make of it
 pub own-calls : (h : House) (cs : List Call) (t : ℕ) → t < 8 → length (h .tanks) ≡ 8
@@ -110,16 +107,13 @@ sum-then : (f : Edit → ℕ) (h : House) (t u : ℕ) (e : Edit) → t < 8 → l
     → cond (eqb u t && eqb (refusalAt h u e) 0) (f e) 0 + own.sumOf f xs (tankAt (afterAt h u e) t)
     ≡ own.sumOf f (cond (eqb u t) (ownCall h t e ∷ xs) xs) (tankAt h t)
 unfolding own.sumOf
-sum-then f h t u e t8 eight xs = go (eqb u t) refl
-  where
-    go : (b : Bool) → eqb u t ≡ b
-        → cond (b && eqb (refusalAt h u e) 0) (f e) 0 + own.sumOf f xs (tankAt (afterAt h u e) t)
-        ≡ own.sumOf f (cond b (ownCall h t e ∷ xs) xs) (tankAt h t)
-    go true s =
-        ap (λ (w : ℕ). cond (eqb (refusalAt h w e) 0) (f e) 0 + own.sumOf f xs (tankAt (afterAt h w e) t)) (eqb-true u t s)
-        ∙ ap (λ (b : Bool). cond b (f e) 0 + own.sumOf f xs (tankAt (afterAt h t e) t)) (accepted-own h t e t8)
-        ∙ ap (λ (v : View). cond (own.acceptedBy (ownCall h t e) (tankAt h t)) (f e) 0 + own.sumOf f xs v) (own-call h t e t8 eight)
-    go false s = omega (arith, ap (own.sumOf f xs) (others-stay h u e t (λ z. eqb-false u t s (sym z))))
+sum-then f h t u e t8 eight xs =
+    at-each
+    (λ w.
+    cond (eqb w t && eqb (refusalAt h w e) 0) (f e) 0 + own.sumOf f xs (tankAt (afterAt h w e) t)
+    ≡ own.sumOf f (cond (eqb w t) (ownCall h t e ∷ xs) xs) (tankAt h t)) t u
+    (rw (eq-eqb t t refl) (ap₂ (λ (b : Bool) (v : View). cond b (f e) 0 + own.sumOf f xs v) (accepted-own h t e t8) (own-call h t e t8 eight)))
+    (λ ne. rw (ne-eqb u t ne) (omega (arith, ap (own.sumOf f xs) (others-stay h u e t (λ z. ne (sym z))))))
 
 -- the sum is that over the tank's own calls
 own-sum : (f : Edit → ℕ) (h : House) (cs : List Call) (t : ℕ) → t < 8 → length (h .tanks) ≡ 8
@@ -150,20 +144,14 @@ record Touching (h : House) (t u : ℕ) (e : Edit) : Type 0 where
 -- a call that touches tank t is such a one
 touching : (h : House) (t u : ℕ) (e : Edit) → t < 8 → length (h .tanks) ≡ 8 → tankAt h t .touched ≡ false → tankAt (afterAt h u e) t .touched ≡ true
     → Touching h t u e
-touching h t u e t8 eight un to = on (eqb u t) refl
+touching h t u e t8 eight un =
+    at-each (λ w. tankAt (afterAt h w e) t .touched ≡ true → Touching h t w e) t u
+    (λ k. made (eqb (refusalAt h t e) 0) refl (ap (λ (v : View). v .touched) (sym (tank-after h t e t8 eight)) ∙ k))
+    (λ ne k. absurd (false≢true (sym un ∙ ap (λ (v : View). v .touched) (sym (others-stay h u e t (λ z. ne (sym z)))) ∙ k)))
   where
-    made : (b : Bool) → eqb (refusalAt h t e) 0 ≡ b → u ≡ t → cond b (after e (tankAt h t)) (tankAt h t) .touched ≡ true → Touching h t u e
-    made true g s k =
-        record { tank = s; annotate = touches-only e (tankAt h t) un k; made = eqb-true (refusalAt h t e) 0 g }
-    made false g s k = absurd (false≢true (sym un ∙ k))
-
-    on : (b : Bool) → eqb u t ≡ b → Touching h t u e
-    on true s =
-        let same : u ≡ t = eqb-true u t s in
-        made (eqb (refusalAt h t e) 0) refl same
-        (ap (λ (v : View). v .touched) (sym (tank-after h t e t8 eight)) ∙ ap (λ (w : ℕ). tankAt (afterAt h w e) t .touched) (sym same) ∙ to)
-    on false s =
-        absurd (false≢true (sym un ∙ ap (λ (v : View). v .touched) (sym (others-stay h u e t (λ z. eqb-false u t s (sym z)))) ∙ to))
+    made : (b : Bool) → eqb (refusalAt h t e) 0 ≡ b → cond b (after e (tankAt h t)) (tankAt h t) .touched ≡ true → Touching h t t e
+    made true g k = record { tank = refl; annotate = touches-only e (tankAt h t) un k; made = eqb-true (refusalAt h t e) 0 g }
+    made false g k = absurd (false≢true (sym un ∙ k))
 
 -- the first of the calls is its first accepted annotate
 first-here : (h : House) (t : ℕ) (c : Call) (cs : List Call) → tankAt h t .touched ≡ false → Touching h t (c .tank) (c .edit) → FirstOn t h (c ∷ cs)

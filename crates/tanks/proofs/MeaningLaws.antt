@@ -9,7 +9,7 @@ use borrow.Author.Tests.{ne-eqb}
 use lib.ListN.{length, getD, set, length-set, List·getD-eq-default}
 use lib.Seq.{getD-set-same, getD-set-other, ext-getD}
 use Rattle.tank.specs.declared.Tank.{Tank}
-use Rattle.tank.specs.Rules.{View, freshView, runsHeld, first}
+use Rattle.tank.specs.Rules.{View, freshView, runsHeld, firstRefusal}
 use Rattle.tank.specs.State.{view, Formed}
 use Rattle.tank.proofs.Unique.{runs-held}
 use Rattle.tanks.specs.declared.Head.{Head}
@@ -111,16 +111,16 @@ module _ (s : Tanks) (t : ℕ) (x : Tank) (ok : Sound s) (t8 : t < 8) (formed : 
 -- ---- the tail of an edit
 -- tank t has become x, unless its own call was refused by `number` or the judgement refuses it
 pub record Tail (s : Tanks) (t number : ℕ) (x : Tank) (verdict : ℕ) (next : Tanks) : Type 0 where
-  pub verdict-is : verdict ≡ first number (judgement (s .settings) (runsIn (s .heads)) t (x .runs))
+  pub verdict-is : verdict ≡ firstRefusal number (judgement (s .settings) (runsIn (s .heads)) t (x .runs))
   pub is : meaning next ≡ cond (eqb verdict 0) (withTank (meaning s) t (view x)) (meaning s)
   pub sound : Sound next
 
 pub tail-refused : (s : Tanks) (t number : ℕ) (x : Tank) (v : ℕ) → Sound s
-    → v ≡ first number (judgement (s .settings) (runsIn (s .heads)) t (x .runs)) → 0 < v → Tail s t number x v s
+    → v ≡ firstRefusal number (judgement (s .settings) (runsIn (s .heads)) t (x .runs)) → 0 < v → Tail s t number x v s
 tail-refused s t number x v ok e h = record { verdict-is = e; is = rw (ne-eqb v 0 (λ z. omega arith)); sound = ok }
 
 pub tail-done : (s : Tanks) (t number : ℕ) (x : Tank) → Sound s → t < 8 → Formed x
-    → first number (judgement (s .settings) (runsIn (s .heads)) t (x .runs)) ≡ 0 → Tail s t number x 0 (puts s t x)
+    → firstRefusal number (judgement (s .settings) (runsIn (s .heads)) t (x .runs)) ≡ 0 → Tail s t number x 0 (puts s t x)
 tail-done s t number x ok t8 formed z =
     let j = second-zero number (judgement (s .settings) (runsIn (s .heads)) t (x .runs)) z in
     record { verdict-is = sym z; is = put-means s t x ok t8 formed j; sound = put-sound s t x ok t8 formed j }

@@ -8,7 +8,8 @@ use lib.Dec.{ltb, eqb}
 use lib.ListN.{length, getD, set, replicate, List·getD-map}
 use lib.Pow.{pow-pos}
 use borrow.Author.Tests.{ltb-true, eqb-true}
-use Rattle.laws.proofs.Cases.{cond-by, map-set}
+use Rattle.laws.proofs.Cases.{cond-by, cond-ap, cond-when}
+use Rattle.laws.proofs.Lists.{map-set}
 use Rattle.styles.specs.declared.Mark.{Mark}
 use Rattle.styles.specs.Marks.{Sorted}
 use Rattle.styles.specs.Bits.{pick}
@@ -17,7 +18,7 @@ use Rattle.runs.specs.Runs.{Run, run, total, Other, Canon}
 use Rattle.runs.specs.Gather.{gather}
 use Rattle.runs.proofs.GatherLaws.{all-at}
 use Rattle.runs.proofs.MapLaws.{AllSets}
-use Rattle.tank.specs.Rules.{View, freshLength, freshView, runsHeld, Edit, after, refusal, first}
+use Rattle.tank.specs.Rules.{View, freshLength, freshView, runsHeld, Edit, after, refusal, firstRefusal}
 use Rattle.tank.specs.State.{viewOf}
 use Rattle.tank.proofs.Counted.{counted}
 use Rattle.tank.proofs.OnRuns.{known, numberOn, runsAfter, touchedAfter, canon-after, refusal-on, call-on}
@@ -29,58 +30,58 @@ use Rattle.tanks.proofs.CallLaws.{first-when}
 use Rattle.tanks.proofs.SettingLaws.{first-zero}
 
 -- ---- tanks on runs
-pub record Kept : Type 0 where
+pub record RunsKept : Type 0 where
   pub touched : Bool
   pub runs : List Run
 
-abbrev pub fresh : Kept
+abbrev pub fresh : RunsKept
 fresh = record { touched = false; runs = run freshLength 0 ∷ [] }
 
-abbrev pub keptAt : List Kept → ℕ → Kept
+abbrev pub keptAt : List RunsKept → ℕ → RunsKept
 keptAt ks t = getD ks t fresh
 
-abbrev pub heldOn : List Kept → ℕ → ℕ
+abbrev pub heldOn : List RunsKept → ℕ → ℕ
 heldOn ks t = length (keptAt ks t .runs)
 
 -- what they mean
-abbrev pub viewOn : List Mark → Kept → View
+abbrev pub viewOn : List Mark → RunsKept → View
 viewOn ms k = viewOf (k .touched) (total (k .runs)) ms (k .runs)
 
-abbrev pub houseOn : List Setting → List Mark → List Kept → House
+abbrev pub houseOn : List Setting → List Mark → List RunsKept → House
 houseOn st ms ks = record { settings = st; tanks = map (viewOn ms) ks }
 
 -- ---- a call
 -- what its tank becomes
-abbrev pub keptAfter : List Mark → Edit → Kept → Kept
+abbrev pub keptAfter : List Mark → Edit → RunsKept → RunsKept
 keptAfter ms e k = record { touched = touchedAfter e (k .touched); runs = runsAfter ms e (k .touched) (k .runs) }
 
 -- its number, and the tanks after it, where its tank would become `new`: an argument, so that it is computed once
-unfoldable numberWith : List Setting → List Mark → List Kept → ℕ → Edit → Kept → ℕ
+unfoldable numberWith : List Setting → List Mark → List RunsKept → ℕ → Edit → RunsKept → ℕ
 numberWith st ms ks t e new =
-    cond (noTank t) 1 (first (numberOn ms e (keptAt ks t .touched) (keptAt ks t .runs)) (judgement st (heldOn ks) t (length (new .runs))))
+    cond (noTank t) 1 (firstRefusal (numberOn ms e (keptAt ks t .touched) (keptAt ks t .runs)) (judgement st (heldOn ks) t (length (new .runs))))
 
-unfoldable allWith : List Setting → List Mark → List Kept → ℕ → Edit → Kept → List Kept
+unfoldable allWith : List Setting → List Mark → List RunsKept → ℕ → Edit → RunsKept → List RunsKept
 unfolding numberWith
 allWith st ms ks t e new = cond (eqb (numberWith st ms ks t e new) 0) (set ks t new) ks
 
-unfoldable pub numberAt : List Setting → List Mark → List Kept → ℕ → Edit → ℕ
+unfoldable pub numberAt : List Setting → List Mark → List RunsKept → ℕ → Edit → ℕ
 unfolding numberWith
 numberAt st ms ks t e = numberWith st ms ks t e (keptAfter ms e (keptAt ks t))
 
-unfoldable pub allAfter : List Setting → List Mark → List Kept → ℕ → Edit → List Kept
+unfoldable pub allAfter : List Setting → List Mark → List RunsKept → ℕ → Edit → List RunsKept
 unfolding allWith
 allAfter st ms ks t e = allWith st ms ks t e (keptAfter ms e (keptAt ks t))
 
 -- what makes this the rule's call: its mark is in the table, and so are all that it leaves
-unfoldable pub may : List Mark → Edit → Kept → Bool
+unfoldable pub may : List Mark → Edit → RunsKept → Bool
 may ms e new = known ms e && ltb (gather (new .runs)) (2 ^ length ms)
 
 -- ---- calls one after another: the tanks after them, and whether each was the rule's
 pub record Way : Type 0 where
   pub clear : Bool
-  pub kept : List Kept
+  pub kept : List RunsKept
 
-unfoldable stepWith : List Setting → List Mark → Way → ℕ → Edit → Kept → Way
+unfoldable stepWith : List Setting → List Mark → Way → ℕ → Edit → RunsKept → Way
 unfolding may allWith
 stepWith st ms w t e new = record { clear = w .clear && may ms e new; kept = allWith st ms (w .kept) t e new }
 
@@ -102,11 +103,11 @@ tried ms w t e = record {
 }
 
 -- ---- in joined form, with no set beyond the table
-pub record Fit (ms : List Mark) (k : Kept) : Type 0 where
+pub record Fit (ms : List Mark) (k : RunsKept) : Type 0 where
   pub canon : Canon (k .runs)
   pub inside : gather (k .runs) < 2 ^ length ms
 
-abbrev pub AllFit : List Mark → List Kept → Type 0
+abbrev pub AllFit : List Mark → List RunsKept → Type 0
 AllFit ms ks = (t : ℕ) → Fit ms (keptAt ks t)
 
 -- what holds of all elements and of a new one holds of all after it is set
@@ -117,7 +118,7 @@ all-set P d x (y ∷ l) zero h k (suc u) = h (suc u)
 all-set P d x (y ∷ l) (suc t) h k zero = h zero
 all-set P d x (y ∷ l) (suc t) h k (suc u) = all-set P d x l t (λ v. h (suc v)) k u
 
-own-zero : (b : Bool) (n m : ℕ) → cond b 1 (first n m) ≡ 0 → n ≡ 0
+own-zero : (b : Bool) (n m : ℕ) → cond b 1 (firstRefusal n m) ≡ 0 → n ≡ 0
 own-zero true n m h = absurd (omega arith)
 own-zero false n m h = first-zero n m h
 
@@ -141,11 +142,11 @@ module _ (ms : List Mark) (sorted : Sorted ms) where
   all-fresh (suc n) (suc t) = all-fresh n t
 
   -- an accepted edit of a tank
-  edit-on : (e : Edit) (k : Kept) → Fit ms k → known ms e ≡ true → numberOn ms e (k .touched) (k .runs) ≡ 0
+  edit-on : (e : Edit) (k : RunsKept) → Fit ms k → known ms e ≡ true → numberOn ms e (k .touched) (k .runs) ≡ 0
       → after e (viewOn ms k) ≡ viewOn ms (keptAfter ms e k)
   edit-on e k f g z = call-on ms sorted e (k .touched) (k .runs) (f .canon) g z
 
-  held-in : (k : Kept) → Fit ms k → runsHeld (viewOn ms k) ≡ length (k .runs)
+  held-in : (k : RunsKept) → Fit ms k → runsHeld (viewOn ms k) ≡ length (k .runs)
   held-in k f = counted ms (k .runs) sorted (f .inside) (f .canon)
 
   module _ (st : List Setting) where
@@ -153,7 +154,7 @@ module _ (ms : List Mark) (sorted : Sorted ms) where
     unfolding opening
     opening-on a = rw a (λ i. record { settings = st; tanks = replicate 8 (fresh-is i) })
 
-    module _ (ks : List Kept) where
+    module _ (ks : List RunsKept) where
       abbrev h : House
       h = houseOn st ms ks
 
@@ -164,7 +165,7 @@ module _ (ms : List Mark) (sorted : Sorted ms) where
       held-on f = fun-ext (λ t. ap runsHeld (tank-on t) ∙ held-in (keptAt ks t) (f t))
 
       module _ (t : ℕ) (e : Edit) (f : AllFit ms ks) (ok : may ms e (keptAfter ms e (keptAt ks t)) ≡ true) where
-        abbrev new : Kept
+        abbrev new : RunsKept
         new = keptAfter ms e (keptAt ks t)
 
         is-known : known ms e ≡ true
@@ -183,9 +184,9 @@ module _ (ms : List Mark) (sorted : Sorted ms) where
         number-on =
             let k = keptAt ks t in
             let v = viewOn ms k in
-            ap (λ (u : View). cond (noTank t) 1 (first (refusal e u) (judgement st (held h) t (runsHeld (after e u))))) (tank-on t)
-            ∙ ap (λ (n : ℕ → ℕ). cond (noTank t) 1 (first (refusal e v) (judgement st n t (runsHeld (after e v))))) (held-on f)
-            ∙ ap (λ n. cond (noTank t) 1 (first n (judgement st (heldOn ks) t (runsHeld (after e v))))) (refusal-on ms sorted e (k .touched) (k .runs) (f t .canon))
+            ap (λ (u : View). cond (noTank t) 1 (firstRefusal (refusal e u) (judgement st (held h) t (runsHeld (after e u))))) (tank-on t)
+            ∙ ap (λ (n : ℕ → ℕ). cond (noTank t) 1 (firstRefusal (refusal e v) (judgement st n t (runsHeld (after e v))))) (held-on f)
+            ∙ ap (λ n. cond (noTank t) 1 (firstRefusal n (judgement st (heldOn ks) t (runsHeld (after e v))))) (refusal-on ms sorted e (k .touched) (k .runs) (f t .canon))
             ∙ ap (cond (noTank t) 1)
             (first-when _ _ _ (λ z. ap (judgement st (heldOn ks) t) (ap runsHeld (edit-on e k (f t) is-known z) ∙ held-in new new-fit)))
 
@@ -207,13 +208,12 @@ module _ (ms : List Mark) (sorted : Sorted ms) where
 
         pub after-on : afterAt h t e ≡ houseOn st ms (allAfter st ms ks t e)
         unfolding afterAt allAfter numberAt
-        after-on = ap (λ n. cond (eqb n 0) (withTank h t (after e (tankAt h t))) h) number-on ∙ go (eqb (numberAt st ms ks t e) 0) refl
-          where
-            go : (b : Bool) → eqb (numberAt st ms ks t e) 0 ≡ b → cond b (withTank h t (after e (tankAt h t))) h ≡ houseOn st ms (cond b (set ks t new) ks)
-            go true z =
-                let m = moved (eqb-true (numberAt st ms ks t e) 0 z) in
-                λ i. record { settings = st; tanks = (ap (set (map (viewOn ms) ks) t) m ∙ sym (map-set (viewOn ms) ks t new)) i }
-            go false z = refl
+        after-on =
+            let b = eqb (numberAt st ms ks t e) 0 in
+            ap (λ n. cond (eqb n 0) (withTank h t (after e (tankAt h t))) h) number-on
+            ∙ cond-when b _ (houseOn st ms (set ks t new)) h
+            (λ z i. record { settings = st; tanks = (ap (set (map (viewOn ms) ks) t) (moved (eqb-true (numberAt st ms ks t e) 0 z)) ∙ sym (map-set (viewOn ms) ks t new)) i })
+            ∙ sym (cond-ap (houseOn st ms) b (set ks t new) ks)
 
       -- what the rules say of an edit that was tried
       pub own-on : (t : ℕ) (e : Edit) → AllFit ms ks

@@ -6,7 +6,7 @@ use mathlib.Core.List.{List, [], _∷_, map}
 use native.Mathlib.Omega.{arith}
 use lib.ListN.{length, take, set, replicate, getD-replicate, List·getD-append}
 use lib.Seq.{drop-cons}
-use Rattle.laws.proofs.Cases.{getD-blank, getD-past}
+use Rattle.laws.proofs.Lists.{getD-blank, getD-past}
 use Rattle.styles.specs.Marks.{blank}
 use Rattle.runs.specs.Runs.{Spare}
 use Rattle.runs.specs.Positions.{sumBelow, allAt}
@@ -16,6 +16,7 @@ use Rattle.tank.specs.Rules.{freshLength, freshView}
 use Rattle.tank.specs.State as state
 use Rattle.tank.specs.State.{view, Formed}
 use Rattle.tank.proofs.FreshLaws as tank
+use Rattle.tank.proofs.Unique.{tank-eq}
 use Rattle.tanks.specs.declared.Setting.{Setting}
 use Rattle.tanks.specs.declared.Head.{Head}
 use Rattle.tanks.specs.declared.Run as pool
@@ -24,7 +25,6 @@ use Rattle.tanks.specs.Settings.{accepted, shareOf, shares, claim, claim
 use Rattle.tanks.specs.House.{smallest, openNumber, opening}
 use Rattle.tanks.specs.Pool.{noHead, noRun, noTable, runsIn, runsBelow, ownRuns, zeroFilled, tankIn, tankOf, headOf, tableIn, meaning, Sound, freshly}
 use Rattle.tanks.specs.Contracts.{Opens}
-use Rattle.tanks.proofs.PutLaws.{tank-eq}
 use Rattle.tanks.proofs.SettingLaws.{accepted-at, accepted-sum}
 use Rattle.tanks.proofs.MeaningLaws.{views-are}
 

@@ -16,15 +16,12 @@ use Rattle.tanks.specs.declared.Table.{Table}
 use Rattle.tanks.specs.declared.Tanks.{Tanks}
 use Rattle.runs.specs.Runs.{Spare}
 use Rattle.tank.specs.State.{Formed}
+use Rattle.tank.proofs.Unique.{tank-eq}
 use Rattle.tanks.specs.Pool.{noRun, noHead, noTable, runsIn, runsBelow, ownRuns, zeroFilled, tankIn, tankOf, headOf, tableIn, Sound}
 use Rattle.tanks.proofs.Put.{runOf, runFrom, puts}
 use Rattle.tanks.proofs.SettingLaws.{sound-held, sound-place}
 use Rattle.tanks.proofs.LaidLaws.{laid, length-laid, laid-out, laid-in, below-same, below-later}
 use Rattle.tanks.proofs.SliceLaws.{length-zero-filled, zero-filled-at, array-at, own-at, length-own, length-own-map}
-
--- two tanks with equal fields are equal
-pub tank-eq : (x y : Tank) → x .touched ≡ y .touched → x .length ≡ y .length → x .runs ≡ y .runs → x .marks ≡ y .marks → x .lens ≡ y .lens → x .sets ≡ y .sets → x .table ≡ y .table → x ≡ y
-tank-eq x y a b c d e f g = λ i. record { touched = a i; length = b i; runs = c i; marks = d i; lens = e i; sets = f i; table = g i }
 
 -- the pool, place by place: n runs at `at` become x's, and `left` runs stand behind them
 abbrev packed : List Run → ℕ → ℕ → ℕ → Tank → List Run

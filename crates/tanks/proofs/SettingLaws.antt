@@ -1,7 +1,7 @@
 -- The laws of the settings' rule and of the judgement.
 use Prim.Native.Nat.{ℕ, _+_, _≤_, _<_, max}
 use mathlib.Core.Path.{_≡_, refl, sym, ap, _∙_, subst}
-use mathlib.Core.Bool.{Bool, true, false, _&&_, and-eq-true-iff, true≢false}
+use mathlib.Core.Bool.{Bool, true, false, _&&_, not, and-eq-true-iff}
 use mathlib.Core.List.{List}
 use native.Mathlib.Omega.{arith}
 use native.Mathlib.Decide.{decLt, decLe}
@@ -15,9 +15,9 @@ use Rattle.tanks.specs.declared.Setting.{Setting}
 use Rattle.tanks.specs.declared.Head.{Head}
 use Rattle.tanks.specs.declared.Tanks.{Tanks}
 use Rattle.runs.specs.Positions.{sumBelow}
-use Rattle.runs.proofs.ScanLaws.{all-yes, all-every}
+use Rattle.runs.proofs.ScanLaws.{any-yes, all-yes, all-every, all-is}
 use Rattle.runs.proofs.SumLaws.{sum-same, sum-least, sum-bound, sum-next}
-use Rattle.tank.specs.Rules.{first}
+use Rattle.tank.specs.Rules.{firstRefusal}
 use Rattle.tanks.specs.Pool.{tankIn, runsIn, runsBelow, tankOf, Sound}
 use Rattle.tanks.specs.Settings.{noSetting, shareOf, limitOf, keepsRule, allKeepRule, shares, accepted, claim, claims, heldAfter, judgement}
 use Rattle.tank.specs.declared.Tank.{Tank}
@@ -52,11 +52,7 @@ module _ (st : List Setting) where
   -- one that does not keep it spoils all
   all-keep-not : (n u : ℕ) → u < n → keepsRule (getD st u noSetting) ≡ false → allKeepRule st n ≡ false
   unfolding keeps
-  all-keep-not n u g h = go (allKeepRule st n) refl
-    where
-      go : (b : Bool) → allKeepRule st n ≡ b → allKeepRule st n ≡ false
-      go true e = absurd (true≢false (sym (all-every keeps 0 n e u (omega arith) g) ∙ h))
-      go false e = e
+  all-keep-not n u g h = all-is keeps 0 n ∙ ap not (any-yes (λ p. not (keeps p)) 0 n u (omega arith) g (ap not h))
 
 module _ (st : List Setting) (ok : accepted st ≡ true) where
   pub accepted-at : (u : ℕ) → u < 8 → Keeps (getD st u noSetting)
@@ -155,7 +151,7 @@ module _ (st : List Setting) (held : ℕ → ℕ) (t n : ℕ) where
       ]
 
 -- ---- the first number that is not 0
-module _ (n m : ℕ) (z : first n m ≡ 0) where
+module _ (n m : ℕ) (z : firstRefusal n m ≡ 0) where
   pub first-zero : n ≡ 0
   first-zero = go (eqb n 0) refl
     where
@@ -164,7 +160,7 @@ module _ (n m : ℕ) (z : first n m ≡ 0) where
       go false e = rw e at z
 
   pub second-zero : m ≡ 0
-  second-zero = let e : first 0 m ≡ 0 = rw first-zero at z in e
+  second-zero = let e : firstRefusal 0 m ≡ 0 = rw first-zero at z in e
 
 -- ---- one tank comes to hold another number of runs
 -- what holds at t and at every other place holds everywhere

@@ -1,15 +1,14 @@
 -- The laws of `ownRuns` and `zeroFilled`: a tank's runs and its arrays, place by place.
 use Prim.Native.Nat.{ℕ, _+_, _-_, _≤_, _<_}
-use mathlib.Core.Path.{_≡_, sym, ap, _∙_}
+use mathlib.Core.Path.{_≡_, sym, ap, ap₂, _∙_}
 use mathlib.Core.List.{List, _++_, map}
 use native.Mathlib.Omega.{arith}
-use lib.ListN.{length, getD, drop, replicate, length-append, length-drop, length-replicate, length-map, List·getD-map}
-use lib.Seq.{length-take-le, getD-take, getD-drop}
-use Rattle.laws.proofs.Cases.{getD-padding}
+use lib.ListN.{length, getD, drop, replicate, length-append, length-drop, length-replicate, length-map, replicate-append-replicate, List·getD-map}
+use lib.Seq.{take-length, length-take-le, getD-take, getD-drop, drop-at}
+use Rattle.laws.proofs.Lists.{getD-padding, stored, stored-is}
 use Rattle.tanks.specs.declared.Head.{Head}
 use Rattle.tanks.specs.declared.Run.{Run}
 use Rattle.tanks.specs.Pool.{noRun, runsIn, runsBelow, ownRuns, zeroFilled}
-use Rattle.tanks.proofs.LaidLaws.{laid, laid-blanks}
 
 pub length-zero-filled : (ns : List ℕ) → length ns ≤ 514 → length (zeroFilled ns) ≡ 514
 length-zero-filled ns h = omega (arith, length-append ns (replicate (514 - length ns) 0), length-replicate {A = ℕ} (514 - length ns) 0)
@@ -38,8 +37,14 @@ module _ (hs : List Head) (pool : List Run) (t : ℕ) where
     pub length-own-map : (f : Run → ℕ) → length (map f (ownRuns hs pool t)) ≡ runsIn hs t
     length-own-map f = length-map (ownRuns hs pool t) f ∙ length-own
 
-    -- the slices are what a loop lays run by run
-    pub own-laid : (f : Run → ℕ) → runsIn hs t ≤ 514 → laid (replicate 514 0) 0 (λ k. f (getD pool (runsBelow hs t + k) noRun)) (runsIn hs t) ≡ zeroFilled (map f (ownRuns hs pool t))
-    own-laid f h =
-        laid-blanks 514 0 (map f (ownRuns hs pool t)) (λ k. f (getD pool (runsBelow hs t + k) noRun)) (runsIn hs t) (f noRun) (length-own-map f) h (λ k g. sym (map-at f k g))
-        ∙ ap (λ (n : ℕ). map f (ownRuns hs pool t) ++ replicate (514 - n) 0) (sym (length-own-map f))
+    -- the slices are what a loop stores run by run
+    pub own-stored : (f : Run → ℕ) → runsIn hs t ≤ 514 → stored (λ k. f (getD pool (runsBelow hs t + k) noRun)) (replicate 514 0) (runsIn hs t) ≡ zeroFilled (map f (ownRuns hs pool t))
+    own-stored f h =
+        let xs = map f (ownRuns hs pool t) in
+        let n = runsIn hs t in
+        let l = length-own-map f in
+        let e : n + (514 - n) ≡ 514 = omega arith in
+        let zeros : ℕ → List ℕ = λ m. replicate m 0 in
+        let behind = ap (drop n) (sym (replicate-append-replicate {A = ℕ} n (514 - n) 0)) ∙ drop-at (zeros n) (zeros (514 - n)) n (length-replicate {A = ℕ} n 0) in
+        stored-is _ xs (zeros 514) (f noRun) n (omega (arith, l)) (omega (arith, length-replicate {A = ℕ} 514 0)) (λ k g. sym (map-at f k g))
+        ∙ rw l (ap₂ (λ (front back : List ℕ). front ++ back) (rw l at (take-length xs)) (rw e at behind))

@@ -108,7 +108,7 @@ head : ℕ → Head
 head n = record { touched = true; length = 0; runs = n; marks = 0 }
 
 run : ℕ → ℕ → Run
-run len set = record { len = len; set = set }
+run len marks = record { len = len; set = marks }
 
 own-1 : ownRuns (head 2 ∷ head 1 ∷ []) (run 3 0 ∷ run 4 1 ∷ run 5 2 ∷ noRun ∷ []) 1 ≡ run 5 2 ∷ []
 unfolding head sumBelow

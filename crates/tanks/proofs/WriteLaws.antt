@@ -1,6 +1,6 @@
 -- What the loop of `edit` does to the state, step by step, and that its places are inside the arrays.
 use Prim.Native.Nat.{ℕ, suc, _+_, _-_, _≤_, _<_}
-use mathlib.Core.Path.{_≡_, refl, sym, ap, _∙_}
+use mathlib.Core.Path.{_≡_, refl, sym, ap}
 use mathlib.Core.Bool.{Bool, true, false, cond}
 use mathlib.Core.List.{List}
 use native.Mathlib.Omega.{arith}
@@ -8,6 +8,7 @@ use lib.Dec.{ltb}
 use native.Mathlib.Numerals.{add-one}
 use borrow.Author.Tests.{lt-ltb, le-ltb, ltb-true, ltb-false}
 use lib.ListN.{length, getD, set}
+use Rattle.laws.proofs.Cases.{cond-same}
 use Rattle.tank.specs.declared.Tank.{Tank}
 use Rattle.tank.specs.State.{Formed}
 use Rattle.runs.proofs.SumLaws.{sum-next}
@@ -17,7 +18,7 @@ use Rattle.tanks.specs.declared.Spots.{Spots}
 use Rattle.tanks.specs.declared.Table.{Table}
 use Rattle.tanks.specs.declared.Tanks.{Tanks}
 use Rattle.tanks.specs.Settings.{judgement}
-use Rattle.tank.specs.Rules.{first}
+use Rattle.tank.specs.Rules.{firstRefusal}
 use Rattle.tanks.specs.Pool.{noRun, runsIn, headOf, tableIn, spotsOf, Sound}
 use Rattle.tanks.proofs.Put.{runOf, runFrom, puts}
 use Rattle.tanks.proofs.LaidLaws.{laid, laid-out, laid-more, laid-back, laid-cong, below-later}
@@ -81,11 +82,8 @@ read-kept s now at f back from m count k j b h e l i = rw i (kept (s .pool) at f
 pub part-all : (p : List Run) (at : ℕ) (f : ℕ → Run) (back : Bool) (count : ℕ) → part p at f (lowest back count count) count ≡ laid p at f count
 part-all p at f back count =
     let z : at + 0 ≡ at = omega arith in
-    all-by back (omega arith) ∙ rw z (laid-cong p at _ f count (λ i h. ap f (omega arith)))
-  where
-    all-by : (b : Bool) → count - count ≡ 0 → part p at f (lowest b count count) count ≡ part p at f 0 count
-    all-by true e = rw e
-    all-by false e = refl
+    let e : count - count ≡ 0 = omega arith in
+    rw (e, cond-same {A = ℕ} {x = 0} back, z) (laid-cong p at _ f count (λ i h. ap f (omega arith)))
 
 -- ---- which run is written
 module _ (pool : List Run) (x : Tank) (from full k : ℕ) where
@@ -114,7 +112,7 @@ pub record Inside (x : Tank) (m at from full count : ℕ) (grows : Bool) : Type 
   pub sets-514 : length (x .sets) ≡ 514
 
 module _ (s : Tanks) (t number : ℕ) (x : Tank) (ok : Sound s) (t8 : t < 8) (formed : Formed x)
-    (z : first number (judgement (s .settings) (runsIn (s .heads)) t (x .runs)) ≡ 0) where
+    (z : firstRefusal number (judgement (s .settings) (runsIn (s .heads)) t (x .runs)) ≡ 0) where
   pub inside : (r : Spots) → r ≡ spotsOf (s .heads) t (x .runs) → Inside x (x .runs) (r .at) (r .from) (r .full) (r .count) (r .grows)
   inside r e =
       rw e

@@ -7,7 +7,7 @@ use lib.Dec.{leb, eqb}
 use lib.ListN.{getD, set, replicate}
 use Rattle.styles.specs.declared.Identity.{Identity}
 use Rattle.styles.specs.declared.Mark.{Mark}
-use Rattle.tank.specs.Rules.{View, freshView, runsHeld, Edit, inserting, removing, after, refusal, forInsert, backFrom, first, whenAccepted}
+use Rattle.tank.specs.Rules.{View, freshView, runsHeld, Edit, inserting, removing, after, refusal, forInsert, backFrom, firstRefusal, whenAccepted}
 use Rattle.tank.specs.Lengths.{annotates}
 use Rattle.tanks.specs.declared.Setting.{Setting}
 use Rattle.tanks.specs.Settings.{limitOf, accepted, claims, heldAfter, judgement}
@@ -59,7 +59,7 @@ askNumber t = cond (noTank t) 1 0
 unfoldable pub refusalAt : House → ℕ → Edit → ℕ
 refusalAt h t e =
     cond (noTank t) 1
-    (first (refusal e (tankAt h t))
+    (firstRefusal (refusal e (tankAt h t))
     (judgement (h .settings) (held h) t (runsHeld (after e (tankAt h t)))))
 
 -- ---- Edits

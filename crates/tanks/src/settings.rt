@@ -4,7 +4,7 @@ ghost use mathlib.Core.Bool.{cond};
 ghost use Prim.Native.Nat.{_<_, max};
 ghost use lib.Dec.{eqb};
 ghost use Rattle.tanks.specs.Settings.{keepsRule, accepted, claims, heldAfter, judgement};
-ghost use Rattle.tank.specs.Rules.{first};
+ghost use Rattle.tank.specs.Rules.{firstRefusal};
 ghost use Rattle.tanks.specs.Pool.{runsIn};
 ghost use Rattle.tanks.specs.Contracts.{Judged, Small};
 use super::Head;
@@ -88,7 +88,7 @@ fn judge(settings: [Setting; 8], heads: [Head; 8], t: usize, n: u64) -> u64
 pub fn verdict(settings: [Setting; 8], heads: [Head; 8], t: usize, number: u64, n: u64) -> u64
     requires { ⌜ t < 8 ⌝ }
     requires { ⌜ Judged settings heads ⌝ }
-    ensures { λ r. ⌜ r ≡ first number (judgement settings (runsIn heads) t n) ⌝ }
+    ensures { λ r. ⌜ r ≡ firstRefusal number (judgement settings (runsIn heads) t n) ⌝ }
 {
     if 0 < number {
         return number;

@@ -3,7 +3,7 @@ use borrow.Author.Needs.{needs}
 use mathlib.Core.Path.{_∙_}
 use Rattle.lists.specs.Anchors.{anchorsNeeded}
 use Rattle.ask.specs.Asks.{noList}
-use Rattle.ask.proofs.AskLaws.{past, inside, listed}
+use Rattle.ask.proofs.AskLaws.{past, inside, listed-eq}
 use Rattle.ask.proofs.anchors_needed.Statement.{statement}
 use Rattle.ask.proofs.anchors_needed.Tie as tie
 
@@ -19,7 +19,7 @@ returns-2 c =
     let e = k .before in
     let s = e .before in
     inside (s .args .s) (s .args .tank) noList anchorsNeeded (e .if1 .left) (k .take .ensures)
-    (listed _ _ _ (c .counted .ensures .0) (c .counted .ensures .1 ∙ w .anchors-needed .ensures))
+    (listed-eq _ _ _ (c .counted .ensures .0) (c .counted .ensures .1 ∙ w .anchors-needed .ensures))
 
 pub anchors-needed-spec : {M : Type 1} → statement M
 anchors-needed-spec =

@@ -2,31 +2,23 @@
 use mathlib.Core.Path.{refl}
 use lib.ListN.{length}
 use borrow.Author.Needs.{needs}
-use Rattle.runs.specs.Stretches.{inFront}
-use Rattle.lists.specs.Lists.{rangeList, rangeNumber, unlessRefused, filledBeside}
-use Rattle.ask.specs.Asks.{noList}
-use Rattle.ask.proofs.AskLaws.{past, inside}
+use Rattle.lists.specs.Lists.{rangeList, rangeNumber}
+use Rattle.ask.proofs.AskLaws.{list-past, list-inside}
 use Rattle.ask.proofs.list_range.Statement.{statement}
 use Rattle.ask.proofs.list_range.Tie as tie
 
 returns : tie.Need-returns
 returns c =
-    let s = c .before .before .before in (
-      past (s .args .s) (s .args .tank) noList (λ v. filledBeside (rangeNumber (s .args .start) (s .args .end) (length (s .args .out .now)) v) (rangeList (s .args .start) (s .args .end) v)) (c .before .if1 .taken) (c .no-list .ensures),
-      past (s .args .s) (s .args .tank) (s .args .out .now) (λ v. inFront (unlessRefused (rangeNumber (s .args .start) (s .args .end) (length (s .args .out .now)) v) (rangeList (s .args .start) (s .args .end) v)) (s .args .out .now)) (c .before .if1 .taken) refl,
-    )
+    let s = c .before .before .before in
+    list-past (s .args .s) (s .args .tank) (rangeNumber (s .args .start) (s .args .end) (length (s .args .out .now))) (rangeList (s .args .start) (s .args .end)) (s .args .out .now) (c .before .if1 .taken) (c .no-list .ensures) refl
 
 returns-2 : tie.Need-returns-2
 returns-2 c =
     let w = c .before .before in
     let k = w .before .before in
     let e = k .before in
-    let s = e .before .before in (
-      inside (s .args .s) (s .args .tank) noList (λ v. filledBeside (rangeNumber (s .args .start) (s .args .end) (length (s .args .out .now)) v) (rangeList (s .args .start) (s .args .end) v)) (e .if1 .left) (k .take .ensures)
-          (w .list-range .ensures .0),
-      inside (s .args .s) (s .args .tank) (s .args .out .now) (λ v. inFront (unlessRefused (rangeNumber (s .args .start) (s .args .end) (length (s .args .out .now)) v) (rangeList (s .args .start) (s .args .end) v)) (s .args .out .now)) (e .if1 .left) (k .take .ensures)
-          (w .list-range .ensures .1),
-    )
+    let s = e .before .before in
+    list-inside (s .args .s) (s .args .tank) (rangeNumber (s .args .start) (s .args .end) (length (s .args .out .now))) (rangeList (s .args .start) (s .args .end)) (s .args .out .now) (e .if1 .left) (k .take .ensures) (w .list-range .ensures)
 
 pub list-range-spec : {M : Type 1} → statement M
 list-range-spec =

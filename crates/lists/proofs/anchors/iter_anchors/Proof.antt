@@ -5,7 +5,7 @@ use mathlib.Core.Path.{_≡_, refl, sym, ap, subst, _∙_}
 use mathlib.Core.Bool.{Bool, false}
 use mathlib.Core.WellFounded.{InvImage·wf}
 use Prim.Native.Nat.{ℕ, suc, _<_, _≤_, _^_, _*_, _+_, _-_}
-use native.Mathlib.Omega.{arith}
+use native.Mathlib.Omega.{arith, by-contra}
 use native.Mathlib.Numerals.{add-one}
 use native.Mathlib.Decide.{decLt}
 use mathlib.Core.List.{[], _∷_, List}
@@ -52,15 +52,15 @@ use denote.Triple.Walked.{says, needs, Stays, stay-slice, stay-none, walkOf, goe
 use denote.Exit.{yes as is-kept}
 use borrow.Author.Needs.{scaled-fits}
 use borrow.Author.Tests.{lt-ltb, le-ltb}
+use Rattle.laws.proofs.Lists.{stored, length-stored}
 use Rattle.tank.specs.declared.Tank.{Tank}
 use Rattle.lists.specs.declared.Listed.{Listed}
 use Rattle.lists.specs.declared.anchors.Anchor.{Anchor}
 use Rattle.lists.specs.declared.anchors.AnchorCursor.{AnchorCursor}
 use Rattle.tank.specs.State.{view, Sound}
 use Rattle.lists.specs.Anchors.{anchors, anchorsAfter, Stands}
-use Rattle.lists.proofs.Stretches.{not-lt}
 use Rattle.lists.proofs.Leaves.{leaves-to}
-use Rattle.lists.proofs.AnchorListLaws.{stored, length-stored, nth, stored-front, Said-turns, Said-first, Said-anchor, Said-advance, Said-judged, Standing, stand-first, stand-next, stand-anchor}
+use Rattle.lists.proofs.AnchorListLaws.{nth, stored-front, Said-turns, Said-first, Said-anchor, Said-advance, Said-judged, Standing, stand-first, stand-next, stand-anchor}
 use Rattle.tank.proofs.Tank as S
 use Rattle.tank.proofs.Tank.Laws as S′
 use Rattle.lists.proofs.Listed as R
@@ -252,7 +252,7 @@ module _ {M : Type 1} (𝓤 : URA M) (H : Heap 𝓤) (A : Atoms 𝓤) (W : Given
       abbrev Q : Kit.Post 𝓤 H
       Q = atRet En Post
 
-      -- the locals from _6 down
+      -- the locals from _7 down
       abbrev Rest : Turn d n → List (Item 𝓤)
       Rest i = ‵ (fat fullShare word l₇ 0 (vint w64 (length ys))) ∷ ‵ (fdies word l₇) ∷ ‵ (fat fullShare word l₆ 0 (vint w64 (i .j))) ∷ ‵ (fdies word l₆) ∷ ‵ (fat fullShare C′.mir l₅ 0 (i .cv)) ∷ ‵ (fdies C′.mir l₅)
           ∷ ‵ (fat fullShare word l₄ 0 (vint w64 n)) ∷ ‵ (fdies word l₄) ∷ ‵ (fat fullShare slice l₃ 0 s) ∷ ‵ (fdies slice l₃) ∷ ‵ (fat fullShare word l₂ 0 (vint w64 u)) ∷ ‵ (fdies word l₂) ∷ ‵ (fat fullShare S′.mir l₁ 0 dv) ∷ ‵ (fdies S′.mir l₁) ∷ ‵ (froom R′.mir l₀ 0) ∷ ‵ (fdies R′.mir l₀) ∷ []
@@ -287,7 +287,7 @@ module _ {M : Type 1} (𝓤 : URA M) (H : Heap 𝓤) (A : Atoms 𝓤) (W : Given
           (runs (𝓣 .C) (𝓣 .Λ) En mirs.turn-1 (anyQ (afterTurn 𝓤 H (Below 𝓤 H A less Inv i) (post 𝓤 H (anyQ (afterBlock 𝓤 H (post 𝓤 H (anyQ (afterSeq 𝓤 H (Wp 𝓤 H (𝓣 .C) (𝓣 .Λ) En mirs.t-6 (post 𝓤 H Q)) (post 𝓤 H Q))))))))))
       unfolding afterTurn
       turn i =
-          -- a turn: [obs; the borrow; the token; _10; …; _9; …; … _0; …]
+          -- a turn: [obs; the borrow; the token; _11; …; _10; …; … _0; …]
           assigns ! (bin ! (load ! (from ! (stop !)) (look ! 13 refl)) (load ! (from ! (stop !)) (look ! 17 refl)) tt) (from ! (stop !)) (init ! 9 refl (tt, tt)) $
           elim (decLt (i .j) n) [
             | yes k ↦
@@ -307,7 +307,7 @@ module _ {M : Type 1} (𝓤 : URA M) (H : Heap 𝓤) (A : Atoms 𝓤) (W : Given
                 assigns ! (bin ! (load ! (from ! (fld ! refl (stop !))) (look-in ! 19 (sub ! 0 refl (whole !)))) (load ! (from ! (stop !)) (look ! 5 refl)) tt) (from ! (stop !)) (init ! 3 refl (tt, tt)) $
                 rewrite ! 3 (λ (p : ℕ). ‵ (fat fullShare tyPtr l₁₁ 0 (vptr b p))) (sym (place-is 24 o j)) refl $
                 opens-slice ! tt T.the-row (zs j) b o $ elem-out ! T.the-row (Is T.the-row) (shows 𝓤 H A T.the-row) (LL.vals T.the-type T′.the-laws) (LL.tells T.the-type T′.the-laws) fullShare (zs j) j r b o l (λ _.
-                -- [out[j]; what it owns; the others; the open borrow; obs; auth; _10; …; _9; …; … _0; …]
+                -- [out[j]; what it owns; the others; the open borrow; obs; auth; _11; …; _10; …; … _0; …]
                 assigns ! (of-opd ! (load ! (from ! (stop !)) (look ! 10 refl))) (from ! (hop ! (look ! 6 refl) (stop !))) (store-raw ! 0 refl (LL.lawful T.the-type T′.the-laws 𝓤 H A W .typed r _ is-r .0)) $
                 move ! (1 ∷ []) $ drop ! $ owned ! T.the-row (Is T.the-row) (LL.makes T.the-type T′.the-plain 𝓤 H A) r _ is-r $ move ! (1 ∷ 0 ∷ []) $ elem-put ! T.the-row fullShare (zs j) j r (w ∷ []) b o l $
                 closes-slice ! tt T.the-row (zs j) (set (zs j) j r) (length-set (zs j) j r) b o $
@@ -325,8 +325,8 @@ module _ {M : Type 1} (𝓤 : URA M) (H : Heap 𝓤) (A : Atoms 𝓤) (W : Given
                 again ! less Inv i (record { j = suc j; c = c′; cv = w′; is-c = is-c′; standing = stand-next j c c′ (i .standing) g; le = omega arith }) (omega arith))))))))))
             | no k ↦
                 let le = i .le in
-                rewrite ! 9 (λ (t : Bool). ‵ (fat fullShare tyBool l₈ 0 (vbool t))) (le-ltb (i .j) n (not-lt k)) refl $
-                leaves-to ! mirs.t-6 (Below 𝓤 H A less Inv i) Q (load ! (from ! (stop !)) (look ! 9 refl)) $ ends i (omega (arith, not-lt k)) false
+                rewrite ! 9 (λ (t : Bool). ‵ (fat fullShare tyBool l₈ 0 (vbool t))) (le-ltb (i .j) n (by-contra _ _ k)) refl $
+                leaves-to ! mirs.t-6 (Below 𝓤 H A less Inv i) Q (load ! (from ! (stop !)) (look ! 9 refl)) $ ends i (omega (arith, by-contra n (i .j) k)) false
           ]
 
     walk : ent 𝓤 (onEntry 𝓤 H A iter-anchors.signature (κ, tt) (q, tt) x at) (WpFn 𝓤 H (𝓣 .C) (𝓣 .Λ) function (dv ∷ vint w64 u ∷ s ∷ []) Post)
@@ -334,7 +334,7 @@ module _ {M : Type 1} (𝓤 : URA M) (H : Heap 𝓤) (A : Atoms 𝓤) (W : Given
         qed W ((‵ (flft κ q) ⊛ ‵ ftrue) ∷ ‵ (owns (S.the-row ∷ u64 ∷ MutSlice (named 0) κ T.the-row ∷ []) x at) ∷ []) ∵ enter ! (𝓣 .C) (𝓣 .Λ) function (dv ∷ vint w64 u ∷ s ∷ []) _ $
         alloc1 ! (λ l₀. alloc1 ! (λ l₁. alloc1 ! (λ l₂. alloc1 ! (λ l₃. alloc1 ! (λ l₄. alloc1 ! (λ l₅. alloc1 ! (λ l₆. alloc1 ! (λ l₇. alloc1 ! (λ l₈. alloc1 ! (λ l₉. alloc1 ! (λ l₁₀. alloc1 ! (λ l₁₁. alloc0 ! $ params1 ! $
         pass1 ! (init ! 20 refl (LL.lawful S.the-type S′.the-laws 𝓤 H A W .typed d _ is-d .0)) $ pass1 ! (init ! 18 refl (uint-lawful 𝓤 H A W w64 .typed u _ is-u .0)) $ pass1 ! (init ! 16 refl (tt, (tt, (record { fits = room .0 }, tt)))) $ pass0 ! $
-        -- [_10; …; _9; …; … _0; …; the token; what t and out own]
+        -- [_11; …; _10; …; … _0; …; the token; what the parameters own]
         assigns ! (of-opd ! (load ! (from ! (fld ! refl (stop !))) (look-in ! 16 (sub ! 1 refl (whole !))))) (from ! (stop !)) (init ! 8 refl (tt, record { fits = room .0 })) $
         nothing ! $ use1 W (raw (Turns 𝓤 H A mem run .pre to-turns)) goes-turns $
         calls-at ! fm (Turns 𝓤 H A mem run) known-turns to-turns (and-then ! (load ! (from ! (stop !)) (look ! 21 refl)) (and-then ! (load ! (from ! (stop !)) (look ! 19 refl)) (and-then ! (load ! (from ! (stop !)) (look ! 9 refl)) (no-more !)))) (λ w.

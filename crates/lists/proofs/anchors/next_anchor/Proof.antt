@@ -2,7 +2,7 @@
 use Prim.Native.Nat.{_<_}
 use native.Mathlib.Omega.{arith}
 use borrow.Author.Needs.{needs}
-use Rattle.lists.proofs.CursorLaws.{end-place, end-mark, start-mark, takes-end, takes-start, takes-none}
+use Rattle.lists.proofs.CursorLaws.{mark-64, end-place, takes-end, takes-start, takes-none}
 use Rattle.lists.proofs.anchors.next_anchor.Statement.{statement}
 use Rattle.lists.proofs.anchors.next_anchor.Tie as tie
 
@@ -18,14 +18,14 @@ module _ (c : tie.After-lowest) where
   end-bit =
       let d = c .before .before .before in
       let s = d .before in
-      end-mark (s .pre .0 .formed .laid) (s .args .c) _ (d .settled .ensures) (c .lowest .result) (omega arith) (c .lowest .ensures .0)
+      mark-64 (s .pre .0 .formed .laid) _ (d .settled .ensures .stands .ends-in) (omega arith) (c .lowest .result) (c .lowest .ensures .0)
 
 module _ (c : tie.After-lowest2) where
   start-bit : c .lowest2 .result < 64
   start-bit =
       let d = c .before .before .before .before .before in
       let s = d .before in
-      start-mark (s .pre .0 .formed .laid) (s .args .c) _ (d .settled .ensures) (c .lowest2 .result) (omega arith) (c .lowest2 .ensures .0)
+      mark-64 (s .pre .0 .formed .laid) _ (d .settled .ensures .stands .starts-in) (omega arith) (c .lowest2 .result) (c .lowest2 .ensures .0)
 
 returns : tie.Need-returns
 returns c =

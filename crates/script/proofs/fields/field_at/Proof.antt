@@ -6,7 +6,7 @@ use lib.ListN.{length, getD}
 use borrow.Author.Needs.{needs}
 use Rattle.script.specs.declared.Field.{Field}
 use Rattle.script.specs.Grammar.{fieldsOf}
-use Rattle.laws.proofs.Cases.{getD-padding}
+use Rattle.laws.proofs.Lists.{getD-padding}
 use Rattle.script.proofs.Places.{past-fields}
 use Rattle.script.proofs.fields.field_at.Statement.{statement}
 use Rattle.script.proofs.fields.field_at.Tie as tie

@@ -2,7 +2,7 @@
 use mathlib.Core.Path.{refl, ap, _∙_}
 use lib.ListN.{getD, replicate}
 use borrow.Author.Needs.{needs}
-use Rattle.laws.proofs.Cases.{getD-blank}
+use Rattle.laws.proofs.Lists.{getD-blank}
 use Rattle.styles.specs.declared.Mark.{Mark}
 use Rattle.styles.specs.Marks.{blank}
 use Rattle.tank.proofs.FreshLaws.{fresh-sound}

@@ -4,7 +4,7 @@ use native.Mathlib.Omega.{arith}
 use Prim.Native.Nat.{_-_, _≤_}
 use mathlib.Core.Path.{_≡_, refl, sym, ap, _∙_}
 use Rattle.tanks.specs.Settings.{judgement}
-use Rattle.tank.specs.Rules.{first}
+use Rattle.tank.specs.Rules.{firstRefusal}
 use Rattle.tanks.specs.Pool.{runsIn, tankOf}
 use Rattle.tanks.proofs.LaidLaws.{laid}
 use Rattle.tanks.proofs.Put.{runFrom}
@@ -35,7 +35,7 @@ own c = let e = c .before .before .before .before in let a = e .before in taken 
 -- no refusal: the places of the loop are inside the arrays
 accepted : (c : tie.Else2 Inv-loop μ-loop)
     → let a = c .before .before .before .before .before .before .before .before .before .before .args in let s = a .t1 in let p = c .before .before .before .before .perform .result in
-    first (p .number) (judgement (s .settings) (runsIn (s .heads)) (a .tank) (p .tank .runs)) ≡ 0
+    firstRefusal (p .number) (judgement (s .settings) (runsIn (s .heads)) (a .tank) (p .tank .runs)) ≡ 0
 accepted c = let z : c .before .verdict .result ≡ 0 = omega (arith, c .if2 .left) in sym (c .before .verdict .ensures) ∙ z
 
 places : (c : tie.After-spots Inv-loop μ-loop)

@@ -1,15 +1,16 @@
 -- `taken` meets its contract. The loop's invariant: the first i lengths and sets are those of the pool from the tank's place on.
 use borrow.Author.Needs.{needs}
 use native.Mathlib.Omega.{arith}
+use native.Mathlib.Numerals.{add-one}
 use Prim.Native.Nat.{_+_, _-_, _≤_}
 use mathlib.Core.Path.{_≡_, refl, _∙_}
 use lib.ListN.{length, getD, replicate}
+use Rattle.laws.proofs.Lists.{stored}
 use Rattle.runs.proofs.SumLaws.{sum-next}
+use Rattle.tank.proofs.Unique.{tank-eq}
 use Rattle.tanks.specs.declared.Run.{Run}
 use Rattle.tanks.specs.Pool.{noRun, runsIn, runsBelow, tankIn}
-use Rattle.tanks.proofs.LaidLaws.{laid, laid-more-front}
-use Rattle.tanks.proofs.SliceLaws.{own-laid}
-use Rattle.tanks.proofs.PutLaws.{tank-eq}
+use Rattle.tanks.proofs.SliceLaws.{own-stored}
 use Rattle.tanks.proofs.pool.taken.Statement.{statement}
 use Rattle.tanks.proofs.pool.taken.Tie as tie
 
@@ -17,8 +18,8 @@ abbrev Inv-loop : tie.InvT-loop
 Inv-loop t pool at h n marks lens₀ sets₀ i₀ lens sets i =
     (i ≤ n)
     × (at + n ≤ 512)
-    × (lens ≡ laid lens₀ 0 (λ k. getD pool (at + k) noRun .len) i)
-    × (sets ≡ laid sets₀ 0 (λ k. getD pool (at + k) noRun .set) i)
+    × (lens ≡ stored (λ k. getD pool (at + k) noRun .len) lens₀ i)
+    × (sets ≡ stored (λ k. getD pool (at + k) noRun .set) sets₀ i)
 
 abbrev μ-loop : tie.MeasureT-loop
 μ-loop t pool at h n marks lens₀ sets₀ i₀ lens sets i = n - i
@@ -33,7 +34,6 @@ array-copy-out-h : tie.Need-array-copy-out-h Inv-loop μ-loop
 array-copy-out-h c = search needs
 
 loop-holds : tie.Need-loop-holds Inv-loop μ-loop
-unfolding laid
 loop-holds c =
     let a = c .before .before .before in
     (omega arith, omega (arith, c .before .before .start .ensures, sum-next (runsIn (a .args .t1)) (a .args .t) 8 (a .pre .0), a .pre .1), refl, refl)
@@ -66,7 +66,7 @@ loop-less : tie.Need-loop-less Inv-loop μ-loop
 loop-less c = search needs
 
 loop-again : tie.Need-loop-again Inv-loop μ-loop
-loop-again c = let l = c .before .before .loop in (omega arith, l .inv .1, rw (l .inv .2) (laid-more-front _ _ _), rw (l .inv .3) (laid-more-front _ _ _))
+loop-again c = let l = c .before .before .loop in (omega arith, l .inv .1, rw (l .inv .2, add-one (l .i)), rw (l .inv .3, add-one (l .i)))
 
 returns : tie.Need-returns Inv-loop μ-loop
 unfolding tankIn
@@ -82,8 +82,8 @@ returns c =
     let inside : runsBelow hs t + runsIn hs t ≤ length pool = omega (arith, sum-next (runsIn hs) t 8 (a .pre .0), a .pre .1, long) in
     let few : runsIn hs t ≤ 514 = omega (arith, inside, long) in
     tank-eq _ (tankIn hs pool (a .args .table) t) refl refl refl refl
-    (l .inv .2 ∙ (λ j. laid (replicate 514 0) 0 (λ k. getD pool (s j + k) noRun .len) (e j)) ∙ own-laid hs pool t inside (λ (r : Run). r .len) few)
-    (l .inv .3 ∙ (λ j. laid (replicate 514 0) 0 (λ k. getD pool (s j + k) noRun .set) (e j)) ∙ own-laid hs pool t inside (λ (r : Run). r .set) few)
+    (l .inv .2 ∙ (λ j. stored (λ k. getD pool (s j + k) noRun .len) (replicate 514 0) (e j)) ∙ own-stored hs pool t inside (λ (r : Run). r .len) few)
+    (l .inv .3 ∙ (λ j. stored (λ k. getD pool (s j + k) noRun .set) (replicate 514 0) (e j)) ∙ own-stored hs pool t inside (λ (r : Run). r .set) few)
     refl
 
 pub taken-spec : {M : Type 1} → statement M
