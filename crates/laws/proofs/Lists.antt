@@ -1,5 +1,5 @@
 -- Lists that are filled up with one thing, or stored from the front; a function over a list.
-use Prim.Native.Nat.{ℕ, zero, suc, _≤_, _<_}
+use Prim.Native.Nat.{ℕ, zero, suc, _-_, _≤_, _<_}
 use mathlib.Core.Path.{_≡_, refl, sym, ap, _∙_}
 use mathlib.Core.List.{List, [], _∷_, _++_, map}
 use native.Mathlib.Omega.{arith}
@@ -19,6 +19,14 @@ getD-padding d n (suc i) (x ∷ xs) = getD-padding d n i xs
 
 pub getD-past : {A : Type 0} (d : A) (n i : ℕ) (xs : List A) → length xs ≤ i → getD (xs ++ replicate n d) i d ≡ d
 getD-past d n i xs h = getD-padding d n i xs ∙ List·getD-eq-default xs d h
+
+-- one more element stored over the first that fills up
+pub filled-step : {A : Type 0} (d e : A) (n : ℕ) (xs : List A) (i : ℕ) → i < length xs → i < n
+    → set (take i xs ++ replicate (n - i) d) i (getD xs i e) ≡ take (suc i) xs ++ replicate (n - suc i) d
+filled-step d e n xs i h l =
+    let f : n - i ≡ suc (n - suc i) = omega arith in
+    rw (f, take-suc xs i e h)
+    (set-at (take i xs) d (replicate (n - suc i) d) (getD xs i e) i (length-take-le i xs (omega arith)) ∙ sym (append-snoc (take i xs) (getD xs i e) (replicate (n - suc i) d)))
 
 -- ---- a function over a list
 pub map-set : {A B : Type 0} (f : A → B) (l : List A) (i : ℕ) (a : A) → map f (set l i a) ≡ set (map f l) i (f a)

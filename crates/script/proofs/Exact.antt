@@ -12,6 +12,7 @@ use lib.Seq.{drop-append-seam}
 use borrow.Author.Tests.{le-leb, leb-true}
 use mir.Syntax.{w64}
 use mir.Val.{SFits}
+use Rattle.laws.proofs.Cases.{cond-cases}
 use Rattle.text.specs.declared.Parsed.{Parsed}
 use Rattle.text.specs.Number.{decimalOf, decimalText}
 use Rattle.text.specs.Bytes.{startsOf, sameOf}
@@ -53,13 +54,10 @@ number-back f most n h k =
     ∙ ap (λ (b : Bool). cond b (Parsed.Number n) Parsed.Bad) (le-leb n most h)
 
 -- ---- an op's name
-by-name : (b : Bool) (t : List ℕ) (o op : Op) (rest : ReadOp) → sameOf t (opName o) ≡ b → cond b (ReadOp.Op o) rest ≡ ReadOp.Op op → (rest ≡ ReadOp.Op op → t ≡ opName op) → t ≡ opName op
-by-name true t o op rest h f later = let q : o ≡ op = cc in same-true t (opName o) h ∙ ap opName q
-by-name false t o op rest h f later = later f
-
 among-only : (os : List Op) (t : List ℕ) (op : Op) → opAmong os t ReadOp.Bad ≡ ReadOp.Op op → t ≡ opName op
 among-only [] t op e = let z : _≡_ {A = ℕ} 0 1 = cc in absurd (omega arith)
-among-only (o ∷ os) t op e = by-name (sameOf t (opName o)) t o op (opAmong os t ReadOp.Bad) refl e (among-only os t op)
+among-only (o ∷ os) t op e =
+    cond-cases (λ r. r ≡ ReadOp.Op op → t ≡ opName op) (sameOf t (opName o)) (λ h f. let q : o ≡ op = cc in same-true t (opName o) h ∙ ap opName q) (λ h. among-only os t op) e
 
 -- a text is an op only where it is the op's name; that every name is known is shown in Tests
 pub op-only : (t : List ℕ) (op : Op) → opNamed t ≡ ReadOp.Op op → t ≡ opName op

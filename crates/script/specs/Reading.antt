@@ -41,19 +41,22 @@ withinOf most (Parsed.Number n) = cond (leb n most) (Parsed.Number n) Parsed.Bad
 unfoldable pub numberOf : Field → ℕ → List ℕ → Parsed
 numberOf f most line = afterName f Parsed.Bad (λ t. withinOf most (decimalOf t)) line
 
--- the first op of a list with a name, or what there is otherwise
+-- the first of a list whose name is t, as `gives` says it, or what there is otherwise
+abbrev pub among : {A R : Type 0} → (A → List ℕ) → (A → R) → List A → List ℕ → R → R
+among name gives [] t other = other
+among name gives (x ∷ xs) t other = cond (sameOf t (name x)) (gives x) (among name gives xs t other)
+
+-- of ops
 abbrev pub opAmong : List Op → List ℕ → ReadOp → ReadOp
-opAmong [] t other = other
-opAmong (o ∷ os) t other = cond (sameOf t (opName o)) (ReadOp.Op o) (opAmong os t other)
+opAmong = among opName ReadOp.Op
 
 -- the op with a name
 unfoldable pub opNamed : List ℕ → ReadOp
 opNamed t = opAmong ops t ReadOp.Bad
 
--- the first kind of a list with a name, or what there is otherwise
+-- of kinds
 abbrev pub kindAmong : List Kind → List ℕ → ReadKind → ReadKind
-kindAmong [] t other = other
-kindAmong (k ∷ ks) t other = cond (sameOf t (kindName k)) (ReadKind.Kind k) (kindAmong ks t other)
+kindAmong = among kindName ReadKind.Kind
 
 -- the kind with a name
 unfoldable pub kindNamed : List ℕ → ReadKind

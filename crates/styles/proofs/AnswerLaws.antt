@@ -4,14 +4,14 @@ use mathlib.Core.Path.{_≡_, refl, sym, ap, _∙_}
 use mathlib.Core.List.{List, [], _∷_, _++_}
 use native.Mathlib.Omega.{arith}
 use native.Mathlib.Numerals.{add-one}
-use lib.ListN.{length, take, drop, getD, set, replicate, length-take}
-use lib.Seq.{take-suc, drop-cons, take-at, take-all}
+use lib.ListN.{length, take, drop, getD, set, replicate}
+use lib.Seq.{drop-cons, take-at, take-all}
+use Rattle.laws.proofs.Lists.{filled-step}
 use Rattle.styles.specs.declared.Mark.{Mark}
 use Rattle.styles.specs.declared.Ranked.the-variants.{Nothing, Found}
 use Rattle.styles.specs.declared.Styles.{Styles}
 use Rattle.styles.specs.Marks.{blank}
 use Rattle.styles.specs.Answers.{stylesOf, rankOf}
-use Rattle.styles.proofs.WalkLaws.{keep-turn}
 
 -- the answer determines the set and its order
 pub styles-inj : (a b : List Mark) → stylesOf a ≡ stylesOf b → a ≡ b
@@ -45,9 +45,8 @@ module _ (l : List Mark) (w : ℕ) (x : Mark) (rest : List Mark) (here : drop w 
 
   pub walk-front : set (take w l ++ replicate (64 - w) blank) w x ≡ take (w + 1) l ++ replicate (64 - (w + 1)) blank
   walk-front =
-      let e : take (w + 1) l ≡ take w l ++ x ∷ [] = rw (add-one w) (take-suc l w x held ∙ ap (λ (y : List Mark). take w l ++ take 1 y) same) in
-      keep-turn (take w l) x w (omega (arith, length-take w l)) room
-      ∙ ap (λ (y : List Mark). y ++ replicate (64 - (w + 1)) blank) (sym e)
+      rw (add-one w)
+      (ap (set (take w l ++ replicate (64 - w) blank) w) (sym (ap (λ (y : List Mark). getD y 0 x) same)) ∙ filled-step blank x 64 l w held room)
 
 -- the end of the walk
 pub walk-end : (l marks : List Mark) (w : ℕ) → w ≡ length l → marks ≡ take w l ++ replicate (64 - w) blank → _≡_ {A = Styles} (record { count = w; marks = marks }) (stylesOf l)

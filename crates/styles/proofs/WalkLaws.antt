@@ -1,22 +1,22 @@
 -- The table walked mark by mark: the marks kept, and the winner for a key.
 use Prim.Native.Nat.{ℕ, zero, suc, _+_, _-_, _/_, _%_, _^_, _≤_, _<_}
-use mathlib.Core.Path.{_≡_, refl, sym, ap, _∙_, subst}
+use mathlib.Core.Path.{_≡_, refl, ap, _∙_, subst}
 use mathlib.Core.Bool.{Bool, true, false, cond}
-use mathlib.Core.List.{List, [], _∷_, _++_, append-assoc, append-nil}
+use mathlib.Core.List.{List, [], _∷_, _++_, append-nil}
 use native.Mathlib.Omega.{arith}
 use native.Mathlib.Nat.{div-one}
 use native.Mathlib.Numerals.{add-one}
 use lib.Dec.{eqb}
 use borrow.Author.Tests.{eqb-true, eqb-false, eq-eqb, ne-eqb}
-use lib.ListN.{length, take, getD, set, replicate, length-take}
-use lib.Seq.{take-suc, take-take, set-at}
+use lib.ListN.{length, take, getD, length-take}
+use lib.Seq.{take-suc, take-take}
 use Rattle.styles.specs.declared.Identity.{Identity}
 use Rattle.styles.specs.declared.Mark.{Mark}
 use Rattle.styles.specs.declared.Stand.the-variants.{Before}
 use Rattle.styles.specs.declared.Winner.{Winner}
 use Rattle.styles.specs.declared.Winner.the-variants.{Nothing, Shows}
 use Rattle.styles.specs.Order.{stands, idOf, less}
-use Rattle.styles.specs.Marks.{Above, Sorted, later, better, winner, blank}
+use Rattle.styles.specs.Marks.{Above, Sorted, later, better, winner}
 use Rattle.styles.specs.Bits.{keepBit, pick, hasBit}
 use Rattle.styles.proofs.OrderLaws.{num-same}
 use Rattle.styles.proofs.PickLaws.{keep-by, above-pick}
@@ -52,13 +52,6 @@ pub pick-length-le : (t : List Mark) (s : ℕ) → length (pick t s) ≤ length 
 unfolding pick
 pick-length-le [] s = omega arith
 pick-length-le (m ∷ ms) s = omega (arith, length-keep (s % 2) m (pick ms (s / 2)) (omega arith), pick-length-le ms (s / 2))
-
--- ---- a mark kept: written over the first blank
-pub keep-turn : (p : List Mark) (m : Mark) (w : ℕ) → w ≡ length p → w < 64
-    → set (p ++ replicate (64 - w) blank) w m ≡ (p ++ m ∷ []) ++ replicate (64 - (w + 1)) blank
-keep-turn p m w e h =
-    let f : 64 - w ≡ suc (64 - (w + 1)) = omega arith in
-    rw f (set-at p blank (replicate (64 - (w + 1)) blank) m w (sym e) ∙ sym (append-assoc p (m ∷ []) (replicate (64 - (w + 1)) blank)))
 
 -- ---- the winner is the last mark with the key
 -- for marks of one key, later is the order of identities

@@ -1,6 +1,6 @@
 -- The parsers are exact: a text is accepted where it is the text of a number below 2^64, and the answer is that number. So what is accepted is what is printed (`same-text`).
 use mathlib.Core.Path.{_≡_, refl, sym, ap, _∙_, subst}
-use mathlib.Core.Bool.{Bool, true, false, cond, and-eq-true-iff, false≢true}
+use mathlib.Core.Bool.{Bool, true, false, cond, _&&_, _||_, and-eq-true-iff, false≢true}
 use mathlib.Core.List.{List, [], _∷_, _++_}
 use Prim.Native.Nat.{ℕ, zero, suc, _+_, _-_, _*_, _/_, _%_, _^_, _≤_, _<_}
 use native.Mathlib.Nat.{div-div-eq-div-mul, div-one, div-eq-of-lt, div-le-self, div-add-mod', mod-eq-of-lt, mod-lt, pow-zero, pow-suc, pow-succ', pow-le-pow-right, one-le-pow, le-div-iff-mul-le, div-lt-iff-lt-mul, one-mul}
@@ -133,7 +133,7 @@ few-digits b least n m k one low h x =
 
 -- ---- decimals
 -- what `decimalOf` asks of its text besides the digits
-no-lead : (t u w : Bool) (n : ℕ) (p : Parsed) → cond t Parsed.Bad (cond u (cond w Parsed.Bad p) p) ≡ Parsed.Number n → (t ≡ false) × (u ≡ true → w ≡ false) × (p ≡ Parsed.Number n)
+no-lead : (t u w : Bool) (n : ℕ) (p : Parsed) → cond (t || (u && w)) Parsed.Bad p ≡ Parsed.Number n → (t ≡ false) × (u ≡ true → w ≡ false) × (p ≡ Parsed.Number n)
 no-lead true u w n p e = let z : _≡_ {A = ℕ} 0 1 = cc in absurd (omega arith)
 no-lead false true true n p e = let z : _≡_ {A = ℕ} 0 1 = cc in absurd (omega arith)
 no-lead false true false n p e = (refl, (λ _. refl), e)

@@ -1,7 +1,7 @@
 -- Numbers as text, in base b, over io's `digits`, `glyph` and `Fewest`: what the parsers answer, and what it is to be the text of a number.
 use mathlib.Core.Path.{_≡_}
 use mathlib.Core.List.{List, [], _∷_, _++_}
-use mathlib.Core.Bool.{Bool, true, cond, _&&_}
+use mathlib.Core.Bool.{Bool, true, cond, _&&_, _||_}
 use Prim.Native.Nat.{ℕ, zero, suc, _+_, _-_, _*_, _/_, _^_}
 use lib.Dec.{ltb, eqb}
 use lib.ListN.{length, getD, take, drop}
@@ -36,7 +36,7 @@ numberIn b t = cond (allDigits b t) (fitting (valueIn b t)) Parsed.Bad
 
 -- a decimal: at least one digit, and no 0 in front of another
 unfoldable pub decimalOf : List ℕ → Parsed
-decimalOf t = cond (ltb (length t) 1) Parsed.Bad (cond (ltb 1 (length t)) (cond (eqb (getD t 0 0) 48) Parsed.Bad (numberIn 10 t)) (numberIn 10 t))
+decimalOf t = cond (ltb (length t) 1 || (ltb 1 (length t) && eqb (getD t 0 0) 48)) Parsed.Bad (numberIn 10 t)
 
 -- sixteen digits in base 16
 unfoldable pub hexOf : List ℕ → Parsed

@@ -7,8 +7,8 @@ use native.Mathlib.Omega.{arith}
 use lib.ListN.{length, take}
 use lib.Seq.{take-all}
 use borrow.Author.Needs.{needs}
+use Rattle.laws.proofs.Lists.{filled-step}
 use Rattle.config.specs.Names.{zeros}
-use Rattle.config.proofs.NameLaws.{padded-step}
 use Rattle.config.proofs.padded.Statement.{statement}
 use Rattle.config.proofs.padded.Tie as tie
 
@@ -37,7 +37,7 @@ loop-again : tie.Need-loop-again Inv-loop μ-loop
 loop-again c = (
   search needs,
   rw (c .before .before .loop .inv .1, add-one)
-      (padded-step (c .before .before .before .args .key .now) (c .before .before .loop .i) (search needs) (search needs)),
+      (filled-step 0 0 32 (c .before .before .before .args .key .now) (c .before .before .loop .i) (search needs) (omega arith)),
 )
 
 returns : tie.Need-returns Inv-loop μ-loop
