@@ -2,7 +2,7 @@
 -- position where it clashes with these.
 use Prim.Native.Nat.{ℕ, zero, suc, _+_, _/_, _%_, _≤_, _<_}
 use mathlib.Core.Path.{_≡_, refl, sym, ap, _∙_}
-use mathlib.Core.Bool.{Bool, true, false, _&&_, _||_, or-comm}
+use mathlib.Core.Bool.{Bool, true, false, _&&_, _||_, or-comm, and-or-distrib-right}
 use mathlib.Core.List.{List, [], _∷_}
 use native.Mathlib.Omega.{arith}
 use lib.Bits.{bitOr}
@@ -75,14 +75,7 @@ gathered-any i f (suc n) =
 any-and : (test : ℕ → Bool) (b : Bool) (n : ℕ) → anyAt (λ p. test p && b) 0 n ≡ (anyAt test 0 n && b)
 unfolding anyAt
 any-and test b zero = refl
-any-and test b (suc n) = rw (le-leb 0 n (omega arith)) (ap (λ x. x || (test n && b)) (any-and test b n) ∙ go (anyAt test 0 n) (test n) b)
-  where
-    go : (x y b : Bool) → (x && b || (y && b)) ≡ ((x || y) && b)
-    go true true true = refl
-    go true true false = refl
-    go true false true = refl
-    go true false false = refl
-    go false y b = refl
+any-and test b (suc n) = rw (le-leb 0 n (omega arith)) (ap (λ x. x || (test n && b)) (any-and test b n) ∙ sym (and-or-distrib-right (anyAt test 0 n) (test n) b))
 
 module _ (m : Mark) where
   -- of a table, one mark and what is picked of those behind it

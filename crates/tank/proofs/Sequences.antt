@@ -2,7 +2,7 @@
 use Prim.Native.Nat.{ℕ, _+_}
 use mathlib.Core.Path.{_≡_, refl, sym, ap, _∙_}
 use mathlib.Core.Bool.{Bool, true, false, cond, _&&_, false≢true}
-use mathlib.Core.List.{List, [], _∷_, _++_}
+use mathlib.Core.List.{List, [], _∷_, _++_, foldl, foldl-append}
 use native.Mathlib.Omega.{arith}
 use lib.Dec.{eqb}
 use borrow.Author.Tests.{ltb-false, eqb-true}
@@ -30,8 +30,7 @@ afterOne c v = cond (acceptedBy c v) (after (c .edit) v) v
 
 -- the tank after calls in a row
 unfoldable pub afterCalls : List OwnCall → View → View
-afterCalls [] v = v
-afterCalls (c ∷ cs) v = afterCalls cs (afterOne c v)
+afterCalls cs v = foldl (λ w c. afterOne c w) v cs
 
 -- the sum over the accepted calls
 unfoldable pub sumOf : (Edit → ℕ) → List OwnCall → View → ℕ
@@ -153,11 +152,6 @@ pub record First (cs : List OwnCall) : Type 0 where
 abbrev pub touchedBy : {cs : List OwnCall} → First cs → View
 touchedBy f = afterOne (f .call) (afterCalls (f .before) freshView)
 
-calls-append : (xs ys : List OwnCall) (v : View) → afterCalls (xs ++ ys) v ≡ afterCalls ys (afterCalls xs v)
-unfolding afterCalls
-calls-append [] ys v = refl
-calls-append (x ∷ xs) ys v = calls-append xs ys (afterOne x v)
-
 -- ---- the length is T, plus all lengths inserted and less all deleted by the accepted calls since then
 module _ {cs : List OwnCall} (f : First cs) where
   now-touched : Touches (touchedBy f)
@@ -167,7 +161,7 @@ module _ {cs : List OwnCall} (f : First cs) where
 
   later-calls : afterCalls cs freshView ≡ afterCalls (f .later) (touchedBy f)
   unfolding afterCalls
-  later-calls = ap (λ xs. afterCalls xs freshView) (f .split) ∙ calls-append (f .before) (f .call ∷ f .later) freshView
+  later-calls = ap (λ xs. afterCalls xs freshView) (f .split) ∙ foldl-append _ freshView (f .before) (f .call ∷ f .later)
 
   pub since-first : (afterCalls cs freshView) .length + sumOf lost (f .later) (touchedBy f) ≡ freshLength + sumOf gained (f .later) (touchedBy f)
   since-first =

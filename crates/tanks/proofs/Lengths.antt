@@ -3,7 +3,7 @@
 use Prim.Native.Nat.{ℕ, _+_, _<_}
 use mathlib.Core.Path.{_≡_, refl, sym, ap, ap₂, _∙_}
 use mathlib.Core.Bool.{Bool, true, false, cond, _&&_, false≢true}
-use mathlib.Core.List.{List, [], _∷_, _++_}
+use mathlib.Core.List.{List, [], _∷_, _++_, foldl-append}
 use native.Mathlib.Omega.{arith}
 use lib.Dec.{eqb}
 use borrow.Author.Tests.{eqb-true, eq-eqb, ne-eqb}
@@ -86,12 +86,6 @@ own-calls h (c ∷ cs) t t8 eight =
     ∙ call-then h t (c .tank) (c .edit) t8 eight (callsOn t (afterAt h (c .tank) (c .edit)) cs)
 
 -- ---- calls behind calls
--- the house after both lists
-all-append : (h : House) (xs ys : List Call) → afterAll h (xs ++ ys) ≡ afterAll (afterAll h xs) ys
-unfolding afterAll
-all-append h [] ys = refl
-all-append h (x ∷ xs) ys = all-append (afterAt h (x .tank) (x .edit)) xs ys
-
 -- the calls on tank t of both
 on-append : (t : ℕ) (h : House) (xs ys : List Call) → callsOn t h (xs ++ ys) ≡ callsOn t h xs ++ callsOn t (afterAll h xs) ys
 unfolding afterAll callsOn
@@ -214,10 +208,10 @@ module _ (st : List Setting) (l : length st ≡ 8) (ok : accepted st ≡ true) (
 
   -- touched never turns back
   pub house-touched-stays : (before later : List Call) → tankAt (reached st before) t .touched ≡ true → tankAt (reached st (before ++ later)) t .touched ≡ true
-  unfolding reached
+  unfolding reached afterAll
   house-touched-stays before later h =
       let now : House = afterAll (opening st) before in
-      ap (λ (x : House). tankAt x t .touched) (all-append (opening st) before later)
+      ap (λ (x : House). tankAt x t .touched) (foldl-append _ (opening st) before later)
       ∙ ap (λ (v : View). v .touched) (own-calls now later t t8 (reached-kept st l ok before .eight))
       ∙ own.touched-stays (callsOn t now later) (tankAt now t) h
 

@@ -2,7 +2,7 @@
 use Prim.Native.Nat.{ℕ, _+_, _≤_, _<_}
 use mathlib.Core.Path.{_≡_}
 use mathlib.Core.Bool.{Bool, true, false, cond, _&&_}
-use mathlib.Core.List.{List, [], _∷_, _++_}
+use mathlib.Core.List.{List, [], _∷_, _++_, foldl}
 use lib.Dec.{leb, eqb}
 use lib.ListN.{getD, set, replicate}
 use Rattle.styles.specs.declared.Identity.{Identity}
@@ -87,8 +87,7 @@ pub record Call : Type 0 where
 
 -- the house after all of them
 unfoldable pub afterAll : House → List Call → House
-afterAll h [] = h
-afterAll h (c ∷ cs) = afterAll (afterAt h (c .tank) (c .edit)) cs
+afterAll = foldl λ h c. afterAt h (c .tank) (c .edit)
 
 -- ---- What the theorems speak of
 -- opened with these settings, after any calls, refused ones among them
