@@ -12,11 +12,11 @@ use borrow.Author.Tests.{lt-ltb, le-ltb}
 use Rattle.styles.specs.declared.Mark.{Mark}
 use Rattle.styles.specs.Order.{idOf}
 use Rattle.styles.specs.Marks.{Above, Sorted, member, only}
-use Rattle.styles.specs.Bits.{keepBit, pick}
+use Rattle.styles.specs.Bits.{keepBit, pick, lackingBits}
 use Rattle.styles.proofs.OrderLaws.{same-self}
 use Rattle.styles.proofs.PickLaws.{not-member, only-skip, pick-op}
 use Rattle.styles.proofs.UnionLaws.{pick-none}
-use Rattle.runs.specs.Runs.{Run, runs, total, setAt, Other, Canon, Spare, lackingBits}
+use Rattle.runs.specs.Runs.{Run, runs, total, setAt, Other, Canon, Spare}
 use Rattle.runs.proofs.Laws.{at-past, total-more, total-mono}
 use Rattle.runs.proofs.ScanLaws.{at-run}
 use Rattle.tank.specs.declared.Tank.{Tank}

@@ -10,11 +10,11 @@ use lib.Pow.{pow-pos}
 use lib.Seq.{getD-take}
 use Rattle.styles.specs.declared.Mark.{Mark}
 use Rattle.styles.specs.Marks.{blank}
-use Rattle.styles.specs.Bits.{pick, withoutBit}
+use Rattle.styles.specs.Bits.{pick, lackingBits, withoutBit}
 use Rattle.styles.proofs.BitLaws.{half-less}
 use Rattle.styles.proofs.CountLaws.{pick-length, pick-first, lowest-less, without-le}
 use Rattle.styles.proofs.UnionLaws.{pick-none}
-use Rattle.runs.specs.Runs.{runs, total, lackingBits}
+use Rattle.runs.specs.Runs.{runs, total}
 use Rattle.tank.specs.declared.Tank.{Tank}
 use Rattle.lists.specs.declared.anchors.Anchor.{Anchor}
 use Rattle.lists.specs.declared.anchors.AnchorCursor.{AnchorCursor}

@@ -5,7 +5,7 @@ use mathlib.Core.List.{List, [], _∷_}
 use native.Mathlib.Omega.{arith}
 use lib.ListN.{length, getD, length-append}
 use Rattle.styles.specs.declared.Mark.{Mark}
-use Rattle.styles.specs.Bits.{pick}
+use Rattle.styles.specs.Bits.{pick, lackingBits}
 use Rattle.styles.proofs.CountLaws.{length-keep}
 use Rattle.styles.proofs.PickLaws.{pick-cons}
 use Rattle.runs.proofs.ListLaws.{clipped-most}
@@ -16,7 +16,6 @@ use Rattle.tank.proofs.Unique.{table-length}
 use Rattle.lists.specs.declared.anchors.AnchorCursor.{AnchorCursor}
 use Rattle.lists.specs.Lists.{listOver}
 use Rattle.lists.specs.Anchors.{anchors, leftAt, laterThan, Stands, Follows}
-use Rattle.runs.specs.Runs.{lackingBits}
 use Rattle.lists.proofs.ListLaws.{list-is}
 use Rattle.lists.proofs.AnchorLaws.{lack-step}
 use Rattle.lists.proofs.CursorLaws.{first-is, follows, none-later, left-length}

@@ -4,7 +4,7 @@ ghost use lib.ListN.{drop, getD, length};
 ghost use Prim.Native.Nat.{_<_, _≤_};
 ghost use Rattle.styles.specs.Marks.{blank};
 ghost use Rattle.lists.specs.Anchors.{anchorOf, anchors, anchorsAfter, noAnchor, leftAt, rest, Stands, Steps, Follows, Settles};
-ghost use Rattle.runs.specs.Runs.{lackingBits};
+ghost use Rattle.styles.specs.Bits.{lackingBits};
 ghost use Rattle.lists.specs.Lists.{unlessRefused, filledBeside};
 ghost use Rattle.runs.specs.Stretches.{inFront};
 ghost use Rattle.tank.specs.State.{view, Sound};

@@ -6,6 +6,7 @@ use mathlib.Core.List.{List}
 use native.Mathlib.Omega.{arith}
 use native.Mathlib.Nat.{pow-suc, min-le-left}
 use lib.Bits.{bitAnd, and-step, and-le-r}
+use Rattle.styles.proofs.BitLaws.{open-zero, open-suc}
 use Rattle.styles.specs.Bits.{openBit}
 use Rattle.styles.proofs.Built.{squeeze, squeezeStep}
 use Rattle.styles.proofs.UnionLaws.{open-or, squeeze-or, open-none, squeeze-none}
@@ -20,9 +21,8 @@ sets-less n rs h = all-sets-map _ _ (λ s e. omega (arith, and-le-r s (gather rs
 
 -- ---- a bit opened
 pub open-tells : (i x y : ℕ) → openBit i x ≡ openBit i y → x ≡ y
-unfolding openBit
-open-tells zero x y e = omega arith
-open-tells (suc i) x y e = omega (arith, open-tells i (x / 2) (y / 2) (omega arith))
+open-tells zero x y e = omega (arith, open-zero x, open-zero y)
+open-tells (suc i) x y e = omega (arith, open-suc i x, open-suc i y, open-tells i (x / 2) (y / 2) (omega (arith, open-suc i x, open-suc i y)))
 
 pub canon-open : (i : ℕ) (rs : List Run) → Canon rs → Canon (mapRuns (openBit i) rs)
 canon-open i rs c = canon-map (openBit i) _ (λ x y a b e. open-tells i x y e) rs (sets-within rs) c

@@ -1,11 +1,12 @@
 -- A run-length list, LAST RUN FIRST: the head of the list is the run that ends the tank, so that one run more is one cons more.
-use Prim.Native.Nat.{ℕ, zero, suc, _+_, _-_, _≤_, _<_}
+use Prim.Native.Nat.{ℕ, zero, suc, _+_, _≤_, _<_}
 use mathlib.Core.Path.{_≡_}
 use mathlib.Core.Bool.{cond}
 use mathlib.Core.List.{List, [], _∷_}
 use lib.ListN.{getD, drop}
 use lib.Dec.{ltb}
-use lib.Bits.{bitOr, bitAnd}
+use lib.Bits.{bitOr}
+use Rattle.styles.specs.Bits.{lackingBits}
 use Rattle.runs.specs.Positions.{sumBelow}
 
 -- `len` positions, each with the set `set`
@@ -45,10 +46,6 @@ Canon [] = Unit {0}
 Canon (r ∷ rs) = (0 < r .len) × Other (r .set) rs × Canon rs
 
 -- ---- A change of sets
--- the bits of one set that another lacks
-abbrev pub lackingBits : ℕ → ℕ → ℕ
-lackingBits s u = s - bitAnd s u
-
 -- a set with the bits of `bits` in it, and without those of `gone`
 unfoldable pub changing : ℕ → ℕ → ℕ → ℕ
 changing bits gone s = lackingBits (bitOr s bits) gone

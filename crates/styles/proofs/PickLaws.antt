@@ -13,6 +13,7 @@ use Rattle.styles.specs.declared.Stand.the-variants.{Before}
 use Rattle.styles.specs.Order.{stands, idOf}
 use Rattle.styles.specs.Marks.{Above, Sorted, member, insertMark, only, removeMark, common, insertAt}
 use Rattle.styles.specs.Bits.{keepBit, pick, openBit, withBit, withoutBit}
+use Rattle.styles.proofs.BitLaws.{open-zero, open-suc, with-zero, with-suc, without-zero, without-suc}
 use Rattle.styles.proofs.OrderLaws.{less-trans, less-flip, same-self}
 
 -- the lowest bit decides on the first mark, the others on the rest
@@ -33,11 +34,12 @@ keep-by P (suc b) h g = g
 
 -- ---- a mark new to the table
 pub pick-open : (i : ℕ) (m : Mark) (t : List Mark) (s : ℕ) → pick (insertAt i m t) (openBit i s) ≡ pick t s
-unfolding insertAt openBit pick
-pick-open zero m t s = pick-even m t s
+unfolding insertAt pick
+pick-open zero m t s = ap (pick (m ∷ t)) (open-zero s) ∙ pick-even m t s
 pick-open (suc i) m [] s = refl
 pick-open (suc i) m (x ∷ xs) s =
-    pick-cons x (insertAt i m xs) (openBit i (s / 2)) (s % 2) (omega arith) ∙ ap (keepBit (s % 2) x) (pick-open i m xs (s / 2))
+    ap (pick (x ∷ insertAt i m xs)) (open-suc i s)
+    ∙ pick-cons x (insertAt i m xs) (openBit i (s / 2)) (s % 2) (omega arith) ∙ ap (keepBit (s % 2) x) (pick-open i m xs (s / 2))
 
 -- what comes before each mark of the table comes before each picked
 pub above-pick : (i : Identity) (t : List Mark) (s : ℕ) → Above i t → Above i (pick t s)
@@ -73,12 +75,13 @@ insert-again (suc b) m ms h = rw (same-self (idOf m))
 
 -- its bit set: the set with it, and as it was where it had it
 pub pick-with : (t : List Mark) (i : ℕ) (d : Mark) (s : ℕ) → i < length t → Sorted t → pick t (withBit i s) ≡ insertMark (getD t i d) (pick t s)
-unfolding withBit pick Sorted
+unfolding pick Sorted
 pick-with [] i d s h k = absurd (omega arith)
 pick-with (m ∷ ms) zero d s h k =
-    pick-cons m ms (s / 2) 1 (omega arith) ∙ insert-again (s % 2) m (pick ms (s / 2)) (above-pick (idOf m) ms (s / 2) (k .0))
+    ap (pick (m ∷ ms)) (with-zero s) ∙ pick-cons m ms (s / 2) 1 (omega arith) ∙ insert-again (s % 2) m (pick ms (s / 2)) (above-pick (idOf m) ms (s / 2) (k .0))
 pick-with (m ∷ ms) (suc i) d s h k =
-    pick-cons m ms (withBit i (s / 2)) (s % 2) (omega arith)
+    ap (pick (m ∷ ms)) (with-suc i s)
+    ∙ pick-cons m ms (withBit i (s / 2)) (s % 2) (omega arith)
     ∙ ap (keepBit (s % 2) m) (pick-with ms i d (s / 2) (omega arith) (k .1))
     ∙ insert-keep (s % 2) (getD ms i d) m (pick ms (s / 2)) (above-at (idOf m) ms i d (omega arith) (k .0))
 
@@ -100,12 +103,13 @@ remove-keep (suc b) i x xs h = rw (less-flip (idOf x) i h)
 
 pub pick-without : (t : List Mark) (i : ℕ) (d : Mark) (s : ℕ) → i < length t → Sorted t
     → pick t (withoutBit i s) ≡ removeMark (idOf (getD t i d)) (pick t s)
-unfolding withoutBit pick Sorted
+unfolding pick Sorted
 pick-without [] i d s h k = absurd (omega arith)
 pick-without (m ∷ ms) zero d s h k =
-    pick-even m ms (s / 2) ∙ remove-first (s % 2) m (pick ms (s / 2)) (above-pick (idOf m) ms (s / 2) (k .0))
+    ap (pick (m ∷ ms)) (without-zero s) ∙ pick-even m ms (s / 2) ∙ remove-first (s % 2) m (pick ms (s / 2)) (above-pick (idOf m) ms (s / 2) (k .0))
 pick-without (m ∷ ms) (suc i) d s h k =
-    pick-cons m ms (withoutBit i (s / 2)) (s % 2) (omega arith)
+    ap (pick (m ∷ ms)) (without-suc i s)
+    ∙ pick-cons m ms (withoutBit i (s / 2)) (s % 2) (omega arith)
     ∙ ap (keepBit (s % 2) m) (pick-without ms i d (s / 2) (omega arith) (k .1))
     ∙ remove-keep (s % 2) (idOf (getD ms i d)) m (pick ms (s / 2)) (above-at (idOf m) ms i d (omega arith) (k .0))
 

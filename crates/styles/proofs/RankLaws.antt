@@ -12,7 +12,7 @@ use lib.Pow.{field, mod-mod-pow}
 use borrow.Author.Tests.{eqb-true, eq-eqb}
 use Rattle.styles.specs.declared.Mark.{Mark}
 use Rattle.styles.specs.Bits.{keepBit, pick, withoutBit, NthAt, NthBit}
-use Rattle.styles.proofs.BitLaws.{half-less, has-past}
+use Rattle.styles.proofs.BitLaws.{without-zero, without-suc, half-less, has-past}
 use Rattle.styles.proofs.CountLaws.{ones-none}
 use Rattle.styles.proofs.MaskLaws.{digit-next}
 
@@ -99,16 +99,15 @@ nth-lowest (suc k) s h = low-step (s % 2) (trailingZeros k (s / 2)) k s refl h (
 
 turn-step : (b tz k s j i : ℕ) → s % 2 ≡ b → under b tz < suc k → (tz < k → (j i : ℕ) → NthAt (withoutBit tz (s / 2)) j i → NthAt (s / 2) (suc j) i)
     → NthAt (withoutBit (under b tz) s) j i → NthAt s (suc j) i
-unfolding withoutBit
-turn-step zero tz k s j zero e h ih g = let f = nth-first (withoutBit tz (s / 2) * 2 + s % 2) j g in absurd (omega (arith, f .0))
+turn-step zero tz k s j zero e h ih g = let f = nth-first (withoutBit tz (s / 2) * 2 + s % 2) j (rw (without-suc tz s) at g) in absurd (omega (arith, f .0))
 turn-step zero tz k s j (suc i) e h ih g =
     let w : ℕ = withoutBit tz (s / 2) in
-    let d = nth-down (w * 2 + s % 2) j i g in
+    let d = nth-down (w * 2 + s % 2) j i (rw (without-suc tz s) at g) in
     let a : (w * 2 + s % 2) / 2 ≡ w = omega arith in
     nth-up s (suc j) (suc (d .0)) i (omega (arith, d .1)) (ih (omega arith) (d .0) i (subst (λ (x : ℕ). NthAt x (d .0) i) a (d .2)))
-turn-step (suc b) tz k s j zero e h ih g = let f = nth-first (s / 2 * 2) j g in absurd (omega (arith, f .0))
+turn-step (suc b) tz k s j zero e h ih g = let f = nth-first (s / 2 * 2) j (rw (without-zero s) at g) in absurd (omega (arith, f .0))
 turn-step (suc b) tz k s j (suc i) e h ih g =
-    let d = nth-down (s / 2 * 2) j i g in
+    let d = nth-down (s / 2 * 2) j i (rw (without-zero s) at g) in
     let a : s / 2 * 2 / 2 ≡ s / 2 = omega arith in
     nth-up s (suc j) (d .0) i (omega (arith, d .1)) (subst (λ (x : ℕ). NthAt x (d .0) i) a (d .2))
 

@@ -14,8 +14,7 @@ use Rattle.styles.specs.declared.Mark.{Mark}
 use Rattle.styles.specs.Order.{idOf}
 use Rattle.styles.specs.Values.{valueNan}
 use Rattle.styles.specs.Marks.{member, placeOf, insertAt, blank}
-use Rattle.styles.specs.Bits.{openBit}
-use Rattle.styles.proofs.BitLaws.{with-is}
+use Rattle.styles.specs.Bits.{openBit, withBit}
 use Rattle.styles.proofs.TableLaws.{length-put}
 use Rattle.styles.proofs.UnionLaws.{open-all, pick-all}
 use Rattle.runs.specs.Runs.{setAt}
@@ -188,12 +187,12 @@ module _ {t : Tank} (s : Sound t) (start end : ℕ) (m : Mark) where
 
             pub new-done : {r : Tank} → Stepped (afterAnnotate start end (getD (tableOf u) i blank) (view u)) (tableOf u) (bitOr (gather (runsOf u)) (2 ^ i)) r
                 → Called (annotating start end m) t 0 r
-            unfolding after afterAnnotate
+            unfolding after afterAnnotate withBit
             new-done {r} d =
                 let l = table-length (s .formed .laid) in
                 made
                 (number-0 (annotating start end m) (view t) some inside not-long is-number (clear (no-clash m (tableOf t) (new .0))) not-full-new)
                 (formed-of d refl
-                (ap (λ x. bitOr x (2 ^ i)) (a .all-is ∙ ap (openBit i) (s .formed .whole)) ∙ sym (with-is i (openBit i (2 ^ t .marks - 1)))
+                (ap (λ x. bitOr x (2 ^ i)) (a .all-is ∙ ap (openBit i) (s .formed .whole))
                 ∙ open-all i (t .marks) (omega (arith, fits-put)) ∙ ap (λ n. 2 ^ n - 1) (sym marks-put ∙ sym (table-length (a .laid)))))
                 (d .is ∙ (λ j. afterAnnotate start end (mark-put j) (a .is j)))

@@ -1,6 +1,6 @@
 -- A mark of the table laid on a range: what the tank then means.
 use Prim.Native.Nat.{ℕ, _<_, _^_}
-use mathlib.Core.Path.{_≡_, sym, ap, _∙_}
+use mathlib.Core.Path.{_≡_, ap, _∙_}
 use mathlib.Core.Bool.{true}
 use mathlib.Core.List.{List}
 use native.Mathlib.Omega.{arith}
@@ -10,7 +10,6 @@ use lib.Pow.{pow-lt}
 use Rattle.styles.specs.declared.Mark.{Mark}
 use Rattle.styles.specs.Marks.{Sorted, insertMark, blank}
 use Rattle.styles.specs.Bits.{pick, withBit}
-use Rattle.styles.proofs.BitLaws.{with-is}
 use Rattle.styles.proofs.PickLaws.{pick-with}
 use Rattle.runs.specs.Runs.{runs, setAt, Spare}
 use Rattle.runs.specs.Edits.{Joined}
@@ -29,12 +28,13 @@ use Rattle.tank.proofs.Unique.{table-length}
 use Rattle.tank.proofs.ViewLaws.{view-altered}
 
 pub one-bit : (i : ℕ) → withBit i 0 ≡ 2 ^ i
-one-bit i = with-is i 0 ∙ or-zero-l (2 ^ i)
+unfolding withBit
+one-bit i = or-zero-l (2 ^ i)
 
 -- adding bit i to a set adds mark i to its marks
 pub adds-mark : (ms : List Mark) (i : ℕ) → Sorted ms → i < length ms → (s : ℕ) → pick ms (adding (withBit i 0) s) ≡ insertMark (getD ms i blank) (pick ms s)
-adds-mark ms i sorted h s =
-    ap (pick ms) (add-is (withBit i 0) s ∙ ap (bitOr s) (one-bit i) ∙ sym (with-is i s)) ∙ pick-with ms i blank s h sorted
+unfolding withBit
+adds-mark ms i sorted h s = ap (pick ms) (add-is (withBit i 0) s ∙ ap (bitOr s) (one-bit i)) ∙ pick-with ms i blank s h sorted
 
 module _ {t : Tank} (start end i : ℕ) (h : CanLay t start end i) where
   pub lay-done : (lens sets : List ℕ) (n : ℕ) → Joined (t .length) (alteredAt start end (adding (withBit i 0)) (setAt (runsOf t))) (runs lens sets n)

@@ -1,12 +1,12 @@
 -- A mark of the table taken off a range: what the tank then means.
-use Prim.Native.Nat.{ℕ, zero, suc, _+_, _-_, _*_, _/_, _%_, _<_, _^_}
+use Prim.Native.Nat.{ℕ, _+_, _-_, _*_, _/_, _%_, _<_, _^_}
 use mathlib.Core.Path.{_≡_, sym, ap, _∙_}
 use mathlib.Core.Bool.{_&&_}
 use mathlib.Core.List.{List}
 use native.Mathlib.Omega.{arith}
-use native.Mathlib.Nat.{pow-suc, min-zero}
+use native.Mathlib.Nat.{pow-suc}
 use native.Mathlib.Decide.{decLt}
-use lib.Bits.{bitAnd, and-step, and-high, and-zero-r}
+use lib.Bits.{bitAnd, and-high}
 use lib.Dec.{ltb, leb}
 use lib.ListN.{length, getD}
 use lib.Pow.{pow-pos, pow-add}
@@ -37,17 +37,9 @@ use Rattle.tank.proofs.ViewLaws.{view-altered}
 
 -- ---- one bit of a set
 -- taken away
-drop-bit : (i s : ℕ) → withoutBit i s + bitAnd s (2 ^ i) ≡ s
-unfolding withoutBit
-drop-bit zero s = omega (arith, and-step s 1, and-zero-r (s / 2))
-drop-bit (suc i) s =
-    let p = pow-suc 2 i in
-    let h : 2 ^ suc i / 2 ≡ 2 ^ i = omega arith in
-    let k : 2 ^ suc i % 2 ≡ 0 = omega arith in
-    omega (arith, drop-bit i (s / 2), rw (h, k, min-zero (s % 2)) at (and-step s (2 ^ suc i)))
-
 pub drops-bit : (i s : ℕ) → changing 0 (withBit i 0) s ≡ withoutBit i s
-drops-bit i s = drop-is (withBit i 0) s ∙ ap (λ b. s - bitAnd s b) (one-bit i) ∙ (omega (arith, drop-bit i s))
+unfolding withoutBit
+drops-bit i s = drop-is (withBit i 0) s ∙ ap (λ b. s - bitAnd s b) (one-bit i)
 
 -- tested
 pub meets-bit : (i s : ℕ) → meets (withBit i 0) s ≡ hasBit i s
