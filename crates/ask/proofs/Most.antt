@@ -6,7 +6,7 @@ use lib.ListN.{length}
 use borrow.Author.Tests.{le-ltb}
 use Rattle.runs.specs.Positions.{sumBelow}
 use Rattle.runs.proofs.SumLaws.{sum-but-one}
-use Rattle.tank.specs.Rules.{View, freshView}
+use Rattle.tank.specs.Rules.{View}
 use Rattle.tank.specs.State.{view}
 use Rattle.tanks.specs.declared.Tanks.{Tanks}
 use Rattle.tanks.specs.Settings.{claim}
@@ -30,20 +30,17 @@ module _ (s : Tanks) (ok : Sound s) (t : ℕ) (h : t < 8) where
       omega (arith, ok .sum, eight-ones, sum-but-one (λ _. 1) f t 8 h (λ u g _. omega (arith, accepted-at (s .settings) (ok .rule) u g .low)))
 
   -- ---- its lists
-  abbrev is-view : tankAt (meaning s) t ≡ view (tankOf s t)
-  is-view = tank-at s t freshView h
-
   pub most-range : (a b : ℕ) → b ≤ tankAt (meaning s) t .length → length (rangeList a b (tankAt (meaning s) t)) ≤ 1515
   unfolding tankOf tankIn view
-  most-range a b g = omega (arith, ap (λ (v : View). length (rangeList a b v)) is-view, list-most (ok .each t h .laid) 0 a b (omega (arith, ap (λ (v : View). v .length) is-view)), runs-505)
+  most-range a b g = omega (arith, ap (λ (v : View). length (rangeList a b v)) (tank-at s t h), list-most (ok .each t h .laid) 0 a b (omega (arith, ap (λ (v : View). v .length) (tank-at s t h))), runs-505)
 
   pub most-whole : length (wholeList (tankAt (meaning s) t)) ≤ 1515
   unfolding tankOf tankIn view
-  most-whole = omega (arith, ap (λ (v : View). length (wholeList v)) is-view, list-most (ok .each t h .laid) 1 0 (tankOf s t .length) (omega arith), runs-505)
+  most-whole = omega (arith, ap (λ (v : View). length (wholeList v)) (tank-at s t h), list-most (ok .each t h .laid) 1 0 (tankOf s t .length) (omega arith), runs-505)
 
   pub most-anchors : length (anchors (tankAt (meaning s) t)) ≤ 32384
   unfolding tankOf tankIn
-  most-anchors = omega (arith, ap (λ (v : View). length (anchors v)) is-view, anchors-most (ok .each t h .laid), runs-505)
+  most-anchors = omega (arith, ap (λ (v : View). length (anchors v)) (tank-at s t h), anchors-most (ok .each t h .laid), runs-505)
 
   -- so that as many records are never too few
   pub room-enough : (room : ℕ) → 32384 ≤ room → anchorsNumber room (tankAt (meaning s) t) ≡ 0

@@ -4,9 +4,10 @@ use mathlib.Core.Bool.{false}
 use mathlib.Core.List.{List, _++_}
 use Prim.Native.Nat.{ℕ, _-_, _≤_}
 use native.Mathlib.Omega.{arith}
-use lib.ListN.{length, length-append, length-replicate, take-append-drop}
+use lib.ListN.{length, take-append-drop}
 use lib.Seq.{take-append-seam, drop-append-seam, length-take-le}
 use Rattle.text.specs.Bytes.{holds}
+use Rattle.laws.proofs.Lists.{length-filled}
 use Rattle.config.specs.Names.{holdsColon, zeros}
 use Rattle.config.specs.Table.{Named}
 use Rattle.config.specs.Meaning.{blankEntry, entryOf, nameIn, namedOf, Tidy}
@@ -19,7 +20,7 @@ name-entry k s = take-append-seam k (zeros (32 - length k))
 pub tidy-entry : (k : List ℕ) (s : StyleConfig) → length k ≤ 32 → holdsColon k ≡ false → Tidy (entryOf k s)
 tidy-entry k s h c =
     record {
-      wide = rw (length-append k (zeros (32 - length k)), length-replicate {A = ℕ} (32 - length k) 0) (omega arith);
+      wide = length-filled 0 32 k h;
       within = h;
       rest = drop-append-seam k (zeros (32 - length k));
       plain = rw (name-entry k s) c;

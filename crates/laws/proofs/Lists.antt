@@ -3,7 +3,7 @@ use Prim.Native.Nat.{ℕ, zero, suc, _-_, _≤_, _<_}
 use mathlib.Core.Path.{_≡_, refl, sym, ap, _∙_}
 use mathlib.Core.List.{List, [], _∷_, _++_, map}
 use native.Mathlib.Omega.{arith}
-use lib.ListN.{length, getD, set, take, drop, replicate, length-set, List·getD-eq-default}
+use lib.ListN.{length, getD, set, take, drop, replicate, length-set, length-append, length-replicate, List·getD-eq-default}
 use lib.Seq.{drop-cons, set-at, take-suc, append-snoc, length-take-le}
 
 -- ---- a list filled up
@@ -19,6 +19,14 @@ getD-padding d n (suc i) (x ∷ xs) = getD-padding d n i xs
 
 pub getD-past : {A : Type 0} (d : A) (n i : ℕ) (xs : List A) → length xs ≤ i → getD (xs ++ replicate n d) i d ≡ d
 getD-past d n i xs h = getD-padding d n i xs ∙ List·getD-eq-default xs d h
+
+pub length-filled : {A : Type 0} (d : A) (n : ℕ) (xs : List A) → length xs ≤ n → length (xs ++ replicate (n - length xs) d) ≡ n
+length-filled d n xs h = omega (arith, length-append xs (replicate (n - length xs) d), length-replicate (n - length xs) d)
+
+pub drop-filling : {A : Type 0} (d : A) (n k : ℕ) → drop k (replicate n d) ≡ replicate (n - k) d
+drop-filling d n zero = let e : n ≡ n - 0 = omega arith in ap (λ (j : ℕ). replicate j d) e
+drop-filling d zero (suc k) = let e : 0 ≡ 0 - suc k = omega arith in ap (λ (j : ℕ). replicate j d) e
+drop-filling d (suc n) (suc k) = let e : n - k ≡ suc n - suc k = omega arith in drop-filling d n k ∙ ap (λ (j : ℕ). replicate j d) e
 
 -- one more element stored over the first that fills up
 pub filled-step : {A : Type 0} (d e : A) (n : ℕ) (xs : List A) (i : ℕ) → i < length xs → i < n

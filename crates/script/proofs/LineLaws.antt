@@ -2,13 +2,14 @@
 use mathlib.Core.Path.{_≡_, refl, sym, ap, _∙_}
 use mathlib.Core.Bool.{Bool, true, false, cond}
 use mathlib.Core.List.{List, _++_}
-use Prim.Native.Nat.{ℕ, zero, suc, _+_, _-_, _≤_}
+use Prim.Native.Nat.{ℕ, _+_, _-_, _≤_}
 use native.Mathlib.Omega.{arith}
 use lib.ListN.{length, take, drop, replicate, length-append}
 use lib.Seq.{take-append-seam}
 use Rattle.text.specs.Number.{put}
 use Rattle.text.specs.Bytes.{startsOf}
 use Rattle.text.proofs.Prefix.{starts-length, rest-part}
+use Rattle.laws.proofs.Lists.{drop-filling}
 use Rattle.script.specs.declared.Field.{Field}
 use Rattle.script.specs.declared.Name.{Name}
 use Rattle.script.specs.declared.Start.{Start}
@@ -29,18 +30,12 @@ module _ {n : Name} (t : List ℕ) (e : n ≡ spelling t) where
   unfolding spelling
   name-fits = omega (arith, name-length, ap (λ (m : Name). length (m .text)) e, length-append t (replicate (16 - length t) 0))
 
--- what is left of equal bytes
-drop-replicate : (n k a : ℕ) → drop k (replicate n a) ≡ replicate (n - k) a
-drop-replicate n zero a = let e : n ≡ n - 0 = omega arith in ap (λ (j : ℕ). replicate j a) e
-drop-replicate zero (suc k) a = let e : 0 ≡ 0 - suc k = omega arith in ap (λ (j : ℕ). replicate j a) e
-drop-replicate (suc n) (suc k) a = let e : n - k ≡ suc n - suc k = omega arith in drop-replicate n k a ∙ ap (λ (j : ℕ). replicate j a) e
-
 -- bytes that are put at the front of sixteen zeros are a name
 pub name-put : (out t : List ℕ) (n : ℕ) → n ≡ 0 + length t → out ≡ put (replicate 16 0) 0 t → _≡_ {A = Name} (record { text = out; len = n }) (spelling t)
 unfolding spelling
 name-put out t n e f =
     let g : 0 + length t ≡ length t = omega arith in
-    let h : out ≡ t ++ replicate (16 - length t) 0 = f ∙ ap (λ (k : ℕ). t ++ drop k (replicate 16 0)) g ∙ ap (λ (l : List ℕ). t ++ l) (drop-replicate 16 (length t) 0) in
+    let h : out ≡ t ++ replicate (16 - length t) 0 = f ∙ ap (λ (k : ℕ). t ++ drop k (replicate 16 0)) g ∙ ap (λ (l : List ℕ). t ++ l) (drop-filling 0 16 (length t)) in
     let k = e ∙ g in
     λ i. record { text = h i; len = k i }
 

@@ -7,10 +7,10 @@ use native.Mathlib.Omega.{arith}
 use native.Mathlib.Nat.{pow-suc}
 use lib.Bits.{bitAnd}
 use lib.Count.{ones}
-use lib.ListN.{length, getD, take, replicate, length-append, length-replicate}
+use lib.ListN.{length, getD, take, replicate}
 use lib.Pow.{pow-mono, pow-pos}
 use lib.Seq.{take-at}
-use Rattle.laws.proofs.Lists.{getD-past}
+use Rattle.laws.proofs.Lists.{getD-past, length-filled}
 use Rattle.styles.specs.declared.Mark.{Mark}
 use Rattle.styles.specs.declared.Styles.{Styles}
 use Rattle.styles.specs.Answers.{stylesOf}
@@ -90,10 +90,7 @@ module _ {t : Tank} (f : Laid t) (e : t .touched ≡ true) where
     front = ap (take (kept .count)) table-is ∙ take-at (pick (tableOf t) carried) (replicate (64 - kept .count) blank) (kept .count) (sym count-is)
 
     table-64 : length (kept .marks) ≡ 64
-    table-64 =
-        let a = few in
-        ap length table-is ∙ length-append (pick (tableOf t) carried) (replicate (64 - kept .count) blank)
-        ∙ (omega (arith, count-is, length-replicate (64 - kept .count) blank))
+    table-64 = ap length table-is ∙ rw count-is (length-filled blank 64 (pick (tableOf t) carried) (omega (arith, few, count-is)))
 
     blanks : (i : ℕ) → kept .count ≤ i → getD (kept .marks) i blank ≡ blank
     blanks i h = ap (λ ms. getD ms i blank) table-is ∙ getD-past blank (64 - kept .count) i (pick (tableOf t) carried) (omega (arith, count-is))

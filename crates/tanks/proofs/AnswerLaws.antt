@@ -24,14 +24,14 @@ module _ (s : Tanks) (t : ℕ) where
 
   -- what a tank taken out means
   own-view : (x : Tank) → t < 8 → TakenOut s t x → view x ≡ tankAt (meaning s) t
-  own-view x h taken = ap view (taken .is) ∙ sym (tank-at s t freshView h)
+  own-view x h taken = ap view (taken .is) ∙ sym (tank-at s t h)
 
   pub taken-in : {x : Tank} → t < 8 → TakenOut s t x → Taken s t x
   taken-in {x} h out = record { is = own-view x h out; sound = out .sound }
 
   -- a fresh tank where there is none
   pub taken-past : {x : Tank} → 8 ≤ t → (Sound x) × (view x ≡ freshView) → Taken s t x
-  taken-past h new = record { is = new .1 ∙ sym (tank-past s t freshView h); sound = new .0 }
+  taken-past h new = record { is = new .1 ∙ sym (tank-past s t h); sound = new .0 }
 
   -- what stands beside an edit's number: the tank's own, where the house accepts it
   beside-done : {A : Type 0} (e : Edit) (given : View → A) (none : A) (x : Tank) → t < 8 → TakenOut s t x → refusalAt (meaning s) t e ≡ 0

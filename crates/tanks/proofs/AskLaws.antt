@@ -3,7 +3,7 @@ use Prim.Native.Nat.{ℕ, _≤_, _<_}
 use mathlib.Core.Path.{_≡_, sym, ap}
 use lib.ListN.{getD}
 use borrow.Author.Tests.{le-leb, lt-leb}
-use Rattle.tank.specs.Rules.{View, freshView}
+use Rattle.tank.specs.Rules.{View}
 use Rattle.tank.specs.State.{view}
 use Rattle.tanks.specs.declared.Tanks.{Tanks}
 use Rattle.tanks.specs.House.{tankAt, held, askNumber}
@@ -22,11 +22,11 @@ module _ {A R : Type 0} (refused : ℕ → R) (given : A → R) (t : ℕ) where
 module _ (s : Tanks) (t : ℕ) (h : t < 8) where
   pub length-said : getD (s .heads) t noHead .length ≡ tankAt (meaning s) t .length
   unfolding tankOf tankIn view
-  length-said = sym (ap (λ (v : View). v .length) (tank-at s t freshView h))
+  length-said = sym (ap (λ (v : View). v .length) (tank-at s t h))
 
   pub touched-said : getD (s .heads) t noHead .touched ≡ tankAt (meaning s) t .touched
   unfolding tankOf tankIn view
-  touched-said = sym (ap (λ (v : View). v .touched) (tank-at s t freshView h))
+  touched-said = sym (ap (λ (v : View). v .touched) (tank-at s t h))
 
   pub runs-said : Sound s → getD (s .heads) t noHead .runs ≡ held (meaning s) t
   runs-said ok = sym (held-is s ok t h)

@@ -7,7 +7,7 @@ use lib.Dec.{eqb}
 use borrow.Author.Tests.{eqb-true, le-leb, lt-leb}
 use Rattle.laws.proofs.Cases.{cond-when}
 use Rattle.tank.specs.declared.Tank.{Tank}
-use Rattle.tank.specs.Rules.{View, freshView, runsHeld, Edit, after, refusal, afterCall, firstRefusal}
+use Rattle.tank.specs.Rules.{View, runsHeld, Edit, after, refusal, afterCall, firstRefusal}
 use Rattle.tank.specs.State.{view, Called}
 use Rattle.tank.proofs.Calls.{when-refused}
 use Rattle.tank.proofs.Unique.{runs-held}
@@ -45,16 +45,13 @@ pub done-is : (e : Edit) (v : View) → refusal e v ≡ 0 → afterCall e v ≡ 
 done-is e v z = rw z
 
 module _ (s : Tanks) (t : ℕ) (e : Edit) (number : ℕ) (x : Tank) (v : ℕ) (next : Tanks) (ok : Sound s) (t8 : t < 8) (called : Called e (tankOf s t) number x) (tail : Tail s t number x v next) where
-  is-view : tankAt (meaning s) t ≡ view (tankOf s t)
-  is-view = tank-at s t freshView t8
-
   is-refusal : number ≡ refusal e (tankAt (meaning s) t)
-  is-refusal = called .number-is ∙ ap (refusal e) (sym is-view)
+  is-refusal = called .number-is ∙ ap (refusal e) (sym (tank-at s t t8))
 
   -- where the tank's own rules refuse nothing
   is-after : number ≡ 0 → view x ≡ after e (tankAt (meaning s) t)
   is-after z =
-      called .is ∙ done-is e (view (tankOf s t)) (sym (called .number-is) ∙ z) ∙ ap (after e) (sym is-view)
+      called .is ∙ done-is e (view (tankOf s t)) (sym (called .number-is) ∙ z) ∙ ap (after e) (sym (tank-at s t t8))
 
   is-judged : number ≡ 0
       → judgement (s .settings) (runsIn (s .heads)) t (x .runs) ≡ judgement (s .settings) (held (meaning s)) t (runsHeld (after e (tankAt (meaning s) t)))

@@ -15,43 +15,43 @@ use Rattle.tank.proofs.Unique.{runs-held}
 use Rattle.tanks.specs.declared.Head.{Head}
 use Rattle.tanks.specs.declared.Tanks.{Tanks}
 use Rattle.tanks.specs.Settings.{claims, heldAfter, judgement}
-use Rattle.tanks.specs.House.{held, withTank}
+use Rattle.tanks.specs.House.{tankAt, held, withTank}
 use Rattle.tanks.specs.Pool.{noHead, runsIn, runsBelow, tankIn, tankOf, headOf, tableIn, meaning, Sound}
 use Rattle.tanks.proofs.Put.{puts}
 use Rattle.tanks.proofs.PutLaws.{put-length, put-blank, put-same, put-other}
 use Rattle.tanks.proofs.SettingLaws.{claims-cong, runs-claims, second-zero, at-each, held-set, judged-limits, judged-sum}
 
 -- ---- the eight views
-pub tank-at : (s : Tanks) (u : ℕ) (d : View) → u < 8 → getD (meaning s .tanks) u d ≡ view (tankOf s u)
+pub tank-at : (s : Tanks) (u : ℕ) → u < 8 → tankAt (meaning s) u ≡ view (tankOf s u)
 unfolding meaning
-tank-at s zero d h = refl
-tank-at s (suc zero) d h = refl
-tank-at s (suc (suc zero)) d h = refl
-tank-at s (suc (suc (suc zero))) d h = refl
-tank-at s (suc (suc (suc (suc zero)))) d h = refl
-tank-at s (suc (suc (suc (suc (suc zero))))) d h = refl
-tank-at s (suc (suc (suc (suc (suc (suc zero)))))) d h = refl
-tank-at s (suc (suc (suc (suc (suc (suc (suc zero))))))) d h = refl
-tank-at s (suc (suc (suc (suc (suc (suc (suc (suc u)))))))) d h = absurd (omega arith)
+tank-at s zero h = refl
+tank-at s (suc zero) h = refl
+tank-at s (suc (suc zero)) h = refl
+tank-at s (suc (suc (suc zero))) h = refl
+tank-at s (suc (suc (suc (suc zero)))) h = refl
+tank-at s (suc (suc (suc (suc (suc zero))))) h = refl
+tank-at s (suc (suc (suc (suc (suc (suc zero)))))) h = refl
+tank-at s (suc (suc (suc (suc (suc (suc (suc zero))))))) h = refl
+tank-at s (suc (suc (suc (suc (suc (suc (suc (suc u)))))))) h = absurd (omega arith)
 
 pub tanks-length : (s : Tanks) → length (meaning s .tanks) ≡ 8
 unfolding meaning
 tanks-length s = refl
 
 -- and none behind them
-pub tank-past : (s : Tanks) (u : ℕ) (d : View) → 8 ≤ u → getD (meaning s .tanks) u d ≡ d
-tank-past s u d h = List·getD-eq-default (meaning s .tanks) d (omega (arith, tanks-length s))
+pub tank-past : (s : Tanks) (u : ℕ) → 8 ≤ u → tankAt (meaning s) u ≡ freshView
+tank-past s u h = List·getD-eq-default (meaning s .tanks) freshView (omega (arith, tanks-length s))
 
 -- eight views, tank by tank
 pub views-are : (s : Tanks) (vs : List View) → length vs ≡ 8 → ((u : ℕ) → u < 8 → view (tankOf s u) ≡ getD vs u freshView) → meaning s .tanks ≡ vs
 views-are s vs l h =
     ext-getD freshView (meaning s .tanks) vs (tanks-length s ∙ sym l)
-    (λ u g. let k : u < 8 = omega (arith, tanks-length s) in tank-at s u freshView k ∙ h u k)
+    (λ u g. let k : u < 8 = omega (arith, tanks-length s) in tank-at s u k ∙ h u k)
 
 -- runs held, by the positions and by the heads
 pub held-is : (s : Tanks) → Sound s → (u : ℕ) → u < 8 → held (meaning s) u ≡ runsIn (s .heads) u
 unfolding tankOf tankIn
-held-is s ok u h = ap runsHeld (tank-at s u freshView h) ∙ runs-held (ok .each u h .laid)
+held-is s ok u h = ap runsHeld (tank-at s u h) ∙ runs-held (ok .each u h .laid)
 
 pub judged-is : (s : Tanks) → Sound s → (t n : ℕ) → judgement (s .settings) (held (meaning s)) t n ≡ judgement (s .settings) (runsIn (s .heads)) t n
 unfolding judgement
@@ -101,7 +101,7 @@ module _ (s : Tanks) (t : ℕ) (x : Tank) (ok : Sound s) (t8 : t < 8) (formed : 
       (ap view (put-same s t x ok t8 formed room) ∙ sym (getD-set-same (meaning s .tanks) t (view x) freshView (omega (arith, tanks-length s))))
       (λ ne.
       ap view (put-other s t x ok t8 formed room u ne h)
-      ∙ sym (tank-at s u freshView h)
+      ∙ sym (tank-at s u h)
       ∙ sym (getD-set-other (meaning s .tanks) t u (view x) freshView ne)))
 
   pub put-means : meaning (puts s t x) ≡ withTank (meaning s) t (view x)

@@ -1,6 +1,6 @@
 -- The rules over eight tanks computed on runs over one sorted table of marks: a tank has more positions than can be looked at, its runs can be.
 use Prim.Native.Nat.{ℕ, zero, suc, _<_, _^_}
-use mathlib.Core.Path.{_≡_, refl, sym, ap, _∙_, fun-ext}
+use mathlib.Core.Path.{_≡_, refl, sym, ap, _∙_, subst, fun-ext}
 use mathlib.Core.Bool.{Bool, true, false, cond, _&&_, and-eq-true-iff}
 use mathlib.Core.List.{List, [], _∷_, map}
 use native.Mathlib.Omega.{arith}
@@ -9,7 +9,7 @@ use lib.ListN.{length, getD, set, replicate, List·getD-map}
 use lib.Pow.{pow-pos}
 use borrow.Author.Tests.{ltb-true, eqb-true}
 use Rattle.laws.proofs.Cases.{cond-by, cond-ap, cond-when}
-use Rattle.laws.proofs.Lists.{map-set}
+use Rattle.laws.proofs.Lists.{getD-blank, map-set}
 use Rattle.styles.specs.declared.Mark.{Mark}
 use Rattle.styles.specs.Marks.{Sorted}
 use Rattle.styles.specs.Bits.{pick}
@@ -137,9 +137,7 @@ module _ (ms : List Mark) (sorted : Sorted ms) where
   fresh-fit = record { canon = (omega arith, tt, tt); inside = pow-pos (length ms) }
 
   pub all-fresh : (n : ℕ) → AllFit ms (replicate n fresh)
-  all-fresh zero t = fresh-fit
-  all-fresh (suc n) zero = fresh-fit
-  all-fresh (suc n) (suc t) = all-fresh n t
+  all-fresh n t = subst (Fit ms) (sym (getD-blank fresh n t)) fresh-fit
 
   -- an accepted edit of a tank
   edit-on : (e : Edit) (k : RunsKept) → Fit ms k → known ms e ≡ true → numberOn ms e (k .touched) (k .runs) ≡ 0

@@ -2,13 +2,12 @@
 use Prim.Native.Nat.{ℕ, zero, suc, _≤_, _<_}
 use mathlib.Core.Path.{_≡_, refl, sym, ap, _∙_, subst}
 use mathlib.Core.Bool.{true, false}
-use mathlib.Core.List.{List, [], _∷_, map}
+use mathlib.Core.List.{List, [], _∷_}
 use native.Mathlib.Omega.{arith}
 use lib.ListN.{length, take, set, replicate, getD-replicate, List·getD-append}
 use lib.Seq.{drop-cons}
 use Rattle.laws.proofs.Lists.{getD-blank, getD-past}
 use Rattle.styles.specs.Marks.{blank}
-use Rattle.runs.specs.Runs.{Spare}
 use Rattle.runs.specs.Positions.{sumBelow, allAt}
 use Rattle.runs.proofs.SumLaws.{sum-same}
 use Rattle.tank.specs.declared.Tank.{Tank}
@@ -16,15 +15,15 @@ use Rattle.tank.specs.Rules.{freshLength, freshView}
 use Rattle.tank.specs.State as state
 use Rattle.tank.specs.State.{view, Formed}
 use Rattle.tank.proofs.FreshLaws as tank
-use Rattle.tank.proofs.Unique.{tank-eq}
+use Rattle.tank.proofs.Shape.{all-spare}
 use Rattle.tanks.specs.declared.Setting.{Setting}
 use Rattle.tanks.specs.declared.Head.{Head}
 use Rattle.tanks.specs.declared.Run as pool
-use Rattle.tanks.specs.declared.Table.{Table}
 use Rattle.tanks.specs.Settings.{accepted, shareOf, shares, claim, claims}
 use Rattle.tanks.specs.House.{smallest, openNumber, opening}
-use Rattle.tanks.specs.Pool.{noHead, noRun, noTable, runsIn, runsBelow, ownRuns, zeroFilled, tankIn, tankOf, headOf, tableIn, meaning, Sound, freshly}
+use Rattle.tanks.specs.Pool.{noHead, noRun, noTable, runsIn, runsBelow, ownRuns, tankIn, tankOf, headOf, tableIn, meaning, Sound, freshly}
 use Rattle.tanks.specs.Contracts.{Opens}
+use Rattle.tanks.proofs.SliceLaws.{tankFrom}
 use Rattle.tanks.proofs.SettingLaws.{accepted-at, accepted-sum}
 use Rattle.tanks.proofs.MeaningLaws.{views-are}
 
@@ -49,8 +48,7 @@ below-one (suc u) h = omega (arith, below-one u (omega arith), runs-one u (omega
 
 -- in form, and it means a fresh tank
 fresh-is : state.Sound fresh × (view fresh ≡ freshView)
-unfolding Spare
-fresh-is = tank.fresh-sound (replicate 514 0) (replicate 514 0) (λ i h. (getD-blank 0 514 i, getD-blank 0 514 i)) refl refl (replicate 64 blank) refl (λ i. getD-blank blank 64 i)
+fresh-is = tank.fresh-sound (replicate 514 0) (replicate 514 0) (all-spare 514) refl refl (replicate 64 blank) refl (λ i. getD-blank blank 64 i)
 
 module _ (st : List Setting) where
   -- each tank's one run
@@ -64,16 +62,7 @@ module _ (st : List Setting) where
 
   pub tank-fresh : (u : ℕ) → u < 8 → tankOf (freshly st) u ≡ fresh
   unfolding tankOf tankIn freshly eight
-  tank-fresh u h =
-      let e = getD-replicate 8 u (headOf fresh) noHead h in
-      tank-eq (tankOf (freshly st) u) fresh
-      (ap (λ (x : Head). x .touched) e)
-      (ap (λ (x : Head). x .length) e)
-      (ap (λ (x : Head). x .runs) e)
-      (ap (λ (x : Head). x .marks) e)
-      (ap (λ (rs : List pool.Run). zeroFilled (map (λ (r : pool.Run). r .len) rs)) (own-fresh u h))
-      (ap (λ (rs : List pool.Run). zeroFilled (map (λ (r : pool.Run). r .set) rs)) (own-fresh u h))
-      (ap (λ (m : Table). m .marks) (getD-replicate 8 u (tableIn fresh) noTable h))
+  tank-fresh u h = λ i. tankFrom (getD-replicate 8 u (headOf fresh) noHead h i) (own-fresh u h i) (getD-replicate 8 u (tableIn fresh) noTable h i)
 
   pub means-fresh : meaning (freshly st) .tanks ≡ replicate 8 freshView
   means-fresh =

@@ -9,6 +9,7 @@ use native.Mathlib.Decide.{decLt}
 use lib.ListN.{length, getD, set, List·getD-eq-default}
 use lib.Seq.{getD-set-same, getD-set-other, ext-getD}
 use Rattle.runs.proofs.SumLaws.{sum-next}
+use Rattle.laws.proofs.Lists.{length-filled}
 use Rattle.tanks.specs.declared.Head.{Head}
 use Rattle.tanks.specs.declared.Run.{Run}
 use Rattle.tank.specs.declared.Tank.{Tank}
@@ -21,7 +22,7 @@ use Rattle.tanks.specs.Pool.{noRun, noHead, noTable, runsIn, runsBelow, 
 use Rattle.tanks.proofs.Put.{runOf, runFrom, puts}
 use Rattle.tanks.proofs.SettingLaws.{sound-held, sound-place}
 use Rattle.tanks.proofs.LaidLaws.{laid, length-laid, laid-out, laid-in, below-same, below-later}
-use Rattle.tanks.proofs.SliceLaws.{length-zero-filled, zero-filled-at, array-at, own-at, length-own, length-own-map}
+use Rattle.tanks.proofs.SliceLaws.{tankFrom, zero-filled-at, array-at, own-at, length-own, length-own-map}
 
 -- the pool, place by place: n runs at `at` become x's, and `left` runs stand behind them
 abbrev packed : List Run → ℕ → ℕ → ℕ → Tank → List Run
@@ -134,7 +135,7 @@ module _ (s : Tanks) (t : ℕ) (x : Tank) (ok : Sound s) (t8 : t < 8) (formed : 
   array : (ns xs : List ℕ) → length ns ≡ x .runs → length xs ≡ 514 → ((k : ℕ) → k < x .runs → getD (zeroFilled ns) k 0 ≡ getD xs k 0) → ((k : ℕ) → x .runs ≤ k → getD xs k 0 ≡ 0)
       → zeroFilled ns ≡ xs
   array ns xs n l eq spare =
-      ext-getD 0 (zeroFilled ns) xs (length-zero-filled ns (omega (arith, fits)) ∙ sym l)
+      ext-getD 0 (zeroFilled ns) xs (length-filled 0 514 ns (omega (arith, fits)) ∙ sym l)
       (λ k _. elim (decLt k (x .runs)) [
         | yes h ↦ eq k h
         | no h ↦ zero-filled-at ns k ∙ List·getD-eq-default ns 0 (omega arith) ∙ sym (spare k (omega arith))
@@ -172,12 +173,4 @@ module _ (s : Tanks) (t : ℕ) (x : Tank) (ok : Sound s) (t8 : t < 8) (formed : 
   pub put-other : (u : ℕ) → u ≢ t → u < 8 → tankOf (puts s t x) u ≡ tankOf s u
   unfolding tankOf tankIn puts
   put-other u ne u8 =
-      let e : getD (set (s .heads) t (headOf x)) u noHead ≡ getD (s .heads) u noHead = getD-set-other (s .heads) t u (headOf x) noHead ne in
-      tank-eq (tankOf (puts s t x) u) (tankOf s u)
-      (ap (λ (h : Head). h .touched) e)
-      (ap (λ (h : Head). h .length) e)
-      (ap (λ (h : Head). h .runs) e)
-      (ap (λ (h : Head). h .marks) e)
-      (ap (λ (rs : List Run). zeroFilled (map (λ (r : Run). r .len) rs)) (own-other u ne u8))
-      (ap (λ (rs : List Run). zeroFilled (map (λ (r : Run). r .set) rs)) (own-other u ne u8))
-      (ap (λ (m : Table). m .marks) (getD-set-other (s .tables) t u (tableIn x) noTable ne))
+      λ i. tankFrom (getD-set-other (s .heads) t u (headOf x) noHead ne i) (own-other u ne u8 i) (getD-set-other (s .tables) t u (tableIn x) noTable ne i)

@@ -3,15 +3,26 @@ use Prim.Native.Nat.{ℕ, _+_, _-_, _≤_, _<_}
 use mathlib.Core.Path.{_≡_, sym, ap, ap₂, _∙_}
 use mathlib.Core.List.{List, _++_, map}
 use native.Mathlib.Omega.{arith}
-use lib.ListN.{length, getD, drop, replicate, length-append, length-drop, length-replicate, length-map, replicate-append-replicate, List·getD-map}
-use lib.Seq.{take-length, length-take-le, getD-take, getD-drop, drop-at}
-use Rattle.laws.proofs.Lists.{getD-padding, stored, stored-is}
+use lib.ListN.{length, getD, drop, replicate, length-drop, length-replicate, length-map, List·getD-map}
+use lib.Seq.{take-length, length-take-le, getD-take, getD-drop}
+use Rattle.laws.proofs.Lists.{getD-padding, drop-filling, stored, stored-is}
+use Rattle.tank.specs.declared.Tank.{Tank}
 use Rattle.tanks.specs.declared.Head.{Head}
 use Rattle.tanks.specs.declared.Run.{Run}
+use Rattle.tanks.specs.declared.Table.{Table}
 use Rattle.tanks.specs.Pool.{noRun, runsIn, runsBelow, ownRuns, zeroFilled}
 
-pub length-zero-filled : (ns : List ℕ) → length ns ≤ 514 → length (zeroFilled ns) ≡ 514
-length-zero-filled ns h = omega (arith, length-append ns (replicate (514 - length ns) 0), length-replicate {A = ℕ} (514 - length ns) 0)
+-- a tank by its head, its runs and its table
+abbrev pub tankFrom : Head → List Run → Table → Tank
+tankFrom h rs m = record {
+  touched = h .touched;
+  length = h .length;
+  runs = h .runs;
+  marks = h .marks;
+  lens = zeroFilled (map (λ r. r .len) rs);
+  sets = zeroFilled (map (λ r. r .set) rs);
+  table = m .marks;
+}
 
 -- zeros stand behind a list either way
 pub zero-filled-at : (ns : List ℕ) (k : ℕ) → getD (zeroFilled ns) k 0 ≡ getD ns k 0
@@ -43,8 +54,5 @@ module _ (hs : List Head) (pool : List Run) (t : ℕ) where
         let xs = map f (ownRuns hs pool t) in
         let n = runsIn hs t in
         let l = length-own-map f in
-        let e : n + (514 - n) ≡ 514 = omega arith in
-        let zeros : ℕ → List ℕ = λ m. replicate m 0 in
-        let behind = ap (drop n) (sym (replicate-append-replicate {A = ℕ} n (514 - n) 0)) ∙ drop-at (zeros n) (zeros (514 - n)) n (length-replicate {A = ℕ} n 0) in
-        stored-is _ xs (zeros 514) (f noRun) n (omega (arith, l)) (omega (arith, length-replicate {A = ℕ} 514 0)) (λ k g. sym (map-at f k g))
-        ∙ rw l (ap₂ (λ (front back : List ℕ). front ++ back) (rw l at (take-length xs)) (rw e at behind))
+        stored-is _ xs (replicate 514 0) (f noRun) n (omega (arith, l)) (omega (arith, length-replicate {A = ℕ} 514 0)) (λ k g. sym (map-at f k g))
+        ∙ rw l (ap₂ (λ (front back : List ℕ). front ++ back) (rw l at (take-length xs)) (drop-filling 0 514 n))

@@ -37,7 +37,7 @@ view-sorted x ok p = sorted-pick (tableOf x) _ (ok .sorted)
 
 -- the marks at every position of every tank of a sound state are sorted
 pub sets-sorted : (s : Tanks) → Sound s → (t p : ℕ) → t < 8 → Sorted (tankAt (meaning s) t .at p)
-sets-sorted s ok t p t8 = subst InOrder (sym (tank-at s t freshView t8)) (view-sorted (tankOf s t) (ok .each t t8 .laid)) p
+sets-sorted s ok t p t8 = subst InOrder (sym (tank-at s t t8)) (view-sorted (tankOf s t) (ok .each t t8 .laid)) p
 
 -- ---- the sets of the rules
 -- the empty set is sorted

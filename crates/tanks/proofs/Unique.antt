@@ -4,13 +4,12 @@ use mathlib.Core.Path.{_≡_, refl, sym, ap, _∙_}
 use mathlib.Core.List.{List}
 use native.Mathlib.Omega.{arith}
 use native.Mathlib.Decide.{decLt}
-use lib.ListN.{length, getD}
+use lib.ListN.{getD}
 use lib.Seq.{ext-getD}
 use Rattle.runs.specs.Positions.{sumBelow}
 use Rattle.tanks.specs.declared.Setting.{Setting}
 use Rattle.tanks.specs.declared.Head.{Head}
 use Rattle.tanks.specs.declared.Run.{Run}
-use Rattle.tanks.specs.declared.Table.{Table}
 use Rattle.tank.specs.declared.Tank.{Tank}
 use Rattle.styles.specs.declared.Identity.{Identity}
 use Rattle.styles.specs.Answers.{stylesOf}
@@ -23,20 +22,14 @@ use Rattle.tanks.specs.declared.Inserted.{Inserted}
 use Rattle.tanks.specs.declared.Removed.{Removed}
 use Rattle.tanks.specs.declared.Done.{Done}
 use Rattle.tanks.specs.House.{House, insertedSetAt, removedFirstAt}
-use Rattle.tanks.specs.Pool.{noHead, noRun, noTable, runsIn, runsBelow, tankIn, tankOf, meaning, Sound}
+use Rattle.tanks.specs.Pool.{noHead, noRun, noTable, runsIn, runsBelow, tankIn, tankOf, headOf, tableIn, meaning, Sound}
 use Rattle.tanks.specs.Contracts.{Opens, CalledAt, DoneAt, Taken}
 use Rattle.tanks.proofs.SliceLaws.{array-at}
 use Rattle.tanks.proofs.MeaningLaws.{tank-at}
 use Rattle.tanks.proofs.CallLaws.{after-refused}
 
-head-eq : (a b : Head) → a .touched ≡ b .touched → a .length ≡ b .length → a .runs ≡ b .runs → a .marks ≡ b .marks → a ≡ b
-head-eq a b p q r s = λ i. record { touched = p i; length = q i; runs = r i; marks = s i }
-
 run-eq : (a b : Run) → a .len ≡ b .len → a .set ≡ b .set → a ≡ b
 run-eq a b p q = λ i. record { len = p i; set = q i }
-
-table-eq : (a b : Table) → a .marks ≡ b .marks → a ≡ b
-table-eq a b p = λ i. record { marks = p i }
 
 -- the tank that holds place k
 record Place (hs : List Head) (n k : ℕ) : Type 0 where
@@ -60,13 +53,7 @@ module _ (a b : Tanks) (sa : Sound a) (sb : Sound b) (same : (u : ℕ) → u < 8
   unfolding tankOf tankIn
   heads-same =
       ext-getD noHead (a .heads) (b .heads) (sa .heads-8 ∙ sym (sb .heads-8))
-      (λ u h.
-      let e = same u (omega (arith, sa .heads-8)) in
-      head-eq (getD (a .heads) u noHead) (getD (b .heads) u noHead)
-      (ap (λ (x : Tank). x .touched) e)
-      (ap (λ (x : Tank). x .length) e)
-      (ap (λ (x : Tank). x .runs) e)
-      (ap (λ (x : Tank). x .marks) e))
+      (λ u h. ap headOf (same u (omega (arith, sa .heads-8))))
 
   run-same : (u : ℕ) → u < 8 → (j : ℕ) → j < runsIn (a .heads) u
       → getD (a .pool) (runsBelow (a .heads) u + j) noRun ≡ getD (b .pool) (runsBelow (b .heads) u + j) noRun
@@ -95,7 +82,7 @@ module _ (a b : Tanks) (sa : Sound a) (sb : Sound b) (same : (u : ℕ) → u < 8
   unfolding tankOf tankIn
   tables-same =
       ext-getD noTable (a .tables) (b .tables) (sa .tables-8 ∙ sym (sb .tables-8))
-      (λ u h. table-eq (getD (a .tables) u noTable) (getD (b .tables) u noTable) (ap (λ (x : Tank). x .table) (same u (omega (arith, sa .tables-8)))))
+      (λ u h. ap tableIn (same u (omega (arith, sa .tables-8))))
 
   pub one-state : a .settings ≡ b .settings → a ≡ b
   one-state e = λ i. record { settings = e i; heads = heads-same i; tables = tables-same i; pool = pool-same i }
@@ -107,9 +94,9 @@ unique a b sa sb e =
     one-state a b sa sb
     (λ u h.
     same-tank (sa .each u h) (sb .each u h)
-    (sym (tank-at a u freshView h)
+    (sym (tank-at a u h)
     ∙ ap (λ (x : House). getD (x .tanks) u freshView) e
-    ∙ tank-at b u freshView h))
+    ∙ tank-at b u h))
     (ap (λ (x : House). x .settings) e)
 
 -- ---- so what each public function hands back is settled by its contract

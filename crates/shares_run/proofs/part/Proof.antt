@@ -6,11 +6,8 @@ use native.Mathlib.Omega.{arith}
 use Rattle.shares_run.proofs.part.Statement.{statement}
 use Rattle.shares_run.proofs.part.Tie as tie
 
-rem-result : tie.Need-rem-result
-rem-result c = search needs
-
 returns : tie.Need-returns
 returns c = let h : 0 < c .args .n = omega arith in omega (arith, mod-lt (c .args .x / 65536) h)
 
 pub part-spec : {M : Type 1} → statement M
-part-spec = tie.close (tie.spec rem-result returns)
+part-spec = tie.close (tie.spec (λ c. search needs) returns)

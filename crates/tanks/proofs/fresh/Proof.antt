@@ -20,23 +20,8 @@ abbrev μ-loop : tie.MeasureT-loop
 loop-holds : tie.Need-loop-holds Inv-loop μ-loop
 loop-holds c = (omega arith, refl)
 
-mul-pool : tie.Need-mul-pool Inv-loop μ-loop
-mul-pool c = search needs
-
-array-set-from-pool : tie.Need-array-set-from-pool Inv-loop μ-loop
-array-set-from-pool c = search needs
-
-add-u : tie.Need-add-u Inv-loop μ-loop
-add-u c = search needs
-
-loop-less : tie.Need-loop-less Inv-loop μ-loop
-loop-less c = search needs
-
 loop-again : tie.Need-loop-again Inv-loop μ-loop
 loop-again c = (omega arith, rw (c .before .loop .inv .1, add-one (c .before .loop .u)))
-
-blank-requires : tie.Need-blank-requires Inv-loop μ-loop
-blank-requires c κs = search needs
 
 -- after the last turn: eight runs, and blanks
 all-stored : stored (λ _. record { len = 4611686018427387903; set = 0 }) (replicate 512 noRun) 8 ≡ replicate 8 (record { len = 4611686018427387903; set = 0 }) ++ replicate 504 noRun
@@ -53,10 +38,10 @@ fresh-spec =
     Inv-loop
     μ-loop
     loop-holds
-    mul-pool
-    array-set-from-pool
-    add-u
-    loop-less
+    (λ c. search needs)
+    (λ c. search needs)
+    (λ c. search needs)
+    (λ c. search needs)
     loop-again
-    blank-requires
+    (λ c κs. search needs)
     returns)

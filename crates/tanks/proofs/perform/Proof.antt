@@ -18,39 +18,6 @@ as-plain : (e : Edit) (x : Tank) (n : ℕ) (y : Tank) (r : Performed) → Called
     → (r .number ≡ n) × (r .styles ≡ stylesOf []) × (r .first ≡ 0) × (r .tank ≡ y) → PerformedAs e x r
 as-plain e x n y r called none zero h = record { called = rw (h .0, h .3) called; styles-are = rw none (h .1); first-is = rw zero (h .2) }
 
-enum-known-call : tie.Need-enum-known-call
-enum-known-call c = search needs
-
-annotate-requires : tie.Need-annotate-requires
-annotate-requires c κs = search needs
-
-plain-requires : tie.Need-plain-requires
-plain-requires c κs = search needs
-
-enum-known-call-2 : tie.Need-enum-known-call-2
-enum-known-call-2 c = search needs
-
-delete-requires : tie.Need-delete-requires
-delete-requires c κs = search needs
-
-plain-requires-2 : tie.Need-plain-requires-2
-plain-requires-2 c κs = search needs
-
-enum-known-call-3 : tie.Need-enum-known-call-3
-enum-known-call-3 c = search needs
-
-insert-requires : tie.Need-insert-requires
-insert-requires c κs = search needs
-
-enum-known-call-4 : tie.Need-enum-known-call-4
-enum-known-call-4 c = search needs
-
-remove-style-scanning-backward-requires : tie.Need-remove-style-scanning-backward-requires
-remove-style-scanning-backward-requires c κs = search needs
-
-no-marks-requires : tie.Need-no-marks-requires
-no-marks-requires c κs = search needs
-
 returns : tie.Need-returns
 returns c = rw (c .before .before .before .call .given .1) (as-plain _ _ _ _ _ (c .before .annotate .ensures) refl refl (c .plain .ensures))
 
@@ -71,17 +38,17 @@ pub perform-spec : {M : Type 1} → statement M
 perform-spec =
     tie.close
     (tie.spec
-    enum-known-call
-    annotate-requires
-    plain-requires
-    enum-known-call-2
-    delete-requires
-    plain-requires-2
-    enum-known-call-3
-    insert-requires
-    enum-known-call-4
-    remove-style-scanning-backward-requires
-    no-marks-requires
+    (λ c. search needs)
+    (λ c κs. search needs)
+    (λ c κs. search needs)
+    (λ c. search needs)
+    (λ c κs. search needs)
+    (λ c κs. search needs)
+    (λ c. search needs)
+    (λ c κs. search needs)
+    (λ c. search needs)
+    (λ c κs. search needs)
+    (λ c κs. search needs)
     returns
     returns-2
     returns-3

@@ -47,19 +47,10 @@ places c =
     inside (a .args .t1) (a .args .tank) (p .result .number) (p .result .tank) (a .pre) (e .if1 .left) (p .ensures .called .formed) (accepted (c .before)) _ (c .spots .ensures)
 
 -- ---- what is asked for
-refused-requires : tie.Need-refused-requires Inv-loop μ-loop
-refused-requires c κs = search needs
-
 returns : tie.Need-returns Inv-loop μ-loop
 returns c =
     let a = c .before .before in
     done-refused (a .args .t1) (a .args .tank) (editOf (a .args .call)) 1 _ (called-past (a .args .t1) (a .args .tank) (editOf (a .args .call)) (a .pre) (c .before .if1 .taken)) (omega arith) (c .refused .ensures)
-
-mul-taken : tie.Need-mul-taken Inv-loop μ-loop
-mul-taken c = search needs
-
-element-copy-out-taken : tie.Need-element-copy-out-taken Inv-loop μ-loop
-element-copy-out-taken c = search needs
 
 taken-requires : tie.Need-taken-requires Inv-loop μ-loop
 taken-requires c κs = let e = c .before .before .before in let a = e .before in (e .if1 .left, sound-held (a .args .t1) (a .pre))
@@ -69,9 +60,6 @@ perform-requires c κs = own c .sound
 
 verdict-requires : tie.Need-verdict-requires Inv-loop μ-loop
 verdict-requires c κs = let e = c .before .before .before .before .before .before .before in let a = e .before in (e .if1 .left, sound-judged (a .args .t1) (a .pre))
-
-refused-requires-2 : tie.Need-refused-requires-2 Inv-loop μ-loop
-refused-requires-2 c κs = search needs
 
 returns-2 : tie.Need-returns-2 Inv-loop μ-loop
 returns-2 c =
@@ -91,36 +79,6 @@ loop-holds : tie.Need-loop-holds Inv-loop μ-loop
 unfolding laid
 loop-holds c = (omega arith, places c, refl)
 
-turn-requires : tie.Need-turn-requires Inv-loop μ-loop
-turn-requires c κs = search needs
-
-add-k : tie.Need-add-k Inv-loop μ-loop
-add-k c = search needs
-
-mul-t27 : tie.Need-mul-t27 Inv-loop μ-loop
-mul-t27 c = search needs
-
-element-copy-out-t30 : tie.Need-element-copy-out-t30 Inv-loop μ-loop
-element-copy-out-t30 c = search needs
-
-mul-t31 : tie.Need-mul-t31 Inv-loop μ-loop
-mul-t31 c = search needs
-
-element-copy-out-t34 : tie.Need-element-copy-out-t34 Inv-loop μ-loop
-element-copy-out-t34 c = search needs
-
-add-t36 : tie.Need-add-t36 Inv-loop μ-loop
-add-t36 c = search needs
-
-mul-t37 : tie.Need-mul-t37 Inv-loop μ-loop
-mul-t37 c = search needs
-
-element-set-from-self : tie.Need-element-set-from-self Inv-loop μ-loop
-element-set-from-self c = search needs
-
-loop-less : tie.Need-loop-less Inv-loop μ-loop
-loop-less c = search needs
-
 loop-again : tie.Need-loop-again Inv-loop μ-loop
 loop-again c =
     let s = c .before .before .before .before .before .before .before .before .before .before .before .before .before .before .before .before .before .before .before .args .t1 in
@@ -134,27 +92,6 @@ loop-again c =
           (omega arith) (j .ensures .0) (l .inv .2)
           (run-own (s .pool) x (q .from) (q .full) (j .result) (omega arith)),
     )
-
-add-self : tie.Need-add-self Inv-loop μ-loop
-add-self c = search needs
-
-mul-self : tie.Need-mul-self Inv-loop μ-loop
-mul-self c = search needs
-
-element-copy-out-self : tie.Need-element-copy-out-self Inv-loop μ-loop
-element-copy-out-self c = search needs
-
-add-t47 : tie.Need-add-t47 Inv-loop μ-loop
-add-t47 c = search needs
-
-mul-t48 : tie.Need-mul-t48 Inv-loop μ-loop
-mul-t48 c = search needs
-
-element-set-from-self-2 : tie.Need-element-set-from-self-2 Inv-loop μ-loop
-element-set-from-self-2 c = search needs
-
-loop-less-2 : tie.Need-loop-less-2 Inv-loop μ-loop
-loop-less-2 c = search needs
 
 loop-again-2 : tie.Need-loop-again-2 Inv-loop μ-loop
 loop-again-2 c =
@@ -171,18 +108,6 @@ loop-again-2 c =
           ∙ run-behind (s .pool) x (q .from) (q .full) (j .result) (omega arith) (omega arith)),
     )
 
-add-t52 : tie.Need-add-t52 Inv-loop μ-loop
-add-t52 c = search needs
-
-mul-t53 : tie.Need-mul-t53 Inv-loop μ-loop
-mul-t53 c = search needs
-
-element-set-from-self-3 : tie.Need-element-set-from-self-3 Inv-loop μ-loop
-element-set-from-self-3 c = search needs
-
-loop-less-3 : tie.Need-loop-less-3 Inv-loop μ-loop
-loop-less-3 c = search needs
-
 loop-again-3 : tie.Need-loop-again-3 Inv-loop μ-loop
 loop-again-3 c =
     let s = c .before .before .before .before .before .before .before .before .before .before .before .before .before .before .before .before .before .before .before .args .t1 in
@@ -197,17 +122,11 @@ loop-again-3 c =
           (run-blank (s .pool) x (q .from) (q .full) (j .result) (omega arith) (omega arith)),
     )
 
-head-of-requires : tie.Need-head-of-requires Inv-loop μ-loop
-head-of-requires c κs = search needs
-
 mul-t19 : tie.Need-mul-t19 Inv-loop μ-loop
 mul-t19 c = omega (arith, c .before .before .before .before .before .before .before .before .before .before .before .before .before .before .if1 .left)
 
 element-set-from-self-4 : tie.Need-element-set-from-self-4 Inv-loop μ-loop
 element-set-from-self-4 c = c .before .before .before .before .before .before .before .before .before .before .before .before .before .before .if1 .left
-
-table-in-requires : tie.Need-table-in-requires Inv-loop μ-loop
-table-in-requires c κs = search needs
 
 mul-t19-2 : tie.Need-mul-t19-2 Inv-loop μ-loop
 mul-t19-2 c = omega (arith, c .before .before .before .before .before .before .before .before .before .before .before .before .before .before .before .if1 .left)
@@ -240,45 +159,45 @@ edit-spec =
     (tie.spec
     Inv-loop
     μ-loop
-    refused-requires
+    (λ c κs. search needs)
     returns
-    mul-taken
-    element-copy-out-taken
+    (λ c. search needs)
+    (λ c. search needs)
     taken-requires
     perform-requires
     verdict-requires
-    refused-requires-2
+    (λ c κs. search needs)
     returns-2
     spots-requires
     loop-holds
-    turn-requires
-    add-k
-    mul-t27
-    element-copy-out-t30
-    mul-t31
-    element-copy-out-t34
-    add-t36
-    mul-t37
-    element-set-from-self
-    loop-less
+    (λ c κs. search needs)
+    (λ c. search needs)
+    (λ c. search needs)
+    (λ c. search needs)
+    (λ c. search needs)
+    (λ c. search needs)
+    (λ c. search needs)
+    (λ c. search needs)
+    (λ c. search needs)
+    (λ c. search needs)
     loop-again
-    add-self
-    mul-self
-    element-copy-out-self
-    add-t47
-    mul-t48
-    element-set-from-self-2
-    loop-less-2
+    (λ c. search needs)
+    (λ c. search needs)
+    (λ c. search needs)
+    (λ c. search needs)
+    (λ c. search needs)
+    (λ c. search needs)
+    (λ c. search needs)
     loop-again-2
-    add-t52
-    mul-t53
-    element-set-from-self-3
-    loop-less-3
+    (λ c. search needs)
+    (λ c. search needs)
+    (λ c. search needs)
+    (λ c. search needs)
     loop-again-3
-    head-of-requires
+    (λ c κs. search needs)
     mul-t19
     element-set-from-self-4
-    table-in-requires
+    (λ c κs. search needs)
     mul-t19-2
     element-set-from-self-5
     returns-3)

@@ -8,12 +8,6 @@ use Rattle.tanks.proofs.Tanks.has_style.Tie as tie
 returns : tie.Need-returns
 returns c = asked-past YesNo.Refused YesNo.Says (c .before .args .tank) _ (c .if1 .taken)
 
-mul-h : tie.Need-mul-h
-mul-h c = search needs
-
-element-copy-out-h : tie.Need-element-copy-out-h
-element-copy-out-h c = search needs
-
 returns-2 : tie.Need-returns-2
 returns-2 c =
     let h = c .before .if1 .left in
@@ -21,4 +15,4 @@ returns-2 c =
     asked-in YesNo.Refused YesNo.Says (a .args .tank) _ _ h (touched-said (a .args .t1) (a .args .tank) h)
 
 pub has-style-spec : {M : Type 1} → statement M
-has-style-spec = tie.close (tie.spec returns mul-h element-copy-out-h returns-2)
+has-style-spec = tie.close (tie.spec returns (λ c. search needs) (λ c. search needs) returns-2)

@@ -8,12 +8,6 @@ use Rattle.tanks.proofs.Tanks.length.Tie as tie
 returns : tie.Need-returns
 returns c = asked-past Count.Refused Count.Counts (c .before .args .tank) _ (c .if1 .taken)
 
-mul-h : tie.Need-mul-h
-mul-h c = search needs
-
-element-copy-out-h : tie.Need-element-copy-out-h
-element-copy-out-h c = search needs
-
 returns-2 : tie.Need-returns-2
 returns-2 c =
     let h = c .before .if1 .left in
@@ -21,4 +15,4 @@ returns-2 c =
     asked-in Count.Refused Count.Counts (a .args .tank) _ _ h (length-said (a .args .t1) (a .args .tank) h)
 
 pub length-spec : {M : Type 1} → statement M
-length-spec = tie.close (tie.spec returns mul-h element-copy-out-h returns-2)
+length-spec = tie.close (tie.spec returns (λ c. search needs) (λ c. search needs) returns-2)

@@ -8,12 +8,6 @@ use Rattle.tanks.proofs.AnswerLaws.{taken-in, taken-past}
 use Rattle.tanks.proofs.Tanks.take.Statement.{statement}
 use Rattle.tanks.proofs.Tanks.take.Tie as tie
 
-mul-taken : tie.Need-mul-taken
-mul-taken c = search needs
-
-element-copy-out-taken : tie.Need-element-copy-out-taken
-element-copy-out-taken c = search needs
-
 taken-requires : tie.Need-taken-requires
 taken-requires c κs =
     let a = c .before .before .before .before in
@@ -32,4 +26,4 @@ returns-2 c =
     taken-past (a .args .t1) (a .args .t) (omega arith) (c .fresh .ensures)
 
 pub take-spec : {M : Type 1} → statement M
-take-spec = tie.close (tie.spec mul-taken element-copy-out-taken taken-requires returns (λ c κs. search needs) returns-2)
+take-spec = tie.close (tie.spec (λ c. search needs) (λ c. search needs) taken-requires returns (λ c κs. search needs) returns-2)

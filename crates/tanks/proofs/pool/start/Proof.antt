@@ -19,20 +19,8 @@ loop-holds : tie.Need-loop-holds Inv-loop μ-loop
 unfolding sumBelow
 loop-holds c = (omega arith, refl)
 
-mul-at : tie.Need-mul-at Inv-loop μ-loop
-mul-at c = search needs
-
-element-copy-out-at : tie.Need-element-copy-out-at Inv-loop μ-loop
-element-copy-out-at c = search needs
-
 add-at : tie.Need-add-at Inv-loop μ-loop
 add-at c = omega (arith, sum-next (runsIn (c .before .before .args .t1)) (c .before .loop .u) 8 (omega arith))
-
-add-u : tie.Need-add-u Inv-loop μ-loop
-add-u c = search needs
-
-loop-less : tie.Need-loop-less Inv-loop μ-loop
-loop-less c = search needs
 
 loop-again : tie.Need-loop-again Inv-loop μ-loop
 loop-again c = omega (arith, sum-more (runsIn (c .before .before .args .t1)) (c .before .loop .u))
@@ -47,10 +35,10 @@ start-spec =
     Inv-loop
     μ-loop
     loop-holds
-    mul-at
-    element-copy-out-at
+    (λ c. search needs)
+    (λ c. search needs)
     add-at
-    add-u
-    loop-less
+    (λ c. search needs)
+    (λ c. search needs)
     loop-again
     returns)

@@ -24,46 +24,10 @@ Inv-loop t pool at h n marks lens₀ sets₀ i₀ lens sets i =
 abbrev μ-loop : tie.MeasureT-loop
 μ-loop t pool at h n marks lens₀ sets₀ i₀ lens sets i = n - i
 
-start-requires : tie.Need-start-requires Inv-loop μ-loop
-start-requires c κs = search needs
-
-mul-h : tie.Need-mul-h Inv-loop μ-loop
-mul-h c = search needs
-
-array-copy-out-h : tie.Need-array-copy-out-h Inv-loop μ-loop
-array-copy-out-h c = search needs
-
 loop-holds : tie.Need-loop-holds Inv-loop μ-loop
 loop-holds c =
     let a = c .before .before .before in
     (omega arith, omega (arith, c .before .before .start .ensures, sum-next (runsIn (a .args .t1)) (a .args .t) 8 (a .pre .0), a .pre .1), refl, refl)
-
-add-r : tie.Need-add-r Inv-loop μ-loop
-add-r c = search needs
-
-mul-r : tie.Need-mul-r Inv-loop μ-loop
-mul-r c = search needs
-
-array-copy-out-r : tie.Need-array-copy-out-r Inv-loop μ-loop
-array-copy-out-r c = search needs
-
-mul-lens : tie.Need-mul-lens Inv-loop μ-loop
-mul-lens c = search needs
-
-array-write-lens : tie.Need-array-write-lens Inv-loop μ-loop
-array-write-lens c = search needs
-
-mul-sets : tie.Need-mul-sets Inv-loop μ-loop
-mul-sets c = search needs
-
-array-write-sets : tie.Need-array-write-sets Inv-loop μ-loop
-array-write-sets c = search needs
-
-add-i : tie.Need-add-i Inv-loop μ-loop
-add-i c = search needs
-
-loop-less : tie.Need-loop-less Inv-loop μ-loop
-loop-less c = search needs
 
 loop-again : tie.Need-loop-again Inv-loop μ-loop
 loop-again c = let l = c .before .before .loop in (omega arith, l .inv .1, rw (l .inv .2, add-one (l .i)), rw (l .inv .3, add-one (l .i)))
@@ -92,18 +56,18 @@ taken-spec =
     (tie.spec
     Inv-loop
     μ-loop
-    start-requires
-    mul-h
-    array-copy-out-h
+    (λ c κs. search needs)
+    (λ c. search needs)
+    (λ c. search needs)
     loop-holds
-    add-r
-    mul-r
-    array-copy-out-r
-    mul-lens
-    array-write-lens
-    mul-sets
-    array-write-sets
-    add-i
-    loop-less
+    (λ c. search needs)
+    (λ c. search needs)
+    (λ c. search needs)
+    (λ c. search needs)
+    (λ c. search needs)
+    (λ c. search needs)
+    (λ c. search needs)
+    (λ c. search needs)
+    (λ c. search needs)
     loop-again
     returns)

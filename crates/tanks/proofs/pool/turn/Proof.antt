@@ -4,12 +4,6 @@ use native.Mathlib.Omega.{arith}
 use Rattle.tanks.proofs.pool.turn.Statement.{statement}
 use Rattle.tanks.proofs.pool.turn.Tie as tie
 
-sub-result : tie.Need-sub-result
-sub-result c = search needs
-
-sub-result-2 : tie.Need-sub-result-2
-sub-result-2 c = search needs
-
 returns : tie.Need-returns
 returns c = (rw (c .if1 .taken), omega arith)
 
@@ -17,4 +11,4 @@ returns-2 : tie.Need-returns-2
 returns-2 c = (rw (c .if1 .left), omega arith)
 
 pub turn-spec : {M : Type 1} → statement M
-turn-spec = tie.close (tie.spec sub-result sub-result-2 returns returns-2)
+turn-spec = tie.close (tie.spec (λ c. search needs) (λ c. search needs) returns returns-2)

@@ -23,26 +23,11 @@ loop-holds : tie.Need-loop-holds Inv-loop μ-loop
 unfolding sumBelow allAt
 loop-holds c = (omega arith, refl, omega arith, refl)
 
-mul-s : tie.Need-mul-s Inv-loop μ-loop
-mul-s c = search needs
-
-array-copy-out-s : tie.Need-array-copy-out-s Inv-loop μ-loop
-array-copy-out-s c = search needs
-
-keeps-rule-requires : tie.Need-keeps-rule-requires Inv-loop μ-loop
-keeps-rule-requires c κs = search needs
-
 returns : tie.Need-returns Inv-loop μ-loop
 returns c = let l = c .before .before .before .before .loop in accepts-not (c .before .before .before .before .before .args .t1) (l .u) (omega arith) (sym (c .before .keeps-rule .ensures) ∙ not-true (c .before .keeps-rule .result) (c .if1 .taken))
 
 add-sum : tie.Need-add-sum Inv-loop μ-loop
 add-sum c = omega (arith, keeps-facts (getD (c .before .before .before .before .before .before .args .t1) (c .before .before .before .before .before .loop .u) noSetting) (sym (c .before .before .keeps-rule .ensures) ∙ not-false (c .before .before .keeps-rule .result) (c .before .if1 .left)))
-
-add-u : tie.Need-add-u Inv-loop μ-loop
-add-u c = search needs
-
-loop-less : tie.Need-loop-less Inv-loop μ-loop
-loop-less c = search needs
 
 loop-again : tie.Need-loop-again Inv-loop μ-loop
 loop-again c =
@@ -62,12 +47,12 @@ accepts-spec =
     Inv-loop
     μ-loop
     loop-holds
-    mul-s
-    array-copy-out-s
-    keeps-rule-requires
+    (λ c. search needs)
+    (λ c. search needs)
+    (λ c κs. search needs)
     returns
     add-sum
-    add-u
-    loop-less
+    (λ c. search needs)
+    (λ c. search needs)
     loop-again
     returns-2)

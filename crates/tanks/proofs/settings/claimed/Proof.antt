@@ -29,32 +29,8 @@ loop-holds : tie.Need-loop-holds Inv-loop μ-loop
 unfolding sumBelow
 loop-holds c = (omega arith, refl)
 
-mul-held-after : tie.Need-mul-held-after Inv-loop μ-loop
-mul-held-after c = search needs
-
-element-copy-out-held-after : tie.Need-element-copy-out-held-after Inv-loop μ-loop
-element-copy-out-held-after c = search needs
-
-held-after-requires : tie.Need-held-after-requires Inv-loop μ-loop
-held-after-requires c κs = search needs
-
-mul-larger : tie.Need-mul-larger Inv-loop μ-loop
-mul-larger c = search needs
-
-element-copy-out-larger : tie.Need-element-copy-out-larger Inv-loop μ-loop
-element-copy-out-larger c = search needs
-
-larger-requires : tie.Need-larger-requires Inv-loop μ-loop
-larger-requires c κs = search needs
-
 add-sum : tie.Need-add-sum Inv-loop μ-loop
 add-sum c = let a = c .before .before .before .before in let l = c .before .before .before .loop in omega (arith, counted c, small-more (a .args .t1) (a .args .t2) (a .args .t) (a .args .n) (l .u) (a .pre) (omega arith))
-
-add-u : tie.Need-add-u Inv-loop μ-loop
-add-u c = search needs
-
-loop-less : tie.Need-loop-less Inv-loop μ-loop
-loop-less c = search needs
 
 loop-again : tie.Need-loop-again Inv-loop μ-loop
 loop-again c = let a = c .before .before .before .before .args in let l = c .before .before .before .loop in omega (arith, counted c, sum-more (claim (a .t1) (heldAfter (runsIn (a .t2)) (a .t) (a .n))) (l .u))
@@ -69,14 +45,14 @@ claimed-spec =
     Inv-loop
     μ-loop
     loop-holds
-    mul-held-after
-    element-copy-out-held-after
-    held-after-requires
-    mul-larger
-    element-copy-out-larger
-    larger-requires
+    (λ c. search needs)
+    (λ c. search needs)
+    (λ c κs. search needs)
+    (λ c. search needs)
+    (λ c. search needs)
+    (λ c κs. search needs)
     add-sum
-    add-u
-    loop-less
+    (λ c. search needs)
+    (λ c. search needs)
     loop-again
     returns)

@@ -7,12 +7,6 @@ use Rattle.tanks.proofs.SettingLaws.{judged-small, judge-9, judge-10, j
 use Rattle.tanks.proofs.settings.judge.Statement.{statement}
 use Rattle.tanks.proofs.settings.judge.Tie as tie
 
-mul-if1 : tie.Need-mul-if1
-mul-if1 c = search needs
-
-element-copy-out-if1 : tie.Need-element-copy-out-if1
-element-copy-out-if1 c = search needs
-
 returns : tie.Need-returns
 returns c = sym (judge-9 (c .before .args .t1) (runsIn (c .before .args .heads)) (c .before .args .t) (c .before .args .n) (c .if1 .taken))
 
@@ -27,4 +21,4 @@ returns-3 c = sym (judge-0 (c .before .before .before .args .t1) (runsIn (c .bef
 
 pub judge-spec : {M : Type 1} → statement M
 judge-spec =
-    tie.close (tie.spec mul-if1 element-copy-out-if1 returns claimed-requires returns-2 returns-3)
+    tie.close (tie.spec (λ c. search needs) (λ c. search needs) returns claimed-requires returns-2 returns-3)

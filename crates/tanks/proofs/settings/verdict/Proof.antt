@@ -9,11 +9,8 @@ use Rattle.tanks.proofs.settings.verdict.Tie as tie
 returns : tie.Need-returns
 returns c = rw (ne-eqb (c .before .args .number) 0 (λ z. omega arith))
 
-judge-requires : tie.Need-judge-requires
-judge-requires c κs = search needs
-
 returns-2 : tie.Need-returns-2
 returns-2 c = let e : c .before .before .args .number ≡ 0 = omega arith in rw e (c .judge .ensures)
 
 pub verdict-spec : {M : Type 1} → statement M
-verdict-spec = tie.close (tie.spec returns judge-requires returns-2)
+verdict-spec = tie.close (tie.spec returns (λ c κs. search needs) returns-2)
