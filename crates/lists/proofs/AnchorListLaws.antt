@@ -7,7 +7,7 @@ use native.Mathlib.Omega.{arith}
 use native.Mathlib.Nat.{add-zero}
 use native.Mathlib.Numerals.{add-one}
 use native.Mathlib.Decide.{decLt}
-use lib.Dec.{eqb, ltb}
+use lib.Dec.{eqb}
 use lib.ListN.{length, getD, drop}
 use lib.Seq.{drop-drop, getD-drop, take-length}
 use borrow.Author.Tests.{lt-ltb, le-ltb, ne-eqb}
@@ -19,7 +19,6 @@ use Rattle.lists.specs.declared.anchors.AnchorCursor.{AnchorCursor}
 use Rattle.lists.specs.declared.anchors.NextAnchor.{NextAnchor}
 use Rattle.lists.specs.declared.anchors.NextAnchor.the-variants.{NoMore, Found}
 use Rattle.tank.specs.State.{view}
-use Rattle.tank.proofs.Calls.{when-refused}
 use Rattle.runs.specs.Stretches.{inFront}
 use Rattle.lists.specs.Lists.{listRefusal, unlessRefused, filledBeside}
 use Rattle.lists.specs.Anchors.{anchors, anchorsAfter, noAnchor, rest, Stands, Steps}
@@ -41,7 +40,7 @@ module _ (t : Tank) (c : AnchorCursor) (r : NextAnchor) (h : Steps t c r) where
 -- ---- what the list answers
 pub judged-lower : {A : Type 0} (xs : List A) (lower room : ℕ) → 0 < lower → record { number = lower; count = 0 } ≡ filledBeside (listRefusal lower room (length xs)) xs
 unfolding listRefusal
-judged-lower xs lower room h = rw (when-refused lower (cond (ltb room (length xs)) 11 0) lower h, when-refused lower xs [] h)
+judged-lower xs lower room h = simp (ne-eqb lower 0 (λ e. omega arith))
 
 module _ {A : Type 0} (xs : List A) (lower room n : ℕ) (none : lower ≤ 0) (is : n ≡ length xs) where
   pub judged-short : room < n → record { number = 11; count = 0 } ≡ filledBeside (listRefusal lower room (length xs)) xs
