@@ -15,6 +15,7 @@ use Rattle.lists.specs.Lists.{rangeList, wholeList, rangeRefusal, listRefusal, 
 use Rattle.lists.specs.Anchors.{anchors, anchorsNeeded, anchorsNumber}
 use Rattle.lists.proofs.ListLaws.{empty-list}
 use Rattle.tank.specs.Rules.{View}
+use Rattle.tank.proofs.Calls.{asked-over}
 use Rattle.tanks.specs.declared.Tanks.{Tanks}
 use Rattle.tanks.specs.House.{House, noTank, tankAt}
 use Rattle.tanks.specs.Pool.{meaning, Sound}
@@ -34,21 +35,18 @@ least-room lower room n h =
       | no k ↦ ap (λ (b : Bool). cond (eqb lower 0) (cond b 11 0) lower) (le-ltb (min room 1536) n (omega arith) ∙ sym (le-ltb room n (omega arith)))
     ]
 
--- a range past the end is refused by 4 before any room is asked for
-past-end : (a b room more : ℕ) (v : View) → a < b → v .length < b → rangeNumber a b room v ≡ rangeNumber a b more v
-unfolding rangeRefusal listRefusal
-past-end a b room more v h k = rw (lt-leb b a h, lt-ltb (v .length) b k)
-
 -- `lent` places are lent where a call names `room`
 module _ (s : Tanks) (ok : Sound s) (t room lent : ℕ) (least : lent ≡ min room 1536) (h : t < 8) where
+  -- a range past the end is refused by 4 before any room is asked for
   pub range-room : (a b : ℕ) → rangeNumber a b lent (tankAt (meaning s) t) ≡ rangeNumber a b room (tankAt (meaning s) t)
+  unfolding rangeRefusal listRefusal
   range-room a b =
       let v = tankAt (meaning s) t in
       ap (λ (n : ℕ). rangeNumber a b n v) least
       ∙ elim (decLt (v .length) b) [
         | yes k ↦
             elim (decLt a b) [
-              | yes l ↦ past-end a b (min room 1536) room v l k
+              | yes l ↦ rw (asked-over a b 0 v l k)
               | no l ↦ least-room (rangeRefusal a b v) room (length (rangeList a b v)) (omega (arith, ap length (empty-list a b v (omega arith))))
             ]
         | no k ↦ least-room (rangeRefusal a b v) room (length (rangeList a b v)) (omega (arith, most-range s ok t h a b (omega arith)))

@@ -117,24 +117,19 @@ boundary-is {t} f p = boundary-on (t .touched) (t .length) (tableOf t) (runsOf t
 
 -- ---- runs in joined form
 module _ (lens sets : List ℕ) where
+  canon-first : (n k : ℕ) → Canon (runs lens sets n) → k ≤ n → Canon (runs lens sets k)
+  unfolding Canon runs
+  canon-first zero k c h = let e : k ≡ 0 = omega arith in rw e c
+  canon-first (suc n) k c h =
+      elim (decLt n k) [ yes g ↦ (let e : k ≡ suc n = omega arith in rw e c) | no g ↦ canon-first n k (c .2) (omega arith) ]
+
   pub canon-some : (n k : ℕ) → Canon (runs lens sets n) → k < n → 0 < getD lens k 0
   unfolding Canon runs
-  canon-some zero k c h = absurd (omega arith)
-  canon-some (suc n) k c h =
-      elim (decLt k n) [
-        | yes g ↦ canon-some n k (c .2) g
-        | no g ↦ let e : k ≡ n = omega arith in rw e (c .0)
-      ]
+  canon-some n k c h = canon-first n (suc k) c h .0
 
   pub canon-next : (n k : ℕ) → Canon (runs lens sets n) → suc k < n → getD sets k 0 ≡ getD sets (suc k) 0 → ⊥
   unfolding Canon runs Other
-  canon-next zero k c h = absurd (omega arith)
-  canon-next (suc zero) k c h = absurd (omega arith)
-  canon-next (suc (suc n)) k c h =
-      elim (decLt (suc k) (suc n)) [
-        | yes g ↦ canon-next (suc n) k (c .2) g
-        | no g ↦ let e : k ≡ n = omega arith in rw e (c .1)
-      ]
+  canon-next n k c h = canon-first n (suc (suc k)) c h .1
 
 before-some : (rs : List Run) (p : ℕ) → 0 < p → setBefore rs p ≡ setAt rs (p - 1)
 before-some rs zero h = absurd (omega arith)

@@ -38,12 +38,9 @@ module _ (t : Tank) (c : AnchorCursor) (r : NextAnchor) (h : Steps t c r) where
   step-cursor a d e = let s = subst (Steps t c) e h in (s .1, sym (ap (drop 1) (s .0)))
 
 -- ---- what the list answers
-lower-first : (lower room needed : ℕ) → 0 < lower → listRefusal lower room needed ≡ lower
-unfolding listRefusal
-lower-first lower room needed h = rw (ne-eqb lower 0 (λ e. omega arith))
-
 pub judged-lower : {A : Type 0} (xs : List A) (lower room : ℕ) → 0 < lower → record { number = lower; count = 0 } ≡ filledBeside (listRefusal lower room (length xs)) xs
-judged-lower xs lower room h = rw (lower-first lower room (length xs) h, ne-eqb lower 0 (λ e. omega arith))
+unfolding listRefusal
+judged-lower xs lower room h = simp (ne-eqb lower 0 (λ e. omega arith))
 
 module _ {A : Type 0} (xs : List A) (lower room n : ℕ) (none : lower ≤ 0) (is : n ≡ length xs) where
   pub judged-short : room < n → record { number = 11; count = 0 } ≡ filledBeside (listRefusal lower room (length xs)) xs

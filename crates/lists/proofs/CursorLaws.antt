@@ -25,69 +25,53 @@ use Rattle.lists.specs.Anchors.{anchorOf, anchorsOf, boundaries, anchors
 use Rattle.tank.proofs.Unique.{table-length}
 use Rattle.lists.proofs.AnchorLaws.{set-in, run-some, next-at, run-fits, to-next, differs, at-first}
 
--- a set of which bits are taken is still one of the table
-lack-in : (n s u : ℕ) → s < 2 ^ n → lackingBits s u < 2 ^ n
-lack-in n s u h = omega arith
+-- ---- cursors that stand
+-- at the boundary before run k, behind a set x
+abbrev newAt : Tank → ℕ → ℕ → ℕ → AnchorCursor
+newAt t k p x = record { index = k; at = p; ends = lackingBits x (getD (t .sets) k 0); starts = lackingBits (getD (t .sets) k 0) x }
 
-lack-zero : (u : ℕ) → lackingBits 0 u ≡ 0
-lack-zero u = omega arith
+boundary-stands : {t : Tank} → Laid t → (k p x : ℕ) → k ≤ t .runs → p ≡ total (runs (t .lens) (t .sets) k) → x < 2 ^ t .marks → (p ≡ 0 → x ≡ 0)
+    → Stands t (newAt t k p x)
+boundary-stands f k p x h e l z =
+    let g = set-in f k p h e in
+    record { within = h; at-is = e; ends-in = omega arith; starts-in = omega arith; none-before = λ q. let y = z q in omega arith }
+
+-- with fewer bits left
+fewer-stands : {t : Tank} {d : AnchorCursor} → Stands t d → (u v : ℕ) → u ≤ d .ends → v ≤ d .starts
+    → Stands t (record { index = d .index; at = d .at; ends = u; starts = v })
+fewer-stands s u v a b =
+    let k = s .ends-in in
+    let l = s .starts-in in
+    record { within = s .within; at-is = s .at-is; ends-in = omega arith; starts-in = omega arith; none-before = λ q. let y = s .none-before q in omega arith }
 
 -- ---- the cursor before the first anchor
 module _ {t : Tank} (f : Laid t) where
-  abbrev first : AnchorCursor
-  first = record { index = 0; at = 0; ends = lackingBits 0 (getD (t .sets) 0 0); starts = lackingBits (getD (t .sets) 0 0) 0 }
-
-  first-stands : Stands t first
+  first-stands : Stands t (newAt t 0 0 0)
   unfolding runs total
-  first-stands =
-      record {
-        within = omega arith;
-        at-is = refl;
-        ends-in = lack-in (t .marks) 0 (getD (t .sets) 0 0) (pow-pos (t .marks));
-        starts-in = lack-in (t .marks) (getD (t .sets) 0 0) 0 (set-in f 0 0 (omega arith) refl);
-        none-before = λ e. lack-zero (getD (t .sets) 0 0);
-      }
+  first-stands = boundary-stands f 0 0 0 (omega arith) refl (pow-pos (t .marks)) (λ _. refl)
 
-  first-rest : rest t first ≡ anchors (view t)
+  first-rest : rest t (newAt t 0 0 0) ≡ anchors (view t)
   unfolding leftAt laterThan anchors boundaries view
   first-rest =
       let e : t .length - 0 ≡ t .length = omega arith in
       ap₂ (λ (xs : List Anchor) n. xs ++ boundaries 1 n (view t)) (sym (at-first f)) e
 
-  pub first-is : (c : AnchorCursor) → c ≡ first → Stands t c × (rest t c ≡ anchors (view t)) × (c .index ≡ 0)
+  pub first-is : (c : AnchorCursor) → c ≡ newAt t 0 0 0 → Stands t c × (rest t c ≡ anchors (view t)) × (c .index ≡ 0)
   first-is c e = rw e (first-stands, first-rest, refl)
 
 -- ---- the next boundary
 module _ {t : Tank} (f : Laid t) (c : AnchorCursor) (s : Stands t c) (h : c .index < t .runs) where
-  abbrev second : AnchorCursor
-  second =
-      record {
-        index = c .index + 1;
-        at = c .at + getD (t .lens) (c .index) 0;
-        ends = lackingBits (getD (t .sets) (c .index) 0) (getD (t .sets) (c .index + 1) 0);
-        starts = lackingBits (getD (t .sets) (c .index + 1) 0) (getD (t .sets) (c .index) 0);
-      }
-
   pub next-fits : c .at + getD (t .lens) (c .index) 0 ≤ t .length
   next-fits = run-fits f (c .index) (c .at) h (s .at-is)
 
-  second-stands : Stands t second
-  second-stands =
-      let n = next-at f (c .index) (c .at) h (s .at-is) in
-      record {
-        within = omega arith;
-        at-is = n;
-        ends-in = lack-in (t .marks) (getD (t .sets) (c .index) 0) _ (set-in f (c .index) (c .at) (omega arith) (s .at-is));
-        starts-in = lack-in (t .marks) (getD (t .sets) (c .index + 1) 0) _ (set-in f (c .index + 1) _ (omega arith) n);
-        none-before = λ e. absurd (omega (arith, run-some f (c .index) (c .at) h (s .at-is)));
-      }
-
-  pub follows : (d : AnchorCursor) → d ≡ second → Follows t c d
+  pub follows : (d : AnchorCursor) → d ≡ newAt t (c .index + 1) (c .at + getD (t .lens) (c .index) 0) (getD (t .sets) (c .index) 0) → Follows t c d
   unfolding leftAt laterThan
   follows d e =
       rw e
       (record {
-        stands = second-stands;
+        stands =
+            boundary-stands f (c .index + 1) _ _ (omega arith) (next-at f (c .index) (c .at) h (s .at-is)) (set-in f (c .index) (c .at) (omega arith) (s .at-is))
+            (λ q. absurd (omega (arith, run-some f (c .index) (c .at) h (s .at-is))));
         next = refl;
         later = to-next f (c .index) (c .at) h (s .at-is);
         some = differs f (c .index) (c .at) h (s .at-is);
@@ -162,16 +146,9 @@ module _ {t : Tank} (f : Laid t) (c d : AnchorCursor) (g : Settles t c d) where
   unfolding Steps leftAt laterThan anchorsOf
   takes-end a i u h e x y =
       let s = g .stands in
-      let w = without-le (trailingZeros 64 (d .ends)) (d .ends) in
       rw (x, y, e) (
         g .same ∙ ap (λ (l : List Mark). (anchorsOf (d .at - 1) End l ++ anchorsOf (d .at) Start (pick (tableOf t) (d .starts))) ++ laterThan t d) (lowest-first f (d .ends) (s .ends-in) h),
-        record {
-          within = s .within;
-          at-is = s .at-is;
-          ends-in = let k = s .ends-in in omega arith;
-          starts-in = s .starts-in;
-          none-before = λ z. let k = s .none-before z in omega arith;
-        },
+        fewer-stands s _ (d .starts) (without-le _ (d .ends)) (omega arith),
       )
 
   -- no end is left: a start, and the cursor without its bit
@@ -181,19 +158,12 @@ module _ {t : Tank} (f : Laid t) (c d : AnchorCursor) (g : Settles t c d) where
   unfolding Steps leftAt laterThan anchorsOf
   takes-start a i u z h e x y =
       let s = g .stands in
-      let w = without-le (trailingZeros 64 (d .starts)) (d .starts) in
       let n = pick-none (tableOf t) in
       rw (x, y, e) (
         g .same
             ∙ ap₂ (λ (k l : List Mark). (anchorsOf (d .at - 1) End k ++ anchorsOf (d .at) Start l) ++ laterThan t d) (ap (pick (tableOf t)) z ∙ n) (lowest-first f (d .starts) (s .starts-in) h)
             ∙ ap (λ (k : List Mark). anchorOf (d .at) Start (getD (t .table) (trailingZeros 64 (d .starts)) blank) ∷ (anchorsOf (d .at - 1) End k ++ anchorsOf (d .at) Start (pick (tableOf t) (withoutBit (trailingZeros 64 (d .starts)) (d .starts)))) ++ laterThan t d) (sym n),
-        record {
-          within = s .within;
-          at-is = s .at-is;
-          ends-in = pow-pos (t .marks);
-          starts-in = let k = s .starts-in in omega arith;
-          none-before = λ q. refl;
-        },
+        fewer-stands s 0 _ (omega arith) (without-le _ (d .starts)),
       )
 
   pub takes-none : d .ends ≡ 0 → d .starts ≡ 0 → Steps t c NoMore

@@ -6,7 +6,7 @@ use native.Mathlib.Omega.{arith}
 use native.Mathlib.Decide.{decLe}
 use lib.ListN.{length, drop, take, drop-of-length-le}
 use lib.Seq.{take-at}
-use borrow.Author.Tests.{lt-ltb, le-ltb, le-leb, lt-leb, ne-eqb}
+use borrow.Author.Tests.{lt-ltb, le-ltb}
 use Rattle.styles.proofs.CountLaws.{pick-length}
 use Rattle.runs.specs.Runs.{setAt}
 use Rattle.runs.specs.Positions.{stretchesAt, asNumbers}
@@ -17,6 +17,7 @@ use Rattle.lists.specs.declared.Listed.{Listed}
 use Rattle.tank.specs.Rules.{View}
 use Rattle.tank.specs.State.{runsOf, tableOf, view, Laid}
 use Rattle.lists.specs.Lists.{stretchesOver, listOver, rangeList, rangeRefusal, listRefusal, unlessRefused, filledBeside, rangeNeeded}
+use Rattle.tank.proofs.Calls.{asked-empty, asked-over, asked-within, when-refused}
 use Rattle.tank.proofs.Counted.{at-inside, alike-at}
 use Rattle.tank.proofs.Shape.{can-look}
 use Rattle.tank.proofs.Unique.{inside-table}
@@ -46,37 +47,29 @@ module _ (a b : ℕ) (v : View) where
   unfolding listOver asNumbers
   empty-list h = ap (asNumbers 0) (at-none _ _ a b h)
 
-  refusal-empty : b ≤ a → rangeRefusal a b v ≡ 0
-  unfolding rangeRefusal
-  refusal-empty h = simp (le-leb b a h)
-
-  refusal-over : a < b → v .length < b → rangeRefusal a b v ≡ 4
-  unfolding rangeRefusal
-  refusal-over h g = simp (lt-leb b a h, lt-ltb (v .length) b g)
-
-  refusal-none : a < b → b ≤ v .length → rangeRefusal a b v ≡ 0
-  unfolding rangeRefusal
-  refusal-none h g = simp (lt-leb b a h, le-ltb (v .length) b g)
-
   -- ---- the count needed
   pub needed-empty : b ≤ a → record { number = 0; count = 0 } ≡ rangeNeeded a b v
-  needed-empty h = rw (refusal-empty h, empty-list h)
+  unfolding rangeRefusal
+  needed-empty h = rw (asked-empty a b 0 v h, empty-list h)
 
   pub needed-over : a < b → v .length < b → record { number = 4; count = 0 } ≡ rangeNeeded a b v
-  needed-over h g = rw (refusal-over h g)
+  unfolding rangeRefusal
+  needed-over h g = rw (asked-over a b 0 v h g)
 
   pub needed-is : (n : ℕ) → a < b → b ≤ v .length → n ≡ length (rangeList a b v) → record { number = 0; count = n } ≡ rangeNeeded a b v
-  needed-is n h g e = rw (refusal-none h g, e)
+  unfolding rangeRefusal
+  needed-is n h g e = rw (asked-within a b 0 v h g, e)
 
   -- a count that is not 0 comes from a range that is not refused
   pub needed-some : (r : Listed) → r ≡ rangeNeeded a b v → (r .count ≡ 0 → ⊥) → (rangeRefusal a b v ≡ 0) × (b ≤ v .length) × (r .count ≡ length (rangeList a b v))
+  unfolding rangeRefusal
   needed-some r e d =
       elim (decLe b a) [
         | yes h ↦ absurd (d (ap (λ (x : Listed). x .count) (e ∙ sym (needed-empty h))))
         | no h ↦
             elim (decLe b (v .length)) [
               | yes g ↦ (
-                refusal-none (omega arith) g,
+                asked-within a b 0 v (omega arith) g,
                 g,
                 ap (λ (x : Listed). x .count) (e ∙ sym (needed-is (length (rangeList a b v)) (omega arith) g refl)),
               )
@@ -92,7 +85,7 @@ Handed number xs out r out′ = (r ≡ filledBeside number xs) × (out′ ≡ in
 still : (lower room : ℕ) (xs : List ℕ) → length (unlessRefused lower xs) ≡ 0 → listRefusal lower room (length xs) ≡ lower
 unfolding listRefusal
 still zero room xs e = simp (le-ltb room (length xs) (omega arith))
-still (suc lower) room xs e = simp (ne-eqb (suc lower) 0 (λ q. omega arith))
+still (suc lower) room xs e = when-refused (suc lower) _ (suc lower) (omega arith)
 
 -- nothing is needed: refused before, or an empty list
 pub handed-none : (lower : ℕ) (xs out : List ℕ) (r : Listed) → r ≡ filledBeside lower xs → r .count ≡ 0

@@ -1,7 +1,7 @@
 -- The questions by their cases: each test by its number, and masks over the table in place of tests of marks.
 use Prim.Native.Nat.{ℕ, zero, suc, _≤_, _<_, _^_}
 use mathlib.Core.Path.{_≡_, refl, sym, ap, _∙_}
-use mathlib.Core.Bool.{Bool, true, false}
+use mathlib.Core.Bool.{Bool, true, false, cond}
 use mathlib.Core.List.{List, []}
 use native.Mathlib.Omega.{arith}
 use lib.Bits.{bitAnd, and-le-r}
@@ -32,6 +32,7 @@ use Rattle.questions.specs.declared.Told.the-variants as told
 use Rattle.tank.specs.Rules.{forInsert}
 use Rattle.tank.specs.State.{runsOf, tableOf, view, Formed}
 use Rattle.questions.specs.Questions.{toldOf, setOf, sharedOf, positionRefusal, insertRefusal, yesNoRefusal, yesNo, rangeContainsKey, rangeHasKeyValue, sameRefusal, agreeing, stylesOfRange}
+use Rattle.tank.proofs.Calls.{asked-empty, asked-over, asked-within}
 use Rattle.tank.proofs.Counted.{at-inside, alike-at}
 use Rattle.tank.proofs.Shape.{can-look}
 use Rattle.tank.proofs.Unique.{table-length, inside-table}
@@ -88,30 +89,26 @@ module _ {t : Tank} (f : Formed t) where
 
     pub no-empty : b ≤ a → told.No ≡ answer
     unfolding yesNoRefusal yesNo
-    no-empty h = simp (le-leb b a h, le-ltb a b h)
+    no-empty h = rw (asked-empty a b (cond nan 6 0) (view t) h, le-ltb a b h)
 
     module _ (some : a < b) where
       pub told-4 : t .length < b → told.Refused 4 ≡ answer
       unfolding yesNoRefusal view
-      told-4 h = simp (lt-leb b a some, lt-ltb (t .length) b h)
+      told-4 h = rw (asked-over a b (cond nan 6 0) (view t) some h)
 
       module _ (fits : b ≤ t .length) where
         pub told-6 : nan ≡ true → told.Refused 6 ≡ answer
         unfolding yesNoRefusal view
-        told-6 e = simp (lt-leb b a some, le-ltb (t .length) b fits, e)
+        told-6 e = rw (asked-within a b (cond nan 6 0) (view t) some fits, e)
 
         module _ (number : nan ≡ false) where
-          accepted : yesNoRefusal a b nan (view t) ≡ 0
-          unfolding yesNoRefusal view
-          accepted = simp (lt-leb b a some, le-ltb (t .length) b fits, number)
-
           pub no-untouched : t .touched ≡ false → told.No ≡ answer
-          unfolding yesNo view
-          no-untouched e = let n = accepted in simp (n, e, lt-ltb a b some)
+          unfolding yesNoRefusal yesNo view
+          no-untouched e = rw (asked-within a b (cond nan 6 0) (view t) some fits, number, lt-ltb a b some, e)
 
           told-done : t .touched ≡ true → toldOf 0 holds ≡ answer
-          unfolding yesNo view
-          told-done e = let n = accepted in simp (n, e, lt-ltb a b some)
+          unfolding yesNoRefusal yesNo view
+          told-done e = rw (asked-within a b (cond nan 6 0) (view t) some fits, number, lt-ltb a b some, e)
 
   module _ (a b : ℕ) (some : a < b) (fits : b ≤ t .length) (e : t .touched ≡ true) (key : ℕ) where
     -- some position has a bit of the key's mask where it has a mark with the key

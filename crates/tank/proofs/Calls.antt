@@ -1,11 +1,11 @@
 -- What a call hands back, for every edit at once: the number by its tests, the very same tank where it is refused, and one result.
-use Prim.Native.Nat.{ℕ, suc, _<_}
+use Prim.Native.Nat.{ℕ, suc, _≤_, _<_}
 use mathlib.Core.Path.{_≡_, sym, _∙_}
 use mathlib.Core.Bool.{true, false}
 use native.Mathlib.Omega.{arith}
-use borrow.Author.Tests.{ne-eqb}
+use borrow.Author.Tests.{lt-ltb, le-ltb, le-leb, lt-leb, ne-eqb}
 use Rattle.tank.specs.declared.Tank.{Tank}
-use Rattle.tank.specs.Rules.{View, Edit, after, empty, over, long, notNumber, clashes, full, refusal, whenAccepted}
+use Rattle.tank.specs.Rules.{View, Edit, after, empty, over, long, notNumber, clashes, full, refusal, whenAccepted, askedRange}
 use Rattle.tank.specs.State.{view, Formed, Sound, Called}
 use Rattle.tank.proofs.Unique.{same-tank}
 
@@ -43,6 +43,17 @@ module _ (e : Edit) (v : View) where
             pub number-0 : full e v ≡ false → refusal e v ≡ 0
             unfolding refusal
             number-0 g = simp (a, b, c, d, f, g)
+
+-- ---- and of a range that is asked about
+module _ (a b later : ℕ) (v : View) where
+  pub asked-empty : b ≤ a → askedRange a b later v ≡ 0
+  asked-empty h = rw (le-leb b a h)
+
+  pub asked-over : a < b → v .length < b → askedRange a b later v ≡ 4
+  asked-over h k = rw (lt-leb b a h, lt-ltb (v .length) b k)
+
+  pub asked-within : a < b → b ≤ v .length → askedRange a b later v ≡ later
+  asked-within h k = rw (lt-leb b a h, le-ltb (v .length) b k)
 
 -- what stands beside a refusal
 pub when-refused : {A : Type 0} (n : ℕ) (x y : A) → 0 < n → whenAccepted n x y ≡ y
