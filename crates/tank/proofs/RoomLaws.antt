@@ -68,8 +68,7 @@ clash-step After m x c p xs e ih h k =
 pub clash-at : (m : Mark) (ms : List Mark) → Sorted ms → member (idOf m) ms ≡ true → clash m ms ≡ not (sameContent m (getD ms (placeOf (idOf m) ms) blank))
 unfolding Sorted member clash placeOf
 clash-at m [] h e = absurd (true≢false (sym e))
-clash-at m (x ∷ xs) h e =
-    clash-step (stands (idOf x) (idOf m)) m x (clash m xs) (placeOf (idOf m) xs) xs refl (clash-at m xs (h .1)) h e
+clash-at m (x ∷ xs) h e = clash-step (stands (idOf x) (idOf m)) m x (clash m xs) (placeOf (idOf m) xs) xs refl (clash-at m xs (h .1)) h e
 
 -- ---- the cases
 abbrev pub RoomSays : Mark → List Mark → Room → Type 0
