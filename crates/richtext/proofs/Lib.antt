@@ -1,3 +1,2 @@
-pub mod Masks
 pub mod Laws
 pub mod Tests

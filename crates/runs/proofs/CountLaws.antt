@@ -1,19 +1,19 @@
--- How many runs an edit leaves: an alteration at most two more, a deletion none more, an insertion at most two more.
+-- How many runs an edit leaves: an alteration, a deletion or an insertion at most two more.
 use Prim.Native.Nat.{ℕ, _+_, _-_, _≤_, _<_, min, max}
-use mathlib.Core.Path.{_≡_, refl, sym, ap, _∙_}
+use mathlib.Core.Path.{_≡_}
 use mathlib.Core.List.{List, [], _∷_}
 use native.Mathlib.Omega.{arith}
-use native.Mathlib.Decide.{decLe, ℕ-discrete}
+use native.Mathlib.Decide.{decLe}
 use lib.ListN.{length}
-use Rattle.runs.specs.Runs.{Run, run, total}
+use Rattle.runs.specs.Runs.{Run, total}
 use Rattle.runs.proofs.Copies.{pushRun, clip, copyRuns, adding, part, altered, deleted, inserted}
-use Rattle.runs.proofs.Laws.{push-none, push-join, push-new, push-by, length-push}
+use Rattle.runs.proofs.Laws.{push-by}
 
 -- 1 where there is one at least, else 0
-ind : ℕ → ℕ
+pub ind : ℕ → ℕ
 ind x = min 1 x
 
-most-one : (x : ℕ) → ind x ≤ 1
+pub most-one : (x : ℕ) → ind x ≤ 1
 unfolding ind
 most-one x = omega arith
 
@@ -22,16 +22,16 @@ touched : ℕ → ℕ → List Run → ℕ
 touched from to [] = 0
 touched from to (r ∷ rs) = touched from to rs + ind (clip from to (total rs) (r .len))
 
-length-push′ : (rs : List Run) (l s : ℕ) → length (pushRun rs l s) ≤ length rs + ind l
+pub length-push : (rs : List Run) (l s : ℕ) → length (pushRun rs l s) ≤ length rs + ind l
 unfolding ind
-length-push′ rs l s =
+length-push rs l s =
     push-by (λ a b. length b ≤ length a + min 1 l) l s (λ a z. omega arith) (λ r a nz e. omega arith) (λ a nz o. omega arith) rs
 
 copied-runs : (f : ℕ → ℕ) (base : List Run) (from to : ℕ) (rs : List Run) → length (copyRuns f base from to rs) ≤ length base + touched from to rs
 unfolding copyRuns touched
 copied-runs f base from to [] = omega arith
 copied-runs f base from to (r ∷ rs) =
-    omega (arith, copied-runs f base from to rs, length-push′ (copyRuns f base from to rs) (clip from to (total rs) (r .len)) (f (r .set)))
+    omega (arith, copied-runs f base from to rs, length-push (copyRuns f base from to rs) (clip from to (total rs) (r .len)) (f (r .set)))
 
 touched-all : (from to : ℕ) (rs : List Run) → touched from to rs ≤ length rs
 unfolding touched
@@ -90,13 +90,11 @@ touched-cut from mid to up up′ (r ∷ rs) =
 
 -- ---- the edits
 module _ (rs : List Run) (a b : ℕ) (up : a ≤ b) (fits : b ≤ total rs) where
-  pub altered-runs : (f : ℕ → ℕ) → length (altered rs a b f) ≤ length rs + 2
-  unfolding altered
-  altered-runs f =
+  around : (mid : List Run) → length mid ≤ length (part [] 0 a rs) + touched a b rs → length (part mid b (total rs) rs) ≤ length rs + 2
+  around mid h =
       omega (
         arith,
-        copied-runs (adding 0) (copyRuns f (part [] 0 a rs) a b rs) b (total rs) rs,
-        copied-runs f (part [] 0 a rs) a b rs,
+        copied-runs (adding 0) mid b (total rs) rs,
         copied-runs (adding 0) [] 0 a rs,
         touched-cut 0 a (total rs) (omega arith) (omega arith) rs,
         touched-cut a b (total rs) up fits rs,
@@ -105,86 +103,24 @@ module _ (rs : List Run) (a b : ℕ) (up : a ≤ b) (fits : b ≤ total rs) wher
         most-one (total rs - b),
       )
 
+  pub altered-runs : (f : ℕ → ℕ) → length (altered rs a b f) ≤ length rs + 2
+  unfolding altered
+  altered-runs f = around _ (copied-runs f (part [] 0 a rs) a b rs)
+
+  pub deleted-runs : length (deleted rs a b) ≤ length rs + 2
+  unfolding deleted
+  deleted-runs = around (part [] 0 a rs) (omega arith)
+
 pub inserted-runs : (rs : List Run) (pos l s : ℕ) → pos ≤ total rs → length (inserted rs pos l s) ≤ length rs + 2
 unfolding inserted
 inserted-runs rs pos l s h =
     omega (
       arith,
       copied-runs (adding 0) (pushRun (part [] 0 pos rs) l s) pos (total rs) rs,
-      length-push′ (part [] 0 pos rs) l s,
+      length-push (part [] 0 pos rs) l s,
       copied-runs (adding 0) [] 0 pos rs,
       touched-cut 0 pos (total rs) (omega arith) h rs,
       touched-all 0 (total rs) rs,
       most-one (total rs - pos),
       most-one l,
     )
-
--- ---- two pushes of one set are one
-more-len : (l k s : ℕ) (rs : List Run) → l ≡ k → run l s ∷ rs ≡ run k s ∷ rs
-more-len l k s rs e = λ i. run (e i) s ∷ rs
-
-again : (rs : List Run) (l k s : ℕ) → pushRun (run l s ∷ rs) k s ≡ run (l + k) s ∷ rs
-again rs l k s =
-    elim (ℕ-discrete k 0) [
-      | yes z ↦ push-none (run l s ∷ rs) k s z ∙ more-len l (l + k) s rs (omega arith)
-      | no nz ↦ push-join (run l s) rs k s nz refl
-    ]
-
-pub push-push : (rs : List Run) (l k s : ℕ) → pushRun (pushRun rs l s) k s ≡ pushRun rs (l + k) s
-push-push rs l k s =
-    push-by (λ a b. pushRun b k s ≡ pushRun a (l + k) s) l s
-    (λ a z. let e : l + k ≡ k = omega arith in rw e)
-    (λ r a nz e. again a (r .len + l) k s ∙ more-len (r .len + l + k) (r .len + (l + k)) s a (omega arith) ∙ sym (push-join r a (l + k) s (λ z. nz (omega arith)) e))
-    (λ a nz o. again a l k s ∙ sym (push-new a (l + k) s (λ z. nz (omega arith)) o))
-    rs
-
--- ---- a deletion leaves no more runs than there were
--- nothing of the runs that end before `from`, and nothing more of those past `to`
-copy-none : (f : ℕ → ℕ) (base : List Run) (from to : ℕ) (rs : List Run) → total rs ≤ from → copyRuns f base from to rs ≡ base
-unfolding copyRuns total
-copy-none f base from to [] h = refl
-copy-none f base from to (r ∷ rs) h =
-    push-none (copyRuns f base from to rs) (clip from to (total rs) (r .len)) (f (r .set)) (omega arith) ∙ copy-none f base from to rs (omega arith)
-
-copy-to-end : (f : ℕ → ℕ) (base : List Run) (from to to′ : ℕ) (rs : List Run) → total rs ≤ to → total rs ≤ to′ → copyRuns f base from to rs ≡ copyRuns f base from to′ rs
-unfolding copyRuns total
-copy-to-end f base from to to′ [] h g = refl
-copy-to-end f base from to to′ (r ∷ rs) h g =
-    let e : clip from to (total rs) (r .len) ≡ clip from to′ (total rs) (r .len) =
-    let x : min to (total rs + r .len) ≡ total rs + r .len = omega arith in
-    let y : min to′ (total rs + r .len) ≡ total rs + r .len = omega arith in
-    rw (x, y)
-    in
-    let i = copy-to-end f base from to to′ rs (omega arith) (omega arith) in
-    λ j. pushRun (i j) (e j) (f (r .set))
-
--- of a list with one run more, the part before a position that the others reach
-copy-short : (f : ℕ → ℕ) (from a : ℕ) (r : Run) (rs : List Run) → a ≤ total rs → copyRuns f [] from a (r ∷ rs) ≡ copyRuns f [] from a rs
-unfolding copyRuns
-copy-short f from a r rs h = push-none (copyRuns f [] from a rs) (clip from a (total rs) (r .len)) (f (r .set)) (omega arith)
-
-part-short : (a : ℕ) (rs : List Run) → length (part [] 0 a rs) ≤ length rs
-part-short a rs = omega (arith, length-copy (adding 0) [] 0 a rs)
-
-pub deleted-runs : (rs : List Run) (a b : ℕ) → a ≤ b → b ≤ total rs → length (deleted rs a b) ≤ length rs
-unfolding deleted copyRuns total
-deleted-runs [] a b up fits = omega arith
-deleted-runs (r ∷ rs) a b up fits =
-    let front = part [] 0 a (r ∷ rs) in
-    let rest = part front b (total rs + r .len) rs in
-    let len = clip b (total rs + r .len) (total rs) (r .len) in
-    let s = adding 0 (r .set) in
-    elim (decLe b (total rs)) [
-      | yes h ↦
-          let e : rest ≡ deleted rs a b =
-          copy-to-end (adding 0) front b (total rs + r .len) (total rs) rs (omega arith) (omega arith)
-          ∙ ap (λ (x : List Run). part x b (total rs) rs) (copy-short (adding 0) 0 a r rs (omega arith))
-          in
-          omega (arith, length-push rest len s, ap length e, deleted-runs rs a b up h)
-      | no h ↦
-          let e : rest ≡ front = copy-none (adding 0) front b (total rs + r .len) rs (omega arith) in
-          let g : pushRun rest len s ≡ pushRun (part [] 0 a rs) (clip 0 a (total rs) (r .len) + len) s =
-          ap (λ (x : List Run). pushRun x len s) e ∙ push-push (part [] 0 a rs) (clip 0 a (total rs) (r .len)) len s
-          in
-          omega (arith, ap length g, length-push (part [] 0 a rs) (clip 0 a (total rs) (r .len) + len) s, part-short a rs)
-    ]

@@ -95,10 +95,6 @@ canon-push rs l s h =
     rs
     h
 
-pub length-push : (rs : List Run) (l s : ℕ) → length (pushRun rs l s) ≤ length rs + 1
-length-push rs l s =
-    push-by (λ a b. length b ≤ length a + 1) l s (λ a z. omega arith) (λ r a nz e. omega arith) (λ a nz o. omega arith) rs
-
 pub push-longer : (rs : List Run) (l s : ℕ) → length rs ≤ length (pushRun rs l s)
 push-longer rs l s =
     push-by (λ a b. length a ≤ length b) l s (λ a z. omega arith) (λ r a nz e. omega arith) (λ a nz o. omega arith) rs

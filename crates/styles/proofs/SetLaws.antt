@@ -1,13 +1,13 @@
 -- The operations on sets are what their names say: they keep sets sorted, carry what they should, and the winner is the greatest.
-use Prim.Native.Nat.{ℕ, zero, suc, _<_}
-use mathlib.Core.Path.{_≡_, refl, sym, ap, _∙_}
+use Prim.Native.Nat.{ℕ, zero, suc, _-_, _^_, _<_}
+use mathlib.Core.Path.{_≡_, refl, sym, ap, _∙_, subst}
 use mathlib.Core.Bool.{Bool, true, false, not, _&&_, _||_, false≢true, true≢false, and-false, or-assoc, or-comm, or-self-left}
 use mathlib.Core.List.{List, [], _∷_}
 use native.Mathlib.Omega.{arith}
 use lib.Dec.{eqb}
 use lib.ListN.{length, getD}
 use borrow.Author.Tests.{eqb-true, eqb-false}
-use Rattle.laws.proofs.Cases.{cond-cases, cond-by}
+use Rattle.laws.proofs.Cases.{cond-cases}
 use Rattle.styles.specs.declared.Identity.{Identity}
 use Rattle.styles.specs.declared.Mark.{Mark}
 use Rattle.styles.specs.declared.Stand.{Stand}
@@ -18,8 +18,9 @@ use Rattle.styles.specs.Order.{stands, idOf, isBefore, isSame, less, sam
 use Rattle.styles.specs.Marks.{Above, Sorted, member, insertStep, insertMark, eitherOf, only, removeMark, common, later, better, winner}
 use Rattle.styles.proofs.OrderLaws.{is-before-of, is-same-of, less-trans, less-flip, more-flip, same-flip, same-eq, same-self}
 use Rattle.styles.proofs.PickLaws.{above-trans}
-use Rattle.styles.proofs.UnionLaws.{above-insert}
-use Rattle.styles.proofs.WalkLaws.{later-of}
+use Rattle.styles.proofs.UnionLaws.{above-insert, pick-all}
+use Rattle.styles.proofs.WalkLaws.{later-of, sorted-pick}
+use Rattle.styles.proofs.MaskLaws.{pick-mask}
 
 -- ---- sets stay sorted
 sorted-step : (s : Stand) (m x : Mark) (xs rest : List Mark) → stands (idOf m) (idOf x) ≡ s → Sorted (x ∷ xs) → (s ≡ After → Above (idOf x) rest) → Sorted rest
@@ -37,15 +38,8 @@ sorted-insert m (x ∷ xs) h =
     (λ e. above-insert (idOf x) m xs (more-flip (idOf m) (idOf x) e) (h .0))
     (sorted-insert m xs (h .1))
 
-above-only : (j : Identity) (f : Mark → Bool) (l : List Mark) → Above j l → Above j (only f l)
-unfolding Above only
-above-only j f [] h = tt
-above-only j f (x ∷ xs) h = let k = above-only j f xs (h .1) in cond-by (Above j) (f x) (h .0, k) k
-
 pub sorted-only : (f : Mark → Bool) (l : List Mark) → Sorted l → Sorted (only f l)
-unfolding Sorted only
-sorted-only f [] h = tt
-sorted-only f (x ∷ xs) h = let k = sorted-only f xs (h .1) in cond-by Sorted (f x) (above-only (idOf x) f xs (h .0), k) k
+sorted-only f l h = subst Sorted (pick-mask f l (2 ^ length l - 1) ∙ ap (only f) (pick-all l)) (sorted-pick l _ h)
 
 -- ---- what they carry
 swap : (a b c : Bool) → (a || (b || c)) ≡ (b || (a || c))

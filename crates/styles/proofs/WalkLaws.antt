@@ -22,6 +22,7 @@ use Rattle.styles.proofs.OrderLaws.{num-same}
 use Rattle.styles.proofs.PickLaws.{keep-by, above-pick}
 use Rattle.styles.proofs.BitLaws.{half-shr}
 use Rattle.styles.proofs.CountLaws.{length-keep}
+use Rattle.styles.proofs.UnionLaws.{pick-front}
 
 -- ---- one mark more at the end of the table
 keep-append : (b : ℕ) (x : Mark) (xs ys : List Mark) → keepBit b x (xs ++ ys) ≡ keepBit b x xs ++ ys
@@ -84,25 +85,13 @@ unfolding Sorted pick
 sorted-pick [] s h = tt
 sorted-pick (m ∷ ms) s h = let k = sorted-pick ms (s / 2) (h .1) in keep-by Sorted (s % 2) k (above-pick (idOf m) ms (s / 2) (h .0), k)
 
-above-take : (j : Identity) (n : ℕ) (t : List Mark) → Above j t → Above j (take n t)
-unfolding Above
-above-take j zero t h = tt
-above-take j (suc n) [] h = tt
-above-take j (suc n) (m ∷ ms) h = (h .0, above-take j n ms (h .1))
-
-pub sorted-take : (n : ℕ) (t : List Mark) → Sorted t → Sorted (take n t)
-unfolding Sorted
-sorted-take zero t h = tt
-sorted-take (suc n) [] h = tt
-sorted-take (suc n) (m ∷ ms) h = (above-take (idOf m) n ms (h .0), sorted-take n ms (h .1))
-
 -- ---- a turn of the walk down to the winner
 module _ (t : List Mark) (n s key i : ℕ) (d : Mark) (more : 0 < i) (within : i ≤ n) (long : n ≤ length t) (sorted : Sorted (take n t)) where
   back : i - 1 + 1 ≡ i
   back = omega arith
 
   sorted-front : Sorted (take i t)
-  sorted-front = rw (take-take i n t within) at (sorted-take i (take n t) sorted)
+  sorted-front = subst Sorted (pick-front i (take n t) ∙ take-take i n t within) (sorted-pick (take n t) (2 ^ i - 1) sorted)
 
   win-clear′ : hasBit (i - 1) s ≡ false → pick (take i t) s ≡ pick (take (i - 1) t) s
   win-clear′ h = rw back at (next-clear t s (i - 1) d (omega arith) h)

@@ -11,14 +11,14 @@ use Rattle.styles.specs.declared.Mark.{Mark}
 use Rattle.styles.specs.Order.{idOf}
 use Rattle.styles.specs.Values.{valueNan}
 use Rattle.styles.specs.Marks.{insertAt, tableWith, blank}
-use Rattle.styles.specs.Bits.{pick, openBit}
+use Rattle.styles.specs.Bits.{openBit}
 use Rattle.styles.proofs.PickLaws.{pick-open}
 use Rattle.styles.proofs.TableLaws.{place-le, sorted-put, length-put, with-front, with-rest}
 use Rattle.styles.proofs.UnionLaws.{open-within, open-none}
 use Rattle.runs.specs.Runs.{runs, total, setAt}
 use Rattle.runs.specs.Gather.{gather, Renumbered, CanOpen}
 use Rattle.runs.proofs.BehindLaws.{getD-behind}
-use Rattle.runs.proofs.MapLaws.{mapRuns, total-map, at-map, renumber-runs, renumber-spare, all-sets-at}
+use Rattle.runs.proofs.MapLaws.{mapRuns, total-map, renumber-runs, renumber-spare, all-sets-at}
 use Rattle.runs.proofs.RenumberLaws.{canon-open, gather-open, sets-less}
 use Rattle.tank.specs.declared.Tank.{Tank}
 use Rattle.tank.specs.State.{runsOf, tableOf, view, Numbers}
@@ -108,12 +108,7 @@ module _ {t : Tank} (i : ℕ) (m : Mark) (h : CanAdmit t i m) where
                 blanks = blanks;
                 inside = rw (g, add-one (t .marks)) (open-within (t .marks) i (gather (runsOf t)) (f .inside));
               };
-          is =
-              view-renumbered (t .touched) (t .length) (tableOf t) (take (t .marks + 1) table) (runsOf t) (runs (t .lens) sets (t .runs))
-              (λ p.
-              ap (λ ms. pick ms (setAt (runs (t .lens) sets (t .runs)) p)) front
-              ∙ ap (pick (insertAt i m (tableOf t))) (ap (λ rs. setAt rs p) runs-are ∙ at-map (openBit i) (open-none i) (runsOf t) p)
-              ∙ pick-open i m (tableOf t) (setAt (runsOf t) p));
+          is = view-renumbered (t .touched) (t .length) (tableOf t) (runsOf t) (openBit i) (open-none i) front runs-are (λ p. pick-open i m (tableOf t) (setAt (runsOf t) p));
           table-is = front;
           all-is = g;
         }

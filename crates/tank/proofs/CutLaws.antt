@@ -35,7 +35,7 @@ module _ {t : Tank} (start end : ℕ) (h : CanCut t start end) where
       let b = h .range .laid .small in (
         h .range .up,
         h .range .fits,
-        can-edit (h .range .laid) (h .range .room) cut-out olens osets l l′ (omega (arith, deleted-runs (runsOf t) start end (h .range .up) (fits-runs (h .range)))) (omega arith),
+        can-edit (h .range .laid) (h .range .room) cut-out olens osets l l′ (deleted-runs (runsOf t) start end (h .range .up) (fits-runs (h .range))) (omega arith),
       )
 
   pub cut-done : (lens sets : List ℕ) (n : ℕ) → Joined (t .length - (end - start)) (deletedAt start end (setAt (runsOf t))) (runs lens sets n) → Spare lens sets n

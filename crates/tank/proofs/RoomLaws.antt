@@ -50,26 +50,25 @@ pub place-id : (ms : List Mark) (id : Identity) → Sorted ms → member id ms �
 place-id ms id sorted e = sym (same-eq id _ (is-same-of _ (place-there ms id sorted e .1)))
 
 -- there is the one mark to clash with
-clash-step : (s : Stand) (m x : Mark) (c n r : Bool) (p : ℕ) (xs : List Mark) → stands (idOf x) (idOf m) ≡ s
+clash-step : (s : Stand) (m x : Mark) (c : Bool) (p : ℕ) (xs : List Mark) → stands (idOf x) (idOf m) ≡ s
     → (member (idOf m) xs ≡ true → c ≡ not (sameContent m (getD xs p blank))) → Sorted (x ∷ xs)
     → (sameId (idOf m) (idOf x) || member (idOf m) xs) ≡ true
     → cond (sameId (idOf m) (idOf x)) (not (sameContent m x)) c ≡ not (sameContent m (getD (x ∷ xs) (cond (isBefore s) (suc p) 0) blank))
 unfolding Sorted Above
-clash-step Before m x c n r p xs e ih h k =
+clash-step Before m x c p xs e ih h k =
     let g = less-flip (idOf x) (idOf m) e in
     rw g (ih (rw g at k))
-clash-step Same m x c n r p xs e ih h k =
+clash-step Same m x c p xs e ih h k =
     let g : stands (idOf m) (idOf x) ≡ Same = rw (same-eq (idOf x) (idOf m) e) (same-self (idOf m)) in
     rw g
-clash-step After m x c n r p xs e ih h k =
+clash-step After m x c p xs e ih h k =
     let g = more-flip (idOf x) (idOf m) e in
     absurd (true≢false (sym (rw g at k) ∙ not-member (idOf m) xs (above-trans (idOf m) (idOf x) xs g (h .0))))
 
 pub clash-at : (m : Mark) (ms : List Mark) → Sorted ms → member (idOf m) ms ≡ true → clash m ms ≡ not (sameContent m (getD ms (placeOf (idOf m) ms) blank))
 unfolding Sorted member clash placeOf
 clash-at m [] h e = absurd (true≢false (sym e))
-clash-at m (x ∷ xs) h e =
-    clash-step (stands (idOf x) (idOf m)) m x (clash m xs) true true (placeOf (idOf m) xs) xs refl (clash-at m xs (h .1)) h e
+clash-at m (x ∷ xs) h e = clash-step (stands (idOf x) (idOf m)) m x (clash m xs) (placeOf (idOf m) xs) xs refl (clash-at m xs (h .1)) h e
 
 -- ---- the cases
 abbrev pub RoomSays : Mark → List Mark → Room → Type 0

@@ -1,21 +1,18 @@
 -- A mark of the table taken off a range: what the tank then means.
-use Prim.Native.Nat.{ℕ, _+_, _-_, _*_, _/_, _%_, _<_, _^_}
+use Prim.Native.Nat.{ℕ, _-_, _<_, _^_}
 use mathlib.Core.Path.{_≡_, sym, ap, _∙_}
 use mathlib.Core.Bool.{_&&_}
 use mathlib.Core.List.{List}
 use native.Mathlib.Omega.{arith}
-use native.Mathlib.Nat.{pow-suc}
-use native.Mathlib.Decide.{decLt}
-use lib.Bits.{bitAnd, and-high}
+use lib.Bits.{bitAnd}
 use lib.Dec.{ltb, leb}
 use lib.ListN.{length, getD}
-use lib.Pow.{pow-pos, pow-add}
-use borrow.Author.Tests.{lt-ltb, le-ltb, eq-eqb, ne-eqb}
 use Rattle.styles.specs.declared.Mark.{Mark}
 use Rattle.styles.specs.Order.{idOf}
 use Rattle.styles.specs.Marks.{Sorted, member, removeMark, blank}
 use Rattle.styles.specs.Bits.{pick, hasBit, withBit, withoutBit}
 use Rattle.laws.proofs.Cases.{cond-by}
+use Rattle.laws.proofs.Masks.{mask-bit}
 use Rattle.styles.proofs.PickLaws.{pick-without}
 use Rattle.styles.proofs.MaskLaws.{member-pick}
 use Rattle.runs.specs.Runs.{runs, total, setAt, changing, Spare}
@@ -24,6 +21,7 @@ use Rattle.runs.specs.Positions.{alteredAt}
 use Rattle.runs.proofs.Copies.{altered}
 use Rattle.runs.specs.Scan.{meets}
 use Rattle.runs.proofs.EditLaws.{drop-is, at-altered, canon-altered}
+use Rattle.runs.proofs.ScanLaws.{some-bit}
 use Rattle.tank.specs.declared.Tank.{Tank}
 use Rattle.tank.specs.Rules.{stripped}
 use Rattle.tank.specs.State.{runsOf, tableOf, view, Laid}
@@ -43,19 +41,7 @@ drops-bit i s = drop-is (withBit i 0) s ∙ ap (λ b. s - bitAnd s b) (one-bit i
 
 -- tested
 pub meets-bit : (i s : ℕ) → meets (withBit i 0) s ≡ hasBit i s
-meets-bit i s =
-    let q = pow-pos i in
-    let d : 2 ^ i ≡ 2 ^ (1 + i) - 2 ^ i = omega (arith, pow-suc 2 i, pow-add 2 1 i) in
-    let e : bitAnd s (2 ^ i) ≡ s / 2 ^ i % 2 * 2 ^ i = ap (bitAnd s) d ∙ and-high s 1 i in
-    ap (λ b. ltb 0 (bitAnd s b)) (one-bit i)
-    ∙ (elim (decLt 0 (s / 2 ^ i % 2)) [
-      | yes h ↦
-          let o : s / 2 ^ i % 2 ≡ 1 = omega arith in
-          lt-ltb 0 (bitAnd s (2 ^ i)) (omega (arith, rw o at e)) ∙ sym (eq-eqb (s / 2 ^ i % 2) 1 o)
-      | no h ↦
-          let o : s / 2 ^ i % 2 ≡ 0 = omega arith in
-          le-ltb 0 (bitAnd s (2 ^ i)) (omega (arith, rw o at e)) ∙ sym (ne-eqb (s / 2 ^ i % 2) 1 (λ x. omega arith))
-    ])
+meets-bit i s = ap (λ b. ltb 0 (bitAnd s b)) (one-bit i) ∙ sym (some-bit (bitAnd s (2 ^ i))) ∙ mask-bit i s
 
 module _ (ms : List Mark) (i : ℕ) (sorted : Sorted ms) (there : i < length ms) where
   -- taking bit i off a set takes mark i off its marks

@@ -25,7 +25,7 @@ use Rattle.styles.proofs.UnionLaws.{squeeze-all, squeeze-none}
 use Rattle.styles.proofs.WalkLaws.{sorted-pick, pick-length-le}
 use Rattle.runs.specs.Runs.{runs, total, setAt}
 use Rattle.runs.specs.Gather.{gather, Renumbered}
-use Rattle.runs.proofs.MapLaws.{mapRuns, total-map, at-map, renumber-runs, renumber-spare}
+use Rattle.runs.proofs.MapLaws.{mapRuns, total-map, renumber-runs, renumber-spare}
 use Rattle.runs.proofs.GatherLaws.{sets-within, set-within}
 use Rattle.runs.proofs.RenumberLaws.{canon-squeeze, gather-squeeze}
 use Rattle.tank.specs.declared.Tank.{Tank}
@@ -133,9 +133,6 @@ module _ {t : Tank} (f : Laid t) (e : t .touched ≡ true) where
               };
           is =
               ap (λ b. record { length = t .length; touched = b; at = λ p. pick (take (kept .count) (kept .marks)) (setAt (runs (t .lens) sets (t .runs)) p) }) (sym e)
-              ∙ view-renumbered (t .touched) (t .length) (tableOf t) (take (kept .count) (kept .marks)) (runsOf t) (runs (t .lens) sets (t .runs))
-              (λ p.
-              ap (λ ms. pick ms (setAt (runs (t .lens) sets (t .runs)) p)) front
-              ∙ ap (pick (pick (tableOf t) carried)) (ap (λ rs. setAt rs p) runs-are ∙ at-map (squeeze 64 carried) (squeeze-none 64 carried) (runsOf t) p)
-              ∙ pick-squeeze 64 (tableOf t) carried (setAt (runsOf t) p) (let a = f .few in omega (arith, table-length f)) (within p));
+              ∙ view-renumbered (t .touched) (t .length) (tableOf t) (runsOf t) (squeeze 64 carried) (squeeze-none 64 carried) front runs-are
+              (λ p. pick-squeeze 64 (tableOf t) carried (setAt (runsOf t) p) (let a = f .few in omega (arith, table-length f)) (within p));
         }

@@ -1,6 +1,6 @@
 -- The edits of run lists over a table of marks mean what the rules say, position by position.
 use Prim.Native.Nat.{ℕ, _+_, _-_, _≤_, _<_}
-use mathlib.Core.Path.{_≡_, refl, ap, _∙_, fun-ext}
+use mathlib.Core.Path.{_≡_, refl, ap, ap₂, _∙_, fun-ext}
 use mathlib.Core.Bool.{Bool, true, cond}
 use mathlib.Core.List.{List}
 use native.Mathlib.Omega.{arith}
@@ -13,6 +13,7 @@ use Rattle.styles.specs.Bits.{pick}
 use Rattle.runs.specs.Runs.{Run, total, setAt}
 use Rattle.runs.proofs.Copies.{altered, deleted, inserted}
 use Rattle.runs.proofs.EditLaws.{total-altered, at-altered, total-deleted, at-deleted, total-inserted, at-inserted}
+use Rattle.runs.proofs.MapLaws.{mapRuns, at-map}
 use Rattle.tank.specs.Rules.{View, inherited, afterInsert, afterDelete}
 use Rattle.runs.specs.Positions.{within, alteredAt}
 use Rattle.tank.specs.State.{viewOf}
@@ -66,6 +67,7 @@ view-altered rs a b f up fits ms g t does =
     ∙ ap (λ x. cond (within a b p) x (pick ms (setAt rs p))) (does (setAt rs p)))
 
 -- ---- sets and table renumbered together
-pub view-renumbered : (t : Bool) (l : ℕ) (ms ns : List Mark) (rs qs : List Run) → ((p : ℕ) → pick ns (setAt qs p) ≡ pick ms (setAt rs p))
-    → viewOf t l ns qs ≡ viewOf t l ms rs
-view-renumbered t l ms ns rs qs h = view-ext _ _ refl refl h
+pub view-renumbered : (t : Bool) (l : ℕ) (ms : List Mark) (rs : List Run) {ns table : List Mark} {qs : List Run} (f : ℕ → ℕ) → f 0 ≡ 0 → table ≡ ns → qs ≡ mapRuns f rs
+    → ((p : ℕ) → pick ns (f (setAt rs p)) ≡ pick ms (setAt rs p)) → viewOf t l table qs ≡ viewOf t l ms rs
+view-renumbered t l ms rs {ns} f none front runs-are same =
+    view-ext _ _ refl refl (λ p. ap₂ (λ ms qs. pick ms (setAt qs p)) front runs-are ∙ ap (pick ns) (at-map f none rs p) ∙ same p)

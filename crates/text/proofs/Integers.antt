@@ -1,14 +1,14 @@
 -- The parser of signed numbers is exact: what is accepted is the text of its answer, and the text of each number of 64 bits is accepted.
 use mathlib.Core.Path.{_≡_, refl, sym, ap, _∙_}
 use mathlib.Core.Bool.{Bool, true, false, cond}
-use mathlib.Core.List.{List, [], _∷_, _++_}
+use mathlib.Core.List.{List, [], _∷_}
 use Prim.Native.Nat.{ℕ, suc, _+_, _-_, _^_, _≤_, _<_}
-use native.Mathlib.Numerals.{add-one, sub-one}
+use native.Mathlib.Numerals.{sub-one}
 use native.Mathlib.Omega.{arith}
 use lib.Dec.{ltb, eqb}
 use lib.IntN.{ℤ, pos, negsuc}
-use lib.ListN.{length, set, take, drop}
-use lib.Seq.{take-suc-set, drop-set-lt, append-snoc}
+use lib.ListN.{length, set}
+use lib.Seq.{sets-eq}
 use borrow.Author.Tests.{lt-ltb, le-ltb, ne-eqb, ltb-true, ltb-false, eqb-true}
 use mir.Syntax.{w64}
 use mir.Val.{SFits, toZ}
@@ -20,6 +20,7 @@ use Rattle.text.specs.Number.{decimalOf, decimalText, put}
 use Rattle.text.specs.Signed.{plusOf, minusOf, signedOf, signedText, sizeOf}
 use Rattle.laws.proofs.Cases.{cond-cases}
 use Rattle.text.proofs.Laws.{decimal-back, decimal-only, first-glyph}
+use Rattle.text.proofs.Putting.{put-put}
 
 pub empty : (t : List ℕ) → length t < 1 → Signed.Bad ≡ signedOf t
 unfolding signedOf decimalOf plusOf
@@ -74,12 +75,7 @@ integer-back (negsuc n) h =
 
 -- ---- printing: a minus, and the text after it
 pub minus-put : (d s : List ℕ) (at : ℕ) → at < length d → put (set d at 45) (at + 1) s ≡ put d at (45 ∷ s)
-minus-put d s at h =
-    let e : at + 1 + length s ≡ at + suc (length s) = omega arith in
-    ap (λ (k : ℕ). take k (set d at 45) ++ s ++ drop (at + 1 + length s) (set d at 45)) (add-one at)
-    ∙ ap (λ (l : List ℕ). l ++ s ++ drop (at + 1 + length s) (set d at 45)) (take-suc-set d at 45 h)
-    ∙ ap (λ (l : List ℕ). l ++ drop (at + 1 + length s) (set d at 45)) (append-snoc (take at d) 45 s)
-    ∙ ap (λ (l : List ℕ). take at d ++ (45 ∷ s) ++ l) (drop-set-lt (at + 1 + length s) d at 45 (omega arith) ∙ ap (λ (k : ℕ). drop k d) e)
+minus-put d s at h = ap (λ (l : List ℕ). put l (at + 1) s) (sets-eq (45 ∷ []) d at (omega arith)) ∙ put-put d at (45 ∷ []) (omega arith) s
 
 pub size-minus : (z : ℤ) (m : ℕ) → sizeOf z ≡ Size.Minus m → signedText z ≡ 45 ∷ decimalText m
 unfolding sizeOf signedText

@@ -7,7 +7,8 @@ use borrow.Author.Needs.{needs}
 use Rattle.runs.specs.Runs.{runs, Canon}
 use Rattle.runs.proofs.Copies.{pushRun, adding, part, inserted}
 use Rattle.runs.specs.Count.{tallyOf}
-use Rattle.runs.proofs.Laws.{canon-push, length-push, canon-copy}
+use Rattle.runs.proofs.Laws.{canon-push, canon-copy}
+use Rattle.runs.proofs.CountLaws.{most-one, length-push}
 use Rattle.runs.proofs.EditLaws.{one-joined, inserted-joined}
 use Rattle.runs.proofs.TallyLaws.{count-is, tally-pushed, tally-copied, copied-most}
 use Rattle.runs.proofs.count.count_insert.Statement.{statement}
@@ -42,6 +43,7 @@ count-part-requires-2 c κs =
         arith,
         count-is _ _ (second c),
         length-push (part [] 0 (s .args .pos) rs) (s .args .len) (s .args .set),
+        most-one (s .args .len),
         copied-most (adding 0) [] 0 (s .args .pos) (s .args .lens .now) (s .args .sets .now) (s .args .m),
       ),
     )
