@@ -1,1 +1,1 @@
-// No code: laws of choices and of lists that more than one crate needs, and that the kit does not state.
+// No code: laws of choices, lists and masks that the kit does not state, for the crates above.
