@@ -3,16 +3,14 @@ use Prim.Native.Nat.{ℕ, _≤_, _<_, _^_}
 use mathlib.Core.Path.{_≡_}
 use mathlib.Core.Bool.{Bool}
 use mathlib.Core.List.{List}
-use native.Mathlib.Omega.{arith}
 use lib.ListN.{length}
 use Rattle.runs.specs.Runs.{runs, total, setAt, Spare}
 use Rattle.runs.specs.Edits.{Joined, CanEdit}
 use Rattle.runs.specs.Positions.{alteredAt}
 use Rattle.runs.specs.Gather.{gather}
 use Rattle.runs.proofs.Copies.{altered}
-use Rattle.runs.proofs.Laws.{length-runs}
 use Rattle.runs.proofs.CountLaws.{altered-runs}
-use Rattle.runs.proofs.EditLaws.{one-joined, altered-joined, total-altered, canon-altered}
+use Rattle.runs.proofs.EditLaws.{altered-joined}
 use Rattle.tank.specs.declared.Tank.{Tank}
 use Rattle.tank.specs.State.{runsOf, tableOf, viewOf}
 use Rattle.tank.specs.Steps.{Stepped, OnRange}
@@ -33,7 +31,7 @@ module _ {t : Tank} {start end : ℕ} (h : OnRange t start end) where
     alter-can olens osets l l′ = (
       h .up,
       h .fits,
-      can-edit (h .laid) (h .room) made olens osets l l′ (altered-runs (runsOf t) start end (h .up) fits-runs f) (h .laid .small),
+      can-edit (h .laid) (h .room) made (altered-runs (runsOf t) start end (h .up) fits-runs f) (h .laid .small) olens osets l l′,
     )
 
     pub alter-done : (b : Bool) (lens sets : List ℕ) (n : ℕ) → Joined (t .length) (alteredAt start end f (setAt (runsOf t))) (runs lens sets n)
@@ -41,11 +39,4 @@ module _ {t : Tank} {start end : ℕ} (h : OnRange t start end) where
         → gather (altered (runsOf t) start end f) < 2 ^ t .marks
         → Stepped (viewOf b (total (altered (runsOf t) start end f)) (tableOf t) (altered (runsOf t) start end f)) (tableOf t) (gather (altered (runsOf t) start end f))
         (record { touched = b; length = t .length; runs = n; marks = t .marks; lens = lens; sets = sets; table = t .table })
-    alter-done b lens sets n is sp l l′ inside =
-        let a = h .laid .sum in
-        let s = h .laid .small in
-        let c = h .room in
-        let z = total-altered (runsOf t) start end f (h .up) fits-runs in
-        over-runs (h .laid) b lens sets n (t .length) (altered (runsOf t) start end f) (one-joined is made) (canon-altered (runsOf t) start end f) (omega arith) sp l l′
-        (omega (arith, altered-runs (runsOf t) start end (h .up) fits-runs f, length-runs (t .lens) (t .sets) (t .runs))) (omega arith)
-        inside
+    alter-done = over-runs (h .laid) (h .room) made (altered-runs (runsOf t) start end (h .up) fits-runs f) (h .laid .small)

@@ -11,9 +11,8 @@ use Rattle.runs.specs.Edits.{Joined, CanEdit}
 use Rattle.runs.specs.Positions.{deletedAt}
 use Rattle.runs.proofs.Copies.{deleted}
 use Rattle.runs.specs.Gather.{gather}
-use Rattle.runs.proofs.Laws.{length-runs}
 use Rattle.runs.proofs.CountLaws.{deleted-runs}
-use Rattle.runs.proofs.EditLaws.{one-joined, deleted-joined, total-deleted, canon-deleted}
+use Rattle.runs.proofs.EditLaws.{deleted-joined}
 use Rattle.runs.proofs.GatherLaws.{gather-deleted}
 use Rattle.tank.specs.declared.Tank.{Tank}
 use Rattle.tank.specs.Rules.{afterDelete}
@@ -35,7 +34,7 @@ module _ {t : Tank} (start end : ℕ) (h : CanCut t start end) where
       let b = h .range .laid .small in (
         h .range .up,
         h .range .fits,
-        can-edit (h .range .laid) (h .range .room) cut-out olens osets l l′ (deleted-runs (runsOf t) start end (h .range .up) (fits-runs (h .range))) (omega arith),
+        can-edit (h .range .laid) (h .range .room) cut-out (deleted-runs (runsOf t) start end (h .range .up) (fits-runs (h .range))) (omega arith) olens osets l l′,
       )
 
   pub cut-done : (lens sets : List ℕ) (n : ℕ) → Joined (t .length - (end - start)) (deletedAt start end (setAt (runsOf t))) (runs lens sets n) → Spare lens sets n
@@ -43,17 +42,12 @@ module _ {t : Tank} (start end : ℕ) (h : CanCut t start end) where
       → let r : Tank = record { touched = true; length = t .length - (end - start); runs = n; marks = t .marks; lens = lens; sets = sets; table = t .table } in
       (Laid r) × (view r ≡ afterDelete start end (view t))
   cut-done lens sets n made sp l l′ =
-      let e = one-joined made cut-out in
       let f = h .range .laid in
-      let a = f .sum in
       let b = f .small in
-      let c = h .range .room in
       let d = f .inside in
       let out = deleted (runsOf t) start end in
-      let z = total-deleted (runsOf t) start end (h .range .up) (fits-runs (h .range)) in
       let s =
-      over-runs f true lens sets n (t .length - (end - start)) out e (canon-deleted (runsOf t) start end) (omega arith) sp l l′
-      (omega (arith, deleted-runs (runsOf t) start end (h .range .up) (fits-runs (h .range)), length-runs (t .lens) (t .sets) (t .runs))) (omega arith)
+      over-runs f (h .range .room) cut-out (deleted-runs (runsOf t) start end (h .range .up) (fits-runs (h .range))) (omega arith) true lens sets n made sp l l′
       (omega (arith, gather-deleted (runsOf t) start end (h .range .up) (fits-runs (h .range)), and-le-r (gather out) (gather (runsOf t))))
       in
       (s .laid, s .is ∙ view-deleted (runsOf t) start end (h .range .up) (fits-runs (h .range)) (tableOf t) ∙ ap (afterDelete start end) (view-touched f (h .touched)))

@@ -20,10 +20,9 @@ use Rattle.runs.specs.Positions.{insertedAt}
 use Rattle.runs.proofs.Copies.{inserted}
 use Rattle.runs.specs.Gather.{gather}
 use Rattle.runs.specs.Scan.{commonAt}
-use Rattle.runs.proofs.Laws.{length-runs}
 use Rattle.runs.proofs.CountLaws.{inserted-runs}
 use Rattle.styles.proofs.Digits.{and-digit, digit-within}
-use Rattle.runs.proofs.EditLaws.{one-joined, inserted-joined, total-inserted, canon-inserted}
+use Rattle.runs.proofs.EditLaws.{inserted-joined}
 use Rattle.runs.proofs.GatherLaws.{gather-digit, gather-inserted}
 use Rattle.runs.proofs.ScanLaws.{common-end}
 use Rattle.tank.specs.declared.Tank.{Tank}
@@ -77,27 +76,20 @@ module _ {t : Tank} (pos len set : ℕ) (h : CanGrow t pos len set) where
   pub grow-can : (olens osets : List ℕ) → length olens ≡ 514 → length osets ≡ 514
       → (pos ≤ t .length) × CanEdit (t .length + len) (insertedAt pos len set (setAt (runsOf t))) olens osets (t .lens) (t .sets) (t .runs) (t .length)
   grow-can olens osets l l′ =
-      (h .fits, can-edit (h .laid) (h .room) grown-out olens osets l l′ (inserted-runs (runsOf t) pos len set fits) (h .small))
+      (h .fits, can-edit (h .laid) (h .room) grown-out (inserted-runs (runsOf t) pos len set fits) (h .small) olens osets l l′)
 
   pub grow-done : (lens sets : List ℕ) (n : ℕ) → Joined (t .length + len) (insertedAt pos len set (setAt (runsOf t))) (runs lens sets n) → Spare lens sets n
       → length lens ≡ 514 → length sets ≡ 514
       → Stepped (afterInsert pos len (view t)) (tableOf t) (gather (runsOf t))
       (record { touched = true; length = t .length + len; runs = n; marks = t .marks; lens = lens; sets = sets; table = t .table })
   grow-done lens sets n made sp l l′ =
-      let e = one-joined made grown-out in
       let f = h .laid in
-      let a = f .sum in
-      let b = h .small in
-      let c = h .room in
       let out = inserted (runsOf t) pos len set in
-      let z = total-inserted (runsOf t) pos len set fits in
       let g : gather out ≡ gather (runsOf t) =
       gather-inserted (runsOf t) pos len set (f .canon) fits (rw (h .common) (common-there (runsOf t) pos))
       in
       stepped
-      (over-runs f true lens sets n (t .length + len) out e (canon-inserted (runsOf t) pos len set) (omega arith) sp l l′
-      (omega (arith, inserted-runs (runsOf t) pos len set fits, length-runs (t .lens) (t .sets) (t .runs))) (omega arith)
-      (rw g (f .inside)))
+      (over-runs f (h .room) grown-out (inserted-runs (runsOf t) pos len set fits) (h .small) true lens sets n made sp l l′ (rw g (f .inside)))
       (view-inserted (runsOf t) pos len set fits (tableOf t)
       (ap (pick (tableOf t)) (h .common) ∙ common-inherited (runsOf t) pos fits (tableOf t) (f .sorted))
       ∙ ap (afterInsert pos len) (view-touched f (h .touched)))

@@ -46,36 +46,37 @@ module _ {t : Tank} (f : Laid t) where
   pub reach : {p : ℕ} → p ≤ t .length → p ≤ total (runsOf t)
   reach h = let a = f .sum in omega arith
 
-  -- what an edit asks of the tank's runs
-  pub can-edit : t .runs ≤ 512 → {n : ℕ} {at : ℕ → ℕ} {out : List Run} → Joined n at out → (olens osets : List ℕ) → length olens ≡ 514 → length osets ≡ 514
-      → length out ≤ length (runsOf t) + 2 → n < 2 ^ 63 → CanEdit n at olens osets (t .lens) (t .sets) (t .runs) (t .length)
-  can-edit room made olens osets l l′ few fits =
-      let a = f .lens-514 in
-      let b = f .sets-514 in
-      record {
-        even = omega arith;
-        lens-m = omega arith;
-        sets-m = omega arith;
-        all-is = f .sum;
-        source = f .small;
-        room = λ x j. omega (arith, ap length (one-joined j made), length-runs (t .lens) (t .sets) (t .runs));
-        sum = fits;
-      }
+  -- ---- an edit of the tank's runs that leaves no more than two runs more
+  module _ (room : t .runs ≤ 512) {n : ℕ} {at : ℕ → ℕ} {out : List Run} (made : Joined n at out) (few : length out ≤ length (runsOf t) + 2) (fits : n < 2 ^ 63) where
+    -- what it asks
+    pub can-edit : (olens osets : List ℕ) → length olens ≡ 514 → length osets ≡ 514 → CanEdit n at olens osets (t .lens) (t .sets) (t .runs) (t .length)
+    can-edit olens osets l l′ =
+        let a = f .lens-514 in
+        let b = f .sets-514 in
+        record {
+          even = omega arith;
+          lens-m = omega arith;
+          sets-m = omega arith;
+          all-is = f .sum;
+          source = f .small;
+          room = λ x j. omega (arith, ap length (one-joined j made), length-runs (t .lens) (t .sets) (t .runs));
+          sum = fits;
+        }
 
-  -- the tank's table over other runs
-  module _ (b : Bool) (lens sets : List ℕ) (n len : ℕ) (rs : List Run) (e : runs lens sets n ≡ rs) (canon : Canon rs) (sum : len ≡ total rs) where
-    pub over-runs : Spare lens sets n → length lens ≡ 514 → length sets ≡ 514 → length rs ≤ 514 → total rs < 2 ^ 63 → gather rs < 2 ^ t .marks
-        → Stepped (viewOf b (total rs) (tableOf t) rs) (tableOf t) (gather rs)
-        (record { touched = b; length = len; runs = n; marks = t .marks; lens = lens; sets = sets; table = t .table })
+    -- the tank's table over what it leaves
+    pub over-runs : (b : Bool) (lens sets : List ℕ) (k : ℕ) → Joined n at (runs lens sets k) → Spare lens sets k → length lens ≡ 514 → length sets ≡ 514 → gather out < 2 ^ t .marks
+        → Stepped (viewOf b (total out) (tableOf t) out) (tableOf t) (gather out)
+        (record { touched = b; length = n; runs = k; marks = t .marks; lens = lens; sets = sets; table = t .table })
     unfolding view
-    over-runs sp l l′ few small inside =
+    over-runs b lens sets k is sp l l′ inside =
+        let e = one-joined is made in
         record {
           laid =
               record {
-                most = omega (arith, ap length e, length-runs lens sets n);
-                canon = rw e canon;
-                sum = rw e sum;
-                small = omega arith;
+                most = omega (arith, ap length e, length-runs lens sets k, length-runs (t .lens) (t .sets) (t .runs));
+                canon = is .canon;
+                sum = sym (is .all);
+                small = fits;
                 spare = sp;
                 lens-514 = l;
                 sets-514 = l′;
@@ -86,7 +87,7 @@ module _ {t : Tank} (f : Laid t) where
                 blanks = f .blanks;
                 inside = rw e inside;
               };
-          is = λ i. viewOf b (sum i) (tableOf t) (e i);
+          is = λ i. viewOf b (sym (made .all) i) (tableOf t) (e i);
           table-is = refl;
           all-is = ap gather e;
         }

@@ -214,8 +214,7 @@ module _ {M : Type 1} (𝓤 : URA M) (H : Heap 𝓤) (A : Atoms 𝓤) (W : Given
   to-judged = ((tt, tt, tt, (d, (u, (length ys, tt))), (dv ∷ [], (vint w64 u ∷ [], (vint w64 (length ys) ∷ [], tt)))), tt)
 
   goes-judged : ent 𝓤 (sem 𝓤 H A ftrue) (Judged 𝓤 H A mem run .pre to-judged)
-  goes-judged = qed W (‵ ftrue ∷ []) ∵ says ! sound $ frame ! $ nothing ! $ owned ! usize (Is usize) (uint-makes 𝓤 H A W w64) (length ys) _ (refl, room .0) $ fjoin ! $ owned ! u64 (Is u64) (uint-makes 𝓤 H A W w64) u _ is-u $ fjoin ! $
-      owned ! S.the-row (Is S.the-row) (LL.makes S.the-type S′.the-plain 𝓤 H A) d _ is-d $ fjoin ! $ done !
+  goes-judged = goes-turns
 
   abbrev to-first : First 𝓤 H A mem run .Ghost
   to-first = ((tt, tt, tt, (d, tt), (dv ∷ [], tt)), tt)
@@ -236,8 +235,7 @@ module _ {M : Type 1} (𝓤 : URA M) (H : Heap 𝓤) (A : Atoms 𝓤) (W : Given
     to-advance = ((tt, tt, tt, (d, (c, tt)), (dv ∷ [], (cv ∷ [], tt))), tt)
 
     goes-advance : ent 𝓤 (sem 𝓤 H A ftrue) (Advance 𝓤 H A mem run .pre to-advance)
-    goes-advance = qed W (‵ ftrue ∷ []) ∵ says ! (sound, stands) $ frame ! $ nothing ! $ owned ! C.the-row (Is C.the-row) (LL.makes C.the-type C′.the-plain 𝓤 H A) c _ is-c $ fjoin ! $
-        owned ! S.the-row (Is S.the-row) (LL.makes S.the-type S′.the-plain 𝓤 H A) d _ is-d $ fjoin ! $ done !
+    goes-advance = goes-anchor
 
   module _ (𝓣 : Tables 𝓤 H) (known-turns : Triple 𝓤 (𝓣 .C #turns) (Turns 𝓤 H A mem run)) (known-first : Triple 𝓤 (𝓣 .C #first-anchor) (First 𝓤 H A mem run)) (known-anchor : Triple 𝓤 (𝓣 .C #anchor-at) (AnchorAt 𝓤 H A mem run))
       (known-advance : Triple 𝓤 (𝓣 .C #advance) (Advance 𝓤 H A mem run)) (known-judged : Triple 𝓤 (𝓣 .C #judged) (Judged 𝓤 H A mem run)) where
