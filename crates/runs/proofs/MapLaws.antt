@@ -71,6 +71,14 @@ runs-map f lens before after zero h = refl
 runs-map f lens before after (suc n) h =
     ap₂ (λ (s : ℕ) (rs : List Run). run (getD lens n 0) s ∷ rs) (h n (omega arith)) (runs-map f lens before after n (λ j g. h j (omega arith)))
 
+-- sets that stay as they are, and two renumberings one after the other
+pub renumber-self : (becomes : ℕ → ℕ → Type 0) (n : ℕ) (sets : List ℕ) → ((j : ℕ) → j < n → becomes (getD sets j 0) (getD sets j 0)) → Renumbered becomes n sets sets
+renumber-self becomes n sets h = record { front = h; rest = λ j l. refl; kept = refl }
+
+pub renumber-then : {first second both : ℕ → ℕ → Type 0} → ((x y z : ℕ) → first x y → second y z → both x z) → {n : ℕ} {before between after : List ℕ}
+    → Renumbered first n before between → Renumbered second n between after → Renumbered both n before after
+renumber-then f s t = record { front = λ j h. f _ _ _ (s .front j h) (t .front j h); rest = λ j h. t .rest j h ∙ s .rest j h; kept = t .kept ∙ s .kept }
+
 pub renumber-runs : (becomes : ℕ → ℕ → Type 0) (f : ℕ → ℕ) → ((s r : ℕ) → becomes s r → r ≡ f s) → {n : ℕ} {before after : List ℕ} (lens : List ℕ)
     → Renumbered becomes n before after → runs lens after n ≡ mapRuns f (runs lens before n)
 renumber-runs becomes f only lens s = runs-map f lens _ _ _ (λ j h. only _ _ (s .front j h))

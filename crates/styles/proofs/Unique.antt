@@ -33,7 +33,7 @@ one-ranked-bit set j Past (At i) h k = absurd (omega (arith, nth-held set j i k)
 one-ranked-bit set j (At i) Past h k = absurd (omega (arith, nth-held set j i h))
 one-ranked-bit set j (At i) (At l) h k = ap At (one-place set j i l h k)
 
--- `squeeze_set`
+-- a set that `runs::sets::squeeze_sets` leaves
 pub one-squeezed : (mask s r u : ℕ) → Squeezed mask s r → Squeezed mask s u → r ≡ u
 one-squeezed mask s r u h k =
     same-bits (ones mask) r u (h .past) (k .past)
