@@ -2,3 +2,4 @@ pub mod AskLaws
 pub mod Most
 pub mod Ranges
 pub mod Examples
+pub mod Others

@@ -2,6 +2,7 @@
 ghost use mathlib.Core.Path.{_≡_};
 ghost use mathlib.Core.List.{[]};
 ghost use lib.ListN.{length};
+ghost use denote.Ref.{ptr};
 ghost use Rattle.lists.specs.Lists.{rangeList, wholeList, rangeNumber, wholeNumber, unlessRefused, filledBeside};
 ghost use Rattle.runs.specs.Stretches.{inFront};
 ghost use Rattle.lists.specs.Anchors.{anchors, anchorsNumber};
@@ -196,6 +197,7 @@ pub fn list_whole(s: Tanks, tank: u64, out: &mut [u64]) -> Listed
 pub fn iter_range(s: Tanks, tank: u64, start: u64, end: u64, out: &mut [u64]) -> &mut [u64]
     requires { ⌜ Sound s ⌝ }
     ensures { λ r. ⌜ now r ≡ askAt (meaning s) tank [] (λ v. unlessRefused (rangeNumber start end (length (now (out .entry))) v) (rangeList start end v)) ⌝ }
+    ensures { λ r. ⌜ ptr r ≡ ptr (out .entry) ⌝ }
 {
     let listed = list_range(s, tank, start, end, out);
     let n = listed.count;
@@ -206,10 +208,11 @@ pub fn iter_range(s: Tanks, tank: u64, start: u64, end: u64, out: &mut [u64]) ->
 pub fn iter(s: Tanks, tank: u64, out: &mut [u64]) -> &mut [u64]
     requires { ⌜ Sound s ⌝ }
     ensures { λ r. ⌜ now r ≡ askAt (meaning s) tank [] (λ v. unlessRefused (wholeNumber (length (now (out .entry))) v) (wholeList v)) ⌝ }
+    ensures { λ r. ⌜ ptr r ≡ ptr (out .entry) ⌝ }
 {
     let whole = list_whole(s, tank, out);
-    let n = whole.count;
-    &mut out[..n]
+    let filled = whole.count;
+    &mut out[..filled]
 }
 
 // The refusal of the tank's number: 1, or 0 for none.

@@ -3,6 +3,7 @@ pub mod anchors; // anchors.rt: where marks start and end
 
 ghost use mathlib.Core.Path.{_≡_};
 ghost use lib.ListN.{length};
+ghost use denote.Ref.{ptr};
 ghost use Rattle.lists.specs.Lists.{rangeList, wholeList, rangeNeeded, rangeNumber, wholeNumber, unlessRefused, filledBeside};
 ghost use Rattle.runs.specs.Stretches.{inFront};
 ghost use Rattle.tank.specs.State.{view, Sound};
@@ -101,6 +102,7 @@ pub fn list_whole(t: Tank, out: &mut [u64]) -> Listed
 pub fn iter_range(t: Tank, start: u64, end: u64, out: &mut [u64]) -> &mut [u64]
     requires { ⌜ Sound t ⌝ }
     ensures { λ r. ⌜ now r ≡ unlessRefused (rangeNumber start end (length (now (out .entry))) (view t)) (rangeList start end (view t)) ⌝ }
+    ensures { λ r. ⌜ ptr r ≡ ptr (out .entry) ⌝ }
 {
     let listed = list_range(t, start, end, out);
     let n = listed.count;
@@ -111,6 +113,7 @@ pub fn iter_range(t: Tank, start: u64, end: u64, out: &mut [u64]) -> &mut [u64]
 pub fn iter(t: Tank, out: &mut [u64]) -> &mut [u64]
     requires { ⌜ Sound t ⌝ }
     ensures { λ r. ⌜ now r ≡ unlessRefused (wholeNumber (length (now (out .entry))) (view t)) (wholeList (view t)) ⌝ }
+    ensures { λ r. ⌜ ptr r ≡ ptr (out .entry) ⌝ }
 {
     let listed = list_whole(t, out);
     let n = listed.count;

@@ -1,5 +1,6 @@
 -- `iter_range` meets its contract: the front part is what was written, and nothing where there is no such tank.
 use borrow.Author.Needs.{needs}
+use mathlib.Core.Path.{refl}
 use lib.ListN.{length}
 use Rattle.lists.specs.Lists.{rangeNumber, rangeList}
 use Rattle.tanks.specs.Pool.{meaning}
@@ -11,7 +12,7 @@ returns : tie.Need-returns
 returns c =
     let w = c .before .before .before in
     let s = w .before .before .before in
-    asked-part (meaning (s .args .s)) (s .args .tank) (λ v. rangeNumber (s .args .start) (s .args .end) (length (s .args .out .now)) v) (rangeList (s .args .start) (s .args .end)) (s .args .out .now) _ _ (w .list-range .ensures)
+    (asked-part (meaning (s .args .s)) (s .args .tank) (λ v. rangeNumber (s .args .start) (s .args .end) (length (s .args .out .now)) v) (rangeList (s .args .start) (s .args .end)) (s .args .out .now) _ _ (w .list-range .ensures), refl)
 
 slice-aggregate-result : tie.Need-slice-aggregate-result
 slice-aggregate-result c =
