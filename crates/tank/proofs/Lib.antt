@@ -19,5 +19,6 @@ pub mod StripLaws
 pub mod InsertLaws
 pub mod RemoveLaws
 pub mod Sequences
+pub mod TakenBack
 pub mod OnRuns
 pub mod Tests

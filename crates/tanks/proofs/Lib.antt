@@ -12,6 +12,7 @@ pub mod OpeningLaws
 pub mod Unique
 pub mod Theorems
 pub mod Sequences
+pub mod TakenBack
 pub mod Lengths
 pub mod Sorted
 pub mod OnRuns

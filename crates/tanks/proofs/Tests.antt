@@ -1,18 +1,24 @@
--- Closed examples of the settings' rule, of the judgement (example 12 of document 01), of tanks packed, and of numbers beside answers.
+-- Closed examples of the settings' rule, of the judgement (example 12 of document 01), of edits that are accepted in one order alone, of tanks
+-- packed, and of numbers beside answers.
 use Prim.Native.Nat.{ℕ}
 use mathlib.Core.Path.{_≡_, refl}
-use mathlib.Core.Bool.{true, false}
-use mathlib.Core.List.{[], _∷_}
+use mathlib.Core.Bool.{true, false, cond}
+use mathlib.Core.List.{[], _∷_, _++_}
+use lib.Dec.{ltb}
 use lib.ListN.{replicate, getD, set}
-use Rattle.runs.specs.Positions.{sumBelow, allAt}
-use Rattle.tank.specs.Rules.{deleting}
+use Rattle.styles.specs.declared.Mark.{Mark}
+use Rattle.styles.specs.declared.Value.the-variants.{Null}
+use Rattle.styles.specs.Order.{stands, numbers}
+use Rattle.styles.specs.Marks.{insertMark, eitherOf, member, sameContent, sameMarks}
+use Rattle.runs.specs.Positions.{sumBelow, allAt, anyAt, starts}
+use Rattle.tank.specs.Rules.{View, annotating, deleting, empty, over, long, notNumber, clash, clashes, full, gathered, refusal, after, afterAnnotate, afterDelete}
 use Rattle.tanks.specs.declared.Setting.{Setting}
 use Rattle.tanks.specs.declared.Head.{Head}
 use Rattle.tanks.specs.declared.Run.{Run}
 use Rattle.tanks.specs.declared.Count.{Count}
 use Rattle.tanks.specs.declared.YesNo.{YesNo}
 use Rattle.tanks.specs.Settings.{accepted, claims, judgement}
-use Rattle.tanks.specs.House.{freshHouse, smallest, openNumber, opening, askNumber, refusalAt}
+use Rattle.tanks.specs.House.{House, freshHouse, smallest, openNumber, opening, askNumber, refusalAt, afterAt}
 use Rattle.tanks.specs.Pool.{noRun, noTable, ownRuns, tankIn}
 use Rattle.tanks.specs.Contracts.{counts, says}
 
@@ -66,9 +72,9 @@ beside-2 = refl
 runs : ℕ → ℕ
 runs t = getD (200 ∷ 72 ∷ 40 ∷ 39 ∷ 40 ∷ 40 ∷ 40 ∷ 40 ∷ []) t 0
 
-full : claims (replicate 8 (pair 40 200)) runs 8 ≡ 512
+all-claimed : claims (replicate 8 (pair 40 200)) runs 8 ≡ 512
 unfolding runs sumBelow
-full = refl
+all-claimed = refl
 
 two-to-41 : judgement (replicate 8 (pair 40 200)) runs 2 41 ≡ 10
 unfolding runs sumBelow judgement
@@ -102,6 +108,28 @@ no-tank = refl
 no-tank-wide : refusalAt (freshHouse (replicate 8 (pair 40 200))) 4294967296 (deleting 5 5) ≡ 1
 unfolding refusalAt
 no-tank-wide = refl
+
+-- ---- two edits on two tanks that are accepted in one order and not in the other
+abbrev mark : Mark
+mark = record { key = 1; flags = 0x84; lamport = 5; peer = 1; value = Null }
+
+-- n positions, of which the first k carry the mark
+abbrev marked : ℕ → ℕ → View
+marked k n = record { length = n; touched = true; at = λ p. cond (ltb p k) (mark ∷ []) [] }
+
+-- shares of 511 in all, and tank 0 holds the one run that is left
+abbrev crowded : House
+crowded =
+    record {
+      settings = replicate 7 (pair 1 512) ++ pair 504 512 ∷ [];
+      tanks = marked 2 4 ∷ marked 0 4 ∷ replicate 6 (marked 0 0);
+    }
+
+-- tank 0 gives it back, and then tank 1 may have it; asked first, tank 1 is refused by 10
+one-order : (refusalAt crowded 0 (deleting 2 4) ≡ 0)
+    × (refusalAt (afterAt crowded 0 (deleting 2 4)) 1 (annotating 0 2 mark) ≡ 0) × (refusalAt crowded 1 (annotating 0 2 mark) ≡ 10)
+unfolding refusalAt afterAt refusal empty over long notNumber clashes clash anyAt full gathered eitherOf insertMark member sameMarks sameContent after afterDelete afterAnnotate judgement sumBelow starts stands numbers
+one-order = (refl, refl, refl)
 
 -- ---- packed: two runs of tank 0, then one of tank 1
 head : ℕ → Head
