@@ -64,8 +64,8 @@ value-yes : valueAt 1 1 v ≡ shown.Shows (Flag true)
 unfolding positionRefusal winner
 value-yes = refl
 
--- null is a value, no mark is none
-value-null : valueAt 2 2 v ≡ shown.Shows Null
+-- a winning null shows nothing, as no mark does
+value-null : valueAt 2 2 v ≡ shown.Nothing
 unfolding positionRefusal winner
 value-null = refl
 

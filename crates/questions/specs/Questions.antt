@@ -9,7 +9,7 @@ use Rattle.styles.specs.declared.Value.{Value}
 use Rattle.styles.specs.declared.Winner.{Winner}
 use Rattle.styles.specs.Answers.{stylesOf, rankOf}
 use Rattle.styles.specs.Marks.{winner, hasKey, showsValue, sameMarks}
-use Rattle.styles.specs.Values.{valueNan}
+use Rattle.styles.specs.Values.{valueNan, isNull}
 use Rattle.runs.specs.Positions.{anyAt, allAt}
 use Rattle.questions.specs.declared.Asked.{Asked}
 use Rattle.questions.specs.declared.SetAsked.{SetAsked}
@@ -25,10 +25,14 @@ toldOf zero true = Told.Yes
 toldOf zero false = Told.No
 toldOf (suc n) b = Told.Refused (suc n)
 
--- the winning mark's value, null included, and nothing without one; refused: no value
+-- a value, as change request 5 has it: null shows nothing, for it is a mark taken off
+abbrev pub shownValue : Value → Shown
+shownValue w = cond (isNull w) Shown.Nothing (Shown.Shows w)
+
+-- the winning mark's value, and nothing without one; refused: no value
 abbrev pub shownOf : ℕ → Winner → Shown
 shownOf zero Winner.Nothing = Shown.Nothing
-shownOf zero (Winner.Shows m) = Shown.Shows (m .value)
+shownOf zero (Winner.Shows m) = shownValue (m .value)
 shownOf (suc n) w = Shown.Refused (suc n)
 
 -- the mark of a rank, and nothing past the last; refused: no mark

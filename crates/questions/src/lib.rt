@@ -7,7 +7,7 @@ ghost use Rattle.styles.specs.Bits.{pick};
 ghost use Rattle.runs.specs.Runs.{setAt};
 ghost use Rattle.tank.specs.Rules.{runsHeld, forInsert};
 ghost use Rattle.tank.specs.State.{runsOf, tableOf, view, Formed};
-ghost use Rattle.questions.specs.Questions.{toldOf, shownOf, askedOf, setOf, sharedOf};
+ghost use Rattle.questions.specs.Questions.{toldOf, shownValue, shownOf, askedOf, setOf, sharedOf};
 ghost use Rattle.questions.specs.Questions.{valueAt, stylesAt, styleAt, stylesForInsert, styleForInsert, rangeContainsKey, rangeHasKeyValue, stylesOfRange};
 use styles::Mark;
 use styles::Ranked;
@@ -24,7 +24,7 @@ pub enum Told {
     Yes,
 }
 
-// The value shown for a key, or the refusal's number; nothing where no mark has the key.
+// The value shown for a key, or the refusal's number; nothing where no mark has the key, and where the winner says null.
 pub enum Shown {
     Refused(u64),
     Nothing,
@@ -58,11 +58,15 @@ fn tell(yes: bool) -> Told
     if yes { Told::Yes } else { Told::No }
 }
 
-// What a mark says.
-fn value_of(m: Mark) -> Value
-    ensures { λ r. ⌜ r ≡ m .value ⌝ }
+// What a mark shows: null is a mark taken off.
+fn show_mark(m: Mark) -> Shown
+    ensures { λ r. ⌜ r ≡ shownValue (m .value) ⌝ }
 {
-    m.value
+    let v = m.value;
+    if styles::values::is_null(v) {
+        return Shown::Nothing;
+    }
+    Shown::Shows(v)
 }
 
 // What a winner shows.
@@ -71,7 +75,7 @@ fn show(w: Winner) -> Shown
 {
     match w {
         Winner::Nothing => Shown::Nothing,
-        Winner::Shows(m) => Shown::Shows(value_of(m)),
+        Winner::Shows(m) => show_mark(m),
     }
 }
 

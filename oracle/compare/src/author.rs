@@ -295,7 +295,7 @@ impl Author {
     fn all_value(&mut self, tank: u64, start: u64, end: u64) -> Call {
         let key = self.key(tank, start);
         let state = self.state(tank);
-        let shown = if start < state.length { state.value(start, key) } else { None };
+        let shown = if start < state.length { state.winning(start, key) } else { None };
         let other = self.value();
         let value = shown.filter(|_| !self.random.one_in(4)).unwrap_or(other);
         Call::AllValue { tank, start, end, key, value }

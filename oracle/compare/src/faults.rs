@@ -5,7 +5,7 @@ use std::collections::BTreeMap;
 
 use crate::answer::Answer;
 use crate::call::Call;
-use crate::mark::{listed, Content, Id, Value};
+use crate::mark::{listed, Content, Id};
 use crate::tanks::Tanks;
 
 /// The name of a fault, and what it gets wrong.
@@ -39,7 +39,7 @@ pub const FAULTS: [(&str, &str); 41] = [
     ("same-none", "same-marks answers none for the empty set"),
     ("same-set", "same-marks answers the empty set for none"),
     ("rank", "the j-th mark counts from 1"),
-    ("null-none", "a winning null shows nothing"),
+    ("null-shown", "a winning null is shown"),
     ("winner", "shows the value of the least mark of a key"),
     ("zero-bits", "all_value compares decimals by their bits"),
     ("has-key", "has_key looks at the first position only"),
@@ -233,13 +233,15 @@ impl Faulty {
                 let place = rank.saturating_sub(1) as usize;
                 marks.get(place).map_or(Answer::None, |mark| Answer::Mark(*mark))
             }
-            ("null-none", _, Answer::Value(Value::Null)) => Answer::None,
+            ("null-shown", Call::Value { at, key, .. }, Answer::None) => {
+                state.winning(*at, *key).map_or(Answer::None, Answer::Value)
+            }
             ("winner", Call::Value { at, key, .. }, Answer::Value(_)) => {
                 let least = state.at(*at).iter().find(|(id, _)| id.0 == *key);
                 least.map_or(Answer::None, |(_, content)| Answer::Value(content.value))
             }
             ("zero-bits", Call::AllValue { start, key, value, .. }, Answer::Yes(true)) => {
-                Answer::Yes(state.value(*start, *key) == Some(*value))
+                Answer::Yes(state.winning(*start, *key) == Some(*value))
             }
             ("has-key", Call::HasKey { start, key, .. }, Answer::Yes(true)) => {
                 Answer::Yes(state.has_key(*start, *start + 1, *key))

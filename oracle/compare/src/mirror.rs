@@ -174,9 +174,10 @@ fn asked(map: &original::Tank, tank: &Tank, call: &Call) -> Said {
         Call::Length { .. } => Answer::Length(map.length() as u64),
         Call::Touched { .. } => Answer::Touched(map.has_style()),
         Call::Runs { .. } => Answer::Runs(joined(map.elements()).len() as u64),
+        // The Rust shows a winning null; by the corrected rule it shows nothing.
         Call::Value { at, key, .. } => match map.winner(at as usize, key) {
-            Some(mark) => Answer::Value(our_value(&mark.value)),
-            None => Answer::None,
+            Some(mark) if mark.value != LoroValue::Null => Answer::Value(our_value(&mark.value)),
+            _ => Answer::None,
         },
         Call::HasKey { start, end, key, .. } => {
             Answer::Yes(map.has_key(start as usize..end as usize, key))

@@ -142,8 +142,13 @@ impl Tank {
     }
 
     /// The winning mark's value: the greatest lamport, then the greatest peer.
-    pub fn value(&self, at: u64, key: u16) -> Option<Value> {
+    pub fn winning(&self, at: u64, key: u16) -> Option<Value> {
         winner(self.at(at), key)
+    }
+
+    /// The value shown: a winning null is a mark taken off.
+    pub fn value(&self, at: u64, key: u16) -> Option<Value> {
+        self.winning(at, key).filter(|won| *won != Value::Null)
     }
 
     pub fn has_key(&self, start: u64, end: u64, key: u16) -> bool {

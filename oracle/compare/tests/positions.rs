@@ -4,7 +4,7 @@
 use std::collections::BTreeSet;
 
 use compare::author::{identity, usual};
-use compare::mark::{Id, Mark};
+use compare::mark::{Id, Mark, Value};
 use compare::random::Random;
 use compare::tank::{Tank, T};
 
@@ -102,7 +102,8 @@ fn range(tank: &Tank, all: &Positions, start: usize, end: usize) {
         assert_eq!(tank.has_key(start as u64, end as u64, key), any);
         let Some(id) = winner(&part[0]) else { continue };
         let value = usual(id).value;
-        assert_eq!(tank.value(start as u64, key), Some(value));
+        assert_eq!(tank.winning(start as u64, key), Some(value));
+        assert_eq!(tank.value(start as u64, key), Some(value).filter(|won| *won != Value::Null));
         let shown = |set| winner(set).is_some_and(|id| usual(id).value.shows(value));
         assert_eq!(tank.all_value(start as u64, end as u64, key, value), part.iter().all(shown));
     }
