@@ -1,7 +1,7 @@
 -- An annotate by its cases: a mark that the table has, and one that is new to it.
 use Prim.Native.Nat.{ℕ, zero, suc, _-_, _≤_, _<_, _^_}
 use mathlib.Core.Path.{_≡_, refl, sym, ap, _∙_}
-use mathlib.Core.Bool.{true, false, true≢false, and-false}
+use mathlib.Core.Bool.{Bool, true, false, cond, true≢false, and-false}
 use mathlib.Core.List.{List, [], _∷_}
 use native.Mathlib.Omega.{arith}
 use native.Mathlib.Nat.{mod-eq-of-lt}
@@ -22,12 +22,12 @@ use Rattle.runs.specs.Gather.{gather}
 use Rattle.styles.proofs.Digits.{or-within}
 use Rattle.tank.specs.declared.Tank.{Tank}
 use Rattle.tank.specs.declared.Room.the-variants.{Known, New, Clash, Full}
-use Rattle.tank.specs.Rules.{View, annotating, after, afterAnnotate, empty, over, long, notNumber, clash, clashes, full, carried, runsHeld}
+use Rattle.tank.specs.Rules.{View, madeFlag, annotating, after, afterAnnotate, empty, over, long, markNumber, ownNumber, clash, clashes, full, carried, runsHeld}
 use Rattle.tank.specs.State.{runsOf, tableOf, view, Formed, Sound, Called}
 use Rattle.tank.specs.Steps.{Stepped, CanLay, CanAdmit, roomFor}
 use Rattle.tank.proofs.AdmitLaws.{place-fits}
 use Rattle.tank.proofs.Carried.{any-clash}
-use Rattle.tank.proofs.Calls.{number-3, number-4, number-6, number-7, number-8, number-0, refused, made}
+use Rattle.tank.proofs.Calls.{number-3, number-4, number-own, number-7, number-8, number-0, refused, made}
 use Rattle.tank.proofs.RoomLaws.{room-says, no-clash, known-is, place-in}
 use Rattle.tank.proofs.Unique.{table-length, marks-carried, runs-held}
 
@@ -53,6 +53,18 @@ put-at zero m ms h = refl
 put-at (suc i) m [] h = absurd (omega arith)
 put-at (suc i) m (x ∷ xs) h = put-at i m xs (omega arith)
 
+-- a mark that is not refused by itself has no NaN
+good-number : (m : Mark) → markNumber m ≡ 0 → valueNan (m .value) ≡ false
+unfolding markNumber
+good-number m = go (valueNan (m .value)) (cond (madeFlag (m .flags)) 0 14)
+  where
+    go : (b : Bool) (n : ℕ) → cond b 6 n ≡ 0 → b ≡ false
+    go true n h = absurd (omega arith)
+    go false n h = refl
+
+pub none-own : (m : Mark) (n : ℕ) → n ≡ markNumber m → n ≤ 0 → markNumber m ≡ 0
+none-own m n e h = omega arith
+
 -- ---- the tests of an annotate
 module _ {t : Tank} (s : Sound t) (start end : ℕ) (m : Mark) where
   pub refused-3 : end ≤ start → Called (annotating start end m) t 3 t
@@ -77,14 +89,18 @@ module _ {t : Tank} (s : Sound t) (start end : ℕ) (m : Mark) where
       unfolding long
       not-long = refl
 
-      pub refused-6 : valueNan (m .value) ≡ true → Called (annotating start end m) t 6 t
-      unfolding notNumber
-      refused-6 h = refused s 5 (number-6 (annotating start end m) (view t) some inside not-long h)
+      pub refused-own : (n : ℕ) → n ≡ markNumber m → 0 < n → Called (annotating start end m) t n t
+      unfolding ownNumber
+      refused-own zero e h = absurd (omega arith)
+      refused-own (suc n) e h = refused s n (number-own (annotating start end m) (view t) some inside not-long (omega arith) ∙ sym e)
 
-      module _ (number : valueNan (m .value) ≡ false) where
-        is-number : notNumber (annotating start end m) ≡ false
-        unfolding notNumber
-        is-number = number
+      module _ (own : markNumber m ≡ 0) where
+        is-good : ownNumber (annotating start end m) ≡ 0
+        unfolding ownNumber
+        is-good = own
+
+        number : valueNan (m .value) ≡ false
+        number = good-number m own
 
         table : carried (view t) ≡ tableOf t
         table = marks-carried (s .formed)
@@ -96,7 +112,7 @@ module _ {t : Tank} (s : Sound t) (start end : ℕ) (m : Mark) where
             any-clash m (tableOf t) (setAt (runsOf t)) (t .length) _ (s .formed .laid .sorted) (table ∙ sym (pick-all (tableOf t))) ∙ ap (clash m) (pick-all (tableOf t))
 
         pub refused-7 : roomFor m (tableOf t) ≡ Clash → Called (annotating start end m) t 7 t
-        refused-7 e = refused s 6 (number-7 (annotating start end m) (view t) some inside not-long is-number (clashing ∙ room-says m (tableOf t) e))
+        refused-7 e = refused s 6 (number-7 (annotating start end m) (view t) some inside not-long is-good (clashing ∙ room-says m (tableOf t) e))
 
         clear : clash m (tableOf t) ≡ false → clashes (annotating start end m) (view t) ≡ false
         clear c = clashing ∙ c
@@ -106,7 +122,7 @@ module _ {t : Tank} (s : Sound t) (start end : ℕ) (m : Mark) where
         refused-8 e =
             let f = room-says m (tableOf t) e in
             refused s 7
-            (number-8 (annotating start end m) (view t) some inside not-long is-number (clear (no-clash m (tableOf t) (f .0)))
+            (number-8 (annotating start end m) (view t) some inside not-long is-good (clear (no-clash m (tableOf t) (f .0)))
             (rw (table, f .0, f .1)))
 
         -- ---- a mark that the table has
@@ -133,7 +149,7 @@ module _ {t : Tank} (s : Sound t) (start end : ℕ) (m : Mark) where
           unfolding after afterAnnotate
           known-done {r} d =
               let l = table-length (s .formed .laid) in
-              made (number-0 (annotating start end m) (view t) some inside not-long is-number (clear (known .1)) not-full)
+              made (number-0 (annotating start end m) (view t) some inside not-long is-good (clear (known .1)) not-full)
               (formed-of d refl
               (ap (λ x. bitOr x (2 ^ i)) (s .formed .whole) ∙ with-all (t .marks) i place-there ∙ ap (λ n. 2 ^ n - 1) (sym l)))
               (d .is ∙ ap (λ x. afterAnnotate start end x (view t)) mark-is)
@@ -191,7 +207,7 @@ module _ {t : Tank} (s : Sound t) (start end : ℕ) (m : Mark) where
             new-done {r} d =
                 let l = table-length (s .formed .laid) in
                 made
-                (number-0 (annotating start end m) (view t) some inside not-long is-number (clear (no-clash m (tableOf t) (new .0))) not-full-new)
+                (number-0 (annotating start end m) (view t) some inside not-long is-good (clear (no-clash m (tableOf t) (new .0))) not-full-new)
                 (formed-of d refl
                 (ap (λ x. bitOr x (2 ^ i)) (a .all-is ∙ ap (openBit i) (s .formed .whole))
                 ∙ open-all i (t .marks) (omega (arith, fits-put)) ∙ ap (λ n. 2 ^ n - 1) (sym marks-put ∙ sym (table-length (a .laid)))))

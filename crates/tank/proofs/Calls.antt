@@ -3,9 +3,12 @@ use Prim.Native.Nat.{ℕ, suc, _≤_, _<_}
 use mathlib.Core.Path.{_≡_, sym, _∙_}
 use mathlib.Core.Bool.{true, false}
 use native.Mathlib.Omega.{arith}
+use lib.Dec.{eqb}
+use Rattle.laws.proofs.Cases.{cond-by}
+use Rattle.styles.specs.Values.{valueNan}
 use borrow.Author.Tests.{lt-ltb, le-ltb, le-leb, lt-leb, ne-eqb}
 use Rattle.tank.specs.declared.Tank.{Tank}
-use Rattle.tank.specs.Rules.{View, Edit, after, empty, over, long, notNumber, clashes, full, refusal, whenAccepted, askedRange}
+use Rattle.tank.specs.Rules.{View, Edit, annotating, inserting, deleting, removing, madeFlag, markNumber, after, empty, over, long, ownNumber, clashes, full, refusal, whenAccepted, askedRange}
 use Rattle.tank.specs.State.{view, Formed, Sound, Called}
 use Rattle.tank.proofs.Unique.{same-tank}
 
@@ -26,11 +29,12 @@ module _ (e : Edit) (v : View) where
       number-5 c = simp (a, b, c)
 
       module _ (c : long e v ≡ false) where
-        pub number-6 : notNumber e ≡ true → refusal e v ≡ 6
+        -- 6 or 14, by the mark alone
+        pub number-own : 0 < ownNumber e → refusal e v ≡ ownNumber e
         unfolding refusal
-        number-6 d = simp (a, b, c, d)
+        number-own d = simp (a, b, c) (rw (ne-eqb (ownNumber e) 0 (λ z. omega arith)))
 
-        module _ (d : notNumber e ≡ false) where
+        module _ (d : ownNumber e ≡ 0) where
           pub number-7 : clashes e v ≡ true → refusal e v ≡ 7
           unfolding refusal
           number-7 f = simp (a, b, c, d, f)
@@ -43,6 +47,24 @@ module _ (e : Edit) (v : View) where
             pub number-0 : full e v ≡ false → refusal e v ≡ 0
             unfolding refusal
             number-0 g = simp (a, b, c, d, f, g)
+
+-- what holds of every number that a tank's own rules give, and of 0
+own-by : (P : ℕ → Type 0) → P 0 → P 6 → P 14 → (e : Edit) → P (ownNumber e)
+unfolding ownNumber markNumber
+own-by P zero six fourteen (annotating a b m) = cond-by P (valueNan (m .value)) six (cond-by P (madeFlag (m .flags)) zero fourteen)
+own-by P zero six fourteen (inserting pos len) = zero
+own-by P zero six fourteen (deleting a b) = zero
+own-by P zero six fourteen (removing id last) = zero
+
+pub number-by : (P : ℕ → Type 0) → P 0 → P 3 → P 4 → P 5 → P 6 → P 7 → P 8 → P 14 → (e : Edit) (v : View) → P (refusal e v)
+unfolding refusal
+number-by P zero three four five six seven eight fourteen e v =
+    cond-by P (empty e) three
+    (cond-by P (over e v) four
+    (cond-by P (long e v) five
+    (cond-by P (eqb (ownNumber e) 0)
+    (cond-by P (clashes e v) seven (cond-by P (full e v) eight zero))
+    (own-by P zero six fourteen e))))
 
 -- ---- and of a range that is asked about
 module _ (a b later : ℕ) (v : View) where

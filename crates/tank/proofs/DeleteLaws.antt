@@ -5,7 +5,7 @@ use mathlib.Core.Bool.{true, false}
 use native.Mathlib.Omega.{arith}
 use borrow.Author.Tests.{lt-leb, le-leb, lt-ltb, le-ltb}
 use Rattle.tank.specs.declared.Tank.{Tank}
-use Rattle.tank.specs.Rules.{View, deleting, after, afterDelete, empty, over, long, notNumber, clashes, full, refusal}
+use Rattle.tank.specs.Rules.{View, deleting, after, afterDelete, empty, over, long, ownNumber, clashes, full, refusal}
 use Rattle.tank.specs.State.{view, Laid, Sound, Called}
 use Rattle.tank.specs.Steps.{Trimmed, CanCut}
 use Rattle.tank.proofs.Calls.{number-3, number-4, number-0, refused, made}
@@ -22,7 +22,7 @@ module _ {t : Tank} (s : Sound t) (start end : ℕ) where
 
     module _ (fits : end ≤ t .length) where
       accepted : refusal (deleting start end) (view t) ≡ 0
-      unfolding empty over long notNumber clashes full view
+      unfolding empty over long ownNumber clashes full view
       accepted = number-0 (deleting start end) (view t) (lt-leb end start up) (le-ltb (t .length) end fits) refl refl refl refl
 
       pub untouched : t .touched ≡ false → Called (deleting start end) t 0 t

@@ -12,7 +12,7 @@ use Rattle.runs.specs.Gather.{gather}
 use Rattle.runs.specs.Scan.{commonAt}
 use Rattle.tank.specs.declared.Tank.{Tank}
 use Rattle.tank.specs.declared.Inserted.{Inserted}
-use Rattle.tank.specs.Rules.{inserting, after, forInsert, afterInsert, empty, over, largest, long, notNumber, clashes, full, refusal, insertedSet}
+use Rattle.tank.specs.Rules.{inserting, after, forInsert, afterInsert, empty, over, largest, long, ownNumber, clashes, full, refusal, insertedSet}
 use Rattle.tank.specs.State.{runsOf, tableOf, view, Sound, Called}
 use Rattle.tank.specs.Steps.{Stepped, CanGrow}
 use Rattle.tank.proofs.AnnotateLaws.{formed-of}
@@ -55,7 +55,7 @@ module _ {t : Tank} (s : Sound t) (pos len : ℕ) where
       inside = le-ltb (t .length) pos fits
 
       accepted : long (inserting pos len) (view t) ≡ false → refusal (inserting pos len) (view t) ≡ 0
-      unfolding notNumber clashes full
+      unfolding ownNumber clashes full
       accepted l = number-0 (inserting pos len) (view t) not-empty inside l refl refl refl
 
       -- ---- an untouched tank stays as it is

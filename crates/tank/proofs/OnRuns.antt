@@ -12,14 +12,13 @@ use Rattle.styles.specs.declared.Mark.{Mark}
 use Rattle.styles.specs.Order.{idOf}
 use Rattle.styles.specs.Marks.{Sorted, member, placeOf, insertMark, removeMark}
 use Rattle.styles.specs.Bits.{pick, withBit}
-use Rattle.styles.specs.Values.{valueNan}
 use Rattle.runs.specs.Runs.{Run, total, setAt, Canon, changing}
 use Rattle.runs.proofs.Copies.{adding, altered, deleted, inserted}
 use Rattle.runs.specs.Gather.{gather}
 use Rattle.runs.specs.Scan.{commonAt}
 use Rattle.runs.proofs.EditLaws.{canon-altered, canon-deleted, canon-inserted}
 use Rattle.runs.proofs.ScanLaws.{stretch-le}
-use Rattle.tank.specs.Rules.{Edit, annotating, inserting, deleting, removing, afterAnnotate, afterInsert, afterDelete, stripped, afterRemove, backFrom, after, empty, over, long, notNumber, clash, clashes, full, refusal}
+use Rattle.tank.specs.Rules.{Edit, annotating, inserting, deleting, removing, afterAnnotate, afterInsert, afterDelete, stripped, afterRemove, backFrom, after, empty, over, long, markNumber, ownNumber, firstRefusal, clash, clashes, full, refusal}
 use Rattle.tank.specs.State.{viewOf}
 use Rattle.tank.proofs.Carried.{gathered-is, any-clash}
 use Rattle.tank.proofs.GrowLaws.{common-inherited}
@@ -45,7 +44,7 @@ unfoldable pub numberOn : List Mark → Edit → Bool → List Run → ℕ
 numberOn ms (annotating a b m) t rs =
     cond (leb b a) 3
     (cond (ltb (total rs) b) 4
-    (cond (valueNan (m .value)) 6
+    (firstRefusal (markNumber m)
     (cond (clash m (pick ms (gather rs))) 7
     (cond (leb 64 (length (pick ms (gather rs))) && not (member (idOf m) (pick ms (gather rs)))) 8 0))))
 numberOn ms (inserting pos len) t rs = refusal (inserting pos len) (viewOf t (total rs) ms rs)
@@ -78,7 +77,7 @@ canon-after ms (removing id last) t rs c = canon-altered rs _ (last + 1) (changi
 
 module _ (ms : List Mark) (sorted : Sorted ms) where
   pub refusal-on : (e : Edit) (t : Bool) (rs : List Run) → Canon rs → refusal e (viewOf t (total rs) ms rs) ≡ numberOn ms e t rs
-  unfolding refusal numberOn empty over long notNumber clashes full
+  unfolding refusal numberOn empty over long ownNumber clashes full
   refusal-on (annotating a b m) t rs c =
       let all = gathered-is ms sorted rs c in
       rw (any-clash m ms (setAt rs) (total rs) (gather rs) sorted all, all)

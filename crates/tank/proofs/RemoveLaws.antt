@@ -22,7 +22,7 @@ use Rattle.runs.specs.Scan.{meets, CanScan}
 use Rattle.runs.proofs.ScanLaws.{stretch-le, stretch-end, stretch-ext}
 use Rattle.tank.specs.declared.Tank.{Tank}
 use Rattle.tank.specs.declared.Removed.{Removed}
-use Rattle.tank.specs.Rules.{View, removing, after, backFrom, stripped, afterRemove, empty, over, long, notNumber, clashes, full, refusal, removedFirst}
+use Rattle.tank.specs.Rules.{View, removing, after, backFrom, stripped, afterRemove, empty, over, long, ownNumber, clashes, full, refusal, removedFirst}
 use Rattle.tank.specs.State.{runsOf, tableOf, view, Laid, Formed, Sound, Called}
 use Rattle.tank.specs.Steps.{Trimmed, CanStrip}
 use Rattle.tank.proofs.Calls.{number-4, number-0, when-refused, refused, made}
@@ -73,7 +73,7 @@ module _ {t : Tank} (s : Sound t) (id : Identity) (last : ℕ) where
 
   module _ (fits : last < t .length) where
     accepted : refusal (removing id last) (view t) ≡ 0
-    unfolding empty over long notNumber clashes full view
+    unfolding empty over long ownNumber clashes full view
     accepted = number-0 (removing id last) (view t) refl (lt-leb (t .length) last fits) refl refl refl refl
 
     first-is : {first : ℕ} → first ≡ backFrom id last (view t) → first ≡ removedFirst id last (view t)

@@ -8,7 +8,7 @@ use lib.Dec.{eqb}
 use borrow.Author.Tests.{ltb-false, eqb-true}
 use Rattle.styles.specs.declared.Identity.{Identity}
 use Rattle.styles.specs.Marks.{only}
-use Rattle.tank.specs.Rules.{View, freshLength, freshView, Edit, annotating, inserting, deleting, removing, afterAnnotate, afterInsert, afterDelete, afterRemove, stripped, after, empty, over, long, notNumber, clashes, full, refusal}
+use Rattle.tank.specs.Rules.{View, freshLength, freshView, Edit, annotating, inserting, deleting, removing, afterAnnotate, afterInsert, afterDelete, afterRemove, stripped, after, empty, over, long, ownNumber, clashes, full, refusal, firstRefusal}
 use Rattle.runs.specs.Positions.{within}
 use Rattle.tank.specs.Lengths.{gained, lost, annotates}
 use Rattle.tank.proofs.ViewLaws.{view-ext}
@@ -40,7 +40,7 @@ sumOf f (c ∷ cs) v = cond (acceptedBy c v) (f (c .edit)) 0 + sumOf f cs (after
 -- ---- a call is refused, or is of some positions, within the length
 pub accepted-fits : (e : Edit) (v : View) → refusal e v ≡ 0 → (empty e ≡ false) × (over e v ≡ false)
 unfolding refusal
-accepted-fits e v = go (empty e) (over e v) (cond (long e v) 5 (cond (notNumber e) 6 (cond (clashes e v) 7 (cond (full e v) 8 0))))
+accepted-fits e v = go (empty e) (over e v) (cond (long e v) 5 (firstRefusal (ownNumber e) (cond (clashes e v) 7 (cond (full e v) 8 0))))
   where
     go : (a b : Bool) (n : ℕ) → cond a 3 (cond b 4 n) ≡ 0 → (a ≡ false) × (b ≡ false)
     go true b n h = absurd (omega arith)

@@ -6,7 +6,7 @@ use native.Mathlib.Omega.{arith}
 use native.Mathlib.Decide.{decLt}
 use borrow.Author.Tests.{lt-ltb, le-ltb, lt-leb, eqb-false, ltb-false}
 use Rattle.runs.specs.Positions.{insertedAt, deletedAt}
-use Rattle.tank.specs.Rules.{View, inherited, afterInsert, afterDelete, inserting, deleting, after, empty, over, long, notNumber, clashes, full, refusal}
+use Rattle.tank.specs.Rules.{View, inherited, afterInsert, afterDelete, inserting, deleting, after, empty, over, long, ownNumber, clashes, full, refusal}
 use Rattle.tank.proofs.Sequences.{accepted-fits}
 use Rattle.tank.proofs.ViewLaws.{view-ext}
 
@@ -37,7 +37,7 @@ module _ (pos len : ℕ) (v : View) (touched : v .touched ≡ true) where
       ∙ view-ext (afterDelete pos (pos + len) filled) v (omega arith) (sym touched) (back-at pos len (inherited pos v) (v .at))
 
   filled-free : empty (inserting pos len) ≡ false → over (inserting pos len) v ≡ false → refusal (deleting pos (pos + len)) filled ≡ 0
-  unfolding filled refusal empty over long notNumber clashes full
+  unfolding filled refusal empty over long ownNumber clashes full
   filled-free some fits =
       let some′ = eqb-false len 0 some in
       let fits′ = ltb-false (v .length) pos fits in

@@ -1,11 +1,13 @@
--- Document 01, "What a tank means" and refusals 3 to 8: a tank by its positions.
+-- Document 01, "What a tank means" and refusals 3 to 8 and 14: a tank by its positions.
 -- A set of marks is a list of them, sorted by identity. Nothing here knows how a tank is stored.
 use Prim.Native.Nat.{ℕ, zero, suc, _+_, _-_}
-use mathlib.Core.Bool.{Bool, true, false, cond, _&&_, not}
+use mathlib.Core.Bool.{Bool, true, false, cond, _&&_, _||_, not}
 use mathlib.Core.List.{List, [], _∷_}
 use lib.Dec.{ltb, leb, eqb}
 use lib.ListN.{length}
 use Rattle.runs.specs.Positions.{alteredAt, deletedAt, insertedAt, anyAt, stretchCount, stretchTo}
+use Rattle.richtext.specs.declared.ExpandType.the-variants.{Before, After, Both, None}
+use Rattle.richtext.specs.Flags.{newByte}
 use Rattle.styles.specs.declared.Identity.{Identity}
 use Rattle.styles.specs.declared.Mark.{Mark}
 use Rattle.styles.specs.Order.{idOf, sameId}
@@ -112,6 +114,15 @@ after (inserting pos len) v = afterInsert pos len v
 after (deleting a b) v = afterDelete a b v
 after (removing id last) v = afterRemove id last v
 
+-- ---- Numbers: 0 for accepted, else a refusal's
+-- what is given where the number is 0, and what stands for it beside a refusal
+abbrev pub whenAccepted : {A : Type 0} → ℕ → A → A → A
+whenAccepted number given refused = cond (eqb number 0) given refused
+
+-- the first number, or the second where the first is 0
+abbrev pub firstRefusal : ℕ → ℕ → ℕ
+firstRefusal n m = whenAccepted n m n
+
 -- ---- Refusals
 -- 3: an empty range, or inserted length 0
 unfoldable pub empty : Edit → Bool
@@ -138,12 +149,21 @@ long (inserting pos len) v = v .touched && ltb largest (v .length + len)
 long (deleting a b) v = false
 long (removing id last) v = false
 
--- 6: the value is NaN
-unfoldable pub notNumber : Edit → Bool
-notNumber (annotating a b m) = valueNan (m .value)
-notNumber (inserting pos len) = false
-notNumber (deleting a b) = false
-notNumber (removing id last) = false
+-- the flag byte is one that a type makes: None's, Before's, After's or Both's
+unfoldable pub madeFlag : ℕ → Bool
+madeFlag f = eqb f (newByte None) || (eqb f (newByte Before) || (eqb f (newByte After) || eqb f (newByte Both)))
+
+-- what a mark is refused by whatever the tank carries: 6, the value is NaN; 14, an odd flag byte; 0 for neither. A mark that a tank carries may
+-- have any byte
+unfoldable pub markNumber : Mark → ℕ
+markNumber m = cond (valueNan (m .value)) 6 (cond (madeFlag (m .flags)) 0 14)
+
+-- 6 and 14: only an annotate hands a mark in
+unfoldable pub ownNumber : Edit → ℕ
+ownNumber (annotating a b m) = markNumber m
+ownNumber (inserting pos len) = 0
+ownNumber (deleting a b) = 0
+ownNumber (removing id last) = 0
 
 -- the set has the mark's identity with another value or flag byte
 unfoldable pub clash : Mark → List Mark → Bool
@@ -164,25 +184,17 @@ full (inserting pos len) v = false
 full (deleting a b) v = false
 full (removing id last) v = false
 
--- the lowest of 3 to 8 that applies, 0 for none
+-- the first that applies of 3, 4, 5, 6, 14, 7 and 8, in this order; 0 for none
 unfoldable pub refusal : Edit → View → ℕ
 refusal e v =
     cond (empty e) 3
     (cond (over e v) 4
     (cond (long e v) 5
-    (cond (notNumber e) 6
+    (firstRefusal (ownNumber e)
     (cond (clashes e v) 7
     (cond (full e v) 8 0)))))
 
 -- ---- A call's number, and what stands beside it
--- what is given where the number is 0, and what stands for it beside a refusal
-abbrev pub whenAccepted : {A : Type 0} → ℕ → A → A → A
-whenAccepted number given refused = cond (eqb number 0) given refused
-
--- the first number, or the second where the first is 0
-abbrev pub firstRefusal : ℕ → ℕ → ℕ
-firstRefusal n m = whenAccepted n m n
-
 -- the tank after a call: a refused one leaves it as it was
 abbrev pub afterCall : Edit → View → View
 afterCall e v = whenAccepted (refusal e v) (after e v) v

@@ -1,11 +1,11 @@
-// One tank by value: its runs over a table of marks, and the four edits, each judged by refusals 3 to 8.
+// One tank by value: its runs over a table of marks, and the four edits, each judged by refusals 3 to 8 and 14.
 ghost use mathlib.Core.Path.{_≡_};
 ghost use Prim.Native.Nat.{_≤_};
 ghost use lib.ListN.{take};
 ghost use mathlib.Core.List.{[]};
 ghost use Rattle.styles.specs.Marks.{Sorted};
 ghost use Rattle.styles.specs.Answers.{stylesOf};
-ghost use Rattle.tank.specs.Rules.{freshView, annotating, inserting, deleting, removing, insertedSet, removedFirst};
+ghost use Rattle.tank.specs.Rules.{freshView, madeFlag, markNumber, annotating, inserting, deleting, removing, insertedSet, removedFirst};
 ghost use Rattle.tank.specs.State.{view, Sound, Called};
 ghost use Rattle.tank.specs.Steps.{roomFor};
 
@@ -52,6 +52,36 @@ enum Room {
     New(usize),
     Clash,
     Full,
+}
+
+// Is it a flag byte that a type makes?
+fn made_flag(flags: u8) -> bool
+    ensures { λ r. ⌜ r ≡ madeFlag flags ⌝ }
+{
+    if flags == 0x80 {
+        return true;
+    }
+    if flags == 0x82 {
+        return true;
+    }
+    if flags == 0x84 {
+        return true;
+    }
+    flags == 0x86
+}
+
+// What a mark is refused by whatever the tank carries: 6 for a NaN, 14 for an odd flag byte, else 0.
+fn mark_number(mark: Mark) -> u64
+    ensures { λ r. ⌜ r ≡ markNumber mark ⌝ }
+{
+    let value = mark.value;
+    if styles::values::value_is_nan(value) {
+        return 6;
+    }
+    if made_flag(mark.flags) {
+        return 0;
+    }
+    14
 }
 
 fn room_for(table: [Mark; 64], n: usize, mark: Mark) -> Room
@@ -122,10 +152,10 @@ impl Tank {
                 tank: self,
             };
         }
-        let value = mark.value;
-        if styles::values::value_is_nan(value) {
+        let own = mark_number(mark);
+        if 0 < own {
             return Edited {
-                number: 6,
+                number: own,
                 tank: self,
             };
         }

@@ -14,7 +14,7 @@ use Rattle.tanks.specs.House.{House, tankAt, held, refusalAt, Call, afte
 use Rattle.tanks.specs.Pool.{runsIn, meaning, Sound}
 use Rattle.tanks.specs.Contracts.{Opens, CalledAt, Calls, noCall, call}
 use Rattle.tanks.proofs.MeaningLaws.{held-is}
-use Rattle.tanks.proofs.Theorems.{kept-sound, delete-free, within-limits, never-9-or-10}
+use Rattle.tanks.proofs.Theorems.{kept-sound, NoWant, delete-free, within-limits, never-9-or-10}
 
 pub calls-mean : {s last : Tanks} {cs : List Call} → Calls s cs last → meaning last ≡ afterAll (meaning s) cs
 unfolding afterAll
@@ -40,5 +40,5 @@ module _ (st : List Setting) (l : length st ≡ 8) (ok : accepted st ≡ true) (
       omega (arith, held-is s (calls-sound (opened .sound) calls) u h, ap (λ (x : House). held x u) means, within-limits st l ok cs u h)
 
   -- none can be starved of its share
-  pub share-kept : (t : ℕ) (e : Edit) → t < 8 → runsHeld (after e (tankAt (meaning s) t)) ≤ shareOf st t → refusalAt (meaning s) t e ≤ 8
+  pub share-kept : (t : ℕ) (e : Edit) → t < 8 → runsHeld (after e (tankAt (meaning s) t)) ≤ shareOf st t → NoWant (refusalAt (meaning s) t e)
   share-kept t e t8 le = rw means (never-9-or-10 st l ok cs t e t8 (rw means at le))

@@ -13,7 +13,8 @@ use Rattle.laws.proofs.Cases.{cond-by}
 use Rattle.styles.specs.declared.Identity.{Identity}
 use Rattle.runs.specs.Positions.{sumBelow}
 use Rattle.runs.proofs.SumLaws.{sum-least}
-use Rattle.tank.specs.Rules.{View, freshView, runsHeld, Edit, inserting, deleting, removing, after, empty, over, long, notNumber, clashes, full, refusal}
+use Rattle.tank.specs.Rules.{View, freshView, runsHeld, Edit, inserting, deleting, removing, after, empty, over, long, ownNumber, clashes, full, refusal}
+use Rattle.tank.proofs.Calls.{number-by}
 use Rattle.tank.proofs.Sequences.{accepted-fits}
 use Rattle.tank.proofs.DeleteCount.{delete-fewer}
 use Rattle.tanks.specs.declared.Setting.{Setting}
@@ -111,16 +112,23 @@ others-stay h t e u ne =
 pub ten-then : (h : House) (t : ℕ) (e : Edit) → Ten h t e → refusalAt h t e ≡ 10
 ten-then h t e p = refusal-in h t e (p .tank) ∙ rw (p .own) (judge-10 (h .settings) (held h) t _ (p .limit) (p .over))
 
--- the tank's own numbers are 3 to 8
-own-most : (e : Edit) (v : View) → refusal e v ≤ 8
-unfolding refusal
-own-most e v =
-    let most : ℕ → Type 0 = λ x. x ≤ 8 in
-    cond-by most (empty e) (omega arith)
-    (cond-by most (over e v) (omega arith)
-    (cond-by most (long e v) (omega arith)
-    (cond-by most (notNumber e) (omega arith)
-    (cond-by most (clashes e v) (omega arith) (cond-by most (full e v) (omega arith) (omega arith))))))
+-- a number that is neither 9 nor 10
+abbrev pub NoWant : ℕ → Type 0
+NoWant n = (n ≢ 9) × (n ≢ 10)
+
+-- the tank's own numbers are 3 to 8 and 14
+own-free : (e : Edit) (v : View) → NoWant (refusal e v)
+own-free e v =
+    number-by NoWant
+    (λ z. omega arith, λ z. omega arith)
+    (λ z. omega arith, λ z. omega arith)
+    (λ z. omega arith, λ z. omega arith)
+    (λ z. omega arith, λ z. omega arith)
+    (λ z. omega arith, λ z. omega arith)
+    (λ z. omega arith, λ z. omega arith)
+    (λ z. omega arith, λ z. omega arith)
+    (λ z. omega arith, λ z. omega arith)
+    e v
 
 -- where the tank's own rules refuse, that is the number
 own-first : (h : House) (t : ℕ) (e : Edit) → t < 8 → refusal e (tankAt h t) ≢ 0 → refusalAt h t e ≡ refusal e (tankAt h t)
@@ -136,7 +144,7 @@ ten-only h t e ten =
       | no l ↦ absurd (omega (arith, refusal-past h t e (omega arith)))
       | yes l ↦
           elim (ℕ-discrete (refusal e (tankAt h t)) 0) [
-            | no ne ↦ absurd (omega (arith, own-first h t e l ne, own-most e (tankAt h t)))
+            | no ne ↦ absurd (own-free e (tankAt h t) .1 (sym (own-first h t e l ne) ∙ ten))
             | yes z ↦
                 let j = sym (judged-next h t e l z) ∙ ten in
                 let n : ℕ = runsHeld (after e (tankAt h t)) in
@@ -178,16 +186,16 @@ own-number h t e kept t8 le =
       | yes z ↦ judged-next h t e t8 z ∙ no-more-judged h t _ (le z) kept t8 ∙ sym z
     ]
 
--- at or under its share: 8 or less
+-- at or under its share: neither 9 nor 10
 pub share-free : (h : House) (t : ℕ) (e : Edit) → Kept h → t < 8 → runsHeld (after e (tankAt h t)) ≤ shareOf (h .settings) t
-    → (refusalAt h t e ≡ refusal e (tankAt h t)) × (refusalAt h t e ≤ 8)
+    → (refusalAt h t e ≡ refusal e (tankAt h t)) × NoWant (refusalAt h t e)
 share-free h t e kept t8 le =
     let f = own-number h t e kept t8 (λ _. omega arith) in
-    (f, omega (arith, f, own-most e (tankAt h t)))
+    (f, subst NoWant (sym f) (own-free e (tankAt h t)))
 
 -- ---- a deletion: its own numbers are 3 and 4, and an accepted one leaves no more runs
 delete-most : (a b : ℕ) (v : View) → refusal (deleting a b) v ≤ 4
-unfolding refusal long notNumber clashes full
+unfolding refusal long ownNumber clashes full
 delete-most a b v =
     cond-by (λ (x : ℕ). x ≤ 4) (empty (deleting a b)) (omega arith) (cond-by (λ (x : ℕ). x ≤ 4) (over (deleting a b) v) (omega arith) (omega arith))
 
@@ -281,7 +289,7 @@ module _ (st : List Setting) (l : length st ≡ 8) (ok : accepted st ≡ true) (
   runs-512 = omega (arith, runs-claims st (held (reached st cs)) 8, within-512)
 
   -- an edit that leaves its tank at or under its share is refused by neither 9 nor 10
-  pub never-9-or-10 : (t : ℕ) (e : Edit) → t < 8 → runsHeld (after e (tankAt (reached st cs) t)) ≤ shareOf st t → refusalAt (reached st cs) t e ≤ 8
+  pub never-9-or-10 : (t : ℕ) (e : Edit) → t < 8 → runsHeld (after e (tankAt (reached st cs) t)) ≤ shareOf st t → NoWant (refusalAt (reached st cs) t e)
   never-9-or-10 t e t8 le = share-free (reached st cs) t e reached-kept t8 (rw reached-settings le) .1
 
   -- a deletion is refused by neither, however many runs the tanks hold

@@ -55,7 +55,7 @@ noTank t = leb 8 t
 abbrev pub askNumber : ℕ → ℕ
 askNumber t = cond (noTank t) 1 0
 
--- an edit's number, the lowest that applies, 0 for none: 1, then the tank's own 3 to 8, then 9 and 10 by the runs that it would hold
+-- an edit's number, the first that applies, 0 for none: 1, then the tank's own (`refusal`), then 9 and 10 by the runs that it would hold
 unfoldable pub refusalAt : House → ℕ → Edit → ℕ
 refusalAt h t e =
     cond (noTank t) 1

@@ -7,7 +7,7 @@ use crate::mark::{Content, Id, Mark, Value};
 use crate::mirror;
 use crate::random::Random;
 use crate::tank::{Tank, LONGEST, T};
-use crate::tanks::Tanks;
+use crate::tanks::{Tanks, FLAGS};
 
 /// What a class of scripts is like.
 #[derive(Clone, Copy)]
@@ -170,6 +170,9 @@ impl Author {
         let mut content = usual(id);
         if !self.habit.inside && self.random.one_in(25) {
             content = Content { flags: content.flags, value: self.value() };
+        }
+        if !self.habit.inside && self.random.one_in(60) {
+            content.flags ^= 2 << self.random.below(2);
         }
         if !self.habit.inside && self.random.one_in(60) {
             content.flags ^= 1 << self.random.below(8);
@@ -348,5 +351,5 @@ pub fn identity(number: u64) -> Id {
 /// The content that an identity mostly comes with.
 pub fn usual(id: Id) -> Content {
     let number = id.0 as u64 + 3 * id.1 as u64 + 5 * (id.2 % 1000);
-    Content { flags: (number * 37 % 256) as u8, value: VALUES[number as usize % VALUES.len()] }
+    Content { flags: FLAGS[number as usize % FLAGS.len()], value: VALUES[number as usize % VALUES.len()] }
 }

@@ -68,7 +68,7 @@ fn ranges() -> Vec<Call> {
     for tank in [8, 256, 1 << 32, u64::MAX] {
         calls.extend(every(tank, 0, 1));
     }
-    for touch in [None, Some(annotate(0, 0, T, with(Value::Null, 0)))] {
+    for touch in [None, Some(annotate(0, 0, T, with(Value::Null, 0x80)))] {
         calls.extend(touch);
         calls.extend(every(0, 5, 5));
         calls.extend(every(0, T - 1, T));
@@ -108,7 +108,7 @@ fn longest() -> Vec<Call> {
     ]
 }
 
-/// Refusals 6, 7 and 8.
+/// Refusals 6, 14, 7 and 8.
 fn contents() -> Vec<Call> {
     let tank = 0;
     let zero = Value::Decimal(0);
@@ -122,6 +122,10 @@ fn contents() -> Vec<Call> {
         annotate(tank, 0, 4, with(zero, 0x84)),
         annotate(tank, 4, 6, with(minus, 0x84)),
         annotate(tank, 4, 6, with(zero, 0x04)),
+        annotate(tank, 4, 6, with(zero, 0x80)),
+        annotate(tank, 4, 6, with(zero, 0x41)),
+        annotate(tank, 4, 6, with(NAN, 0x41)),
+        annotate(tank, 6, 4, with(zero, 0x41)),
         annotate(tank, 4, 6, with(Value::Whole(0), 0x84)),
         annotate(tank, 4, 6, with(NAN, 0x84)),
         ask(0, 4, minus),
@@ -132,6 +136,7 @@ fn contents() -> Vec<Call> {
         annotate(tank, 4, 6, with(minus, 0x84)),
         Call::Value { tank, at: 5, key: 1 },
         annotate(1, 0, 1, with(zero, 0x00)),
+        annotate(1, 0, 1, with(zero, 0x80)),
         Call::Delete { tank, start: 4, end: 6 },
     ];
     calls.extend((1..=65).map(|peer| annotate(tank, peer, peer + 70, mark(peer))));

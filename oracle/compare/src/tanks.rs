@@ -10,6 +10,8 @@ use crate::tank::{self, Tank, LONGEST};
 pub const POOL: u64 = 512;
 /// Different marks that one tank carries at most.
 pub const MARKS: usize = 64;
+/// The flag bytes that an annotate may carry.
+pub const FLAGS: [u8; 4] = [0x80, 0x82, 0x84, 0x86];
 /// The console's own buffers, in u64 and in anchor records.
 const STRETCH_ROOM: u64 = 1536;
 const ANCHOR_ROOM: u64 = 32768;
@@ -86,6 +88,7 @@ impl Tanks {
     fn annotate(&mut self, tank: u64, start: u64, end: u64, mark: Mark) -> Judged<Answer> {
         self.edit_range(tank, start, end)?;
         refuse_if(mark.content.value.is_nan(), 6)?;
+        refuse_if(!FLAGS.contains(&mark.content.flags), 14)?;
         let carried = self.tank(tank).carried();
         let known = carried.get(&mark.id);
         refuse_if(known.is_some_and(|content| *content != mark.content), 7)?;

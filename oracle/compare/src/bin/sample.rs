@@ -100,6 +100,7 @@ fn wanted() -> Vec<&'static str> {
         "refused 9",
         "refused 10",
         "refused 11",
+        "refused 14",
         "open: accepted",
         "annotate: accepted",
         "delete: accepted",

@@ -4,7 +4,7 @@ use borrow.Author.Needs.{needs}
 use Rattle.tank.proofs.AnnotateLaws.{
   refused-3,
   refused-4,
-  refused-6,
+  refused-own,
   refused-7,
   refused-8,
   can-lay,
@@ -12,6 +12,7 @@ use Rattle.tank.proofs.AnnotateLaws.{
   can-admit,
   can-lay-new,
   new-done,
+  none-own,
 }
 use Rattle.tank.proofs.Tank.annotate.Statement.{statement}
 use Rattle.tank.proofs.Tank.annotate.Tie as tie
@@ -30,7 +31,7 @@ returns-3 c =
     let f = c .before .before in
     let e = f .before .before in
     let s = e .before in
-    refused-6 (s .pre) (s .args .start) (s .args .end) (s .args .mark) (e .if1 .left) (f .if2 .left) (sym (c .before .value-is-nan .ensures) ∙ c .if3 .taken)
+    refused-own (s .pre) (s .args .start) (s .args .end) (s .args .mark) (e .if1 .left) (f .if2 .left) _ (c .before .mark-number .ensures) (c .if3 .taken)
 
 room-for-requires : tie.Need-room-for-requires
 room-for-requires c κs =
@@ -45,7 +46,7 @@ lay-requires c κs =
     let e = f .before .before in
     let s = e .before in
     can-lay (s .pre) (s .args .start) (s .args .end) (s .args .mark) (e .if1 .left) (f .if2 .left)
-    (sym (g .before .value-is-nan .ensures) ∙ g .if3 .left) _ (sym (m .room-for .ensures) ∙ c .before .room .given .1)
+    (none-own (s .args .mark) _ (g .before .mark-number .ensures) (g .if3 .left)) _ (sym (m .room-for .ensures) ∙ c .before .room .given .1)
 
 admit-requires : tie.Need-admit-requires
 admit-requires c κs =
@@ -55,7 +56,7 @@ admit-requires c κs =
     let e = f .before .before in
     let s = e .before in
     can-admit (s .pre) (s .args .start) (s .args .end) (s .args .mark) (e .if1 .left) (f .if2 .left)
-    (sym (g .before .value-is-nan .ensures) ∙ g .if3 .left) _ (sym (m .room-for .ensures) ∙ c .before .room2 .given .1)
+    (none-own (s .args .mark) _ (g .before .mark-number .ensures) (g .if3 .left)) _ (sym (m .room-for .ensures) ∙ c .before .room2 .given .1)
 
 lay-requires-2 : tie.Need-lay-requires-2
 lay-requires-2 c κs =
@@ -65,7 +66,7 @@ lay-requires-2 c κs =
     let e = f .before .before in
     let s = e .before in
     can-lay-new (s .pre) (s .args .start) (s .args .end) (s .args .mark) (e .if1 .left) (f .if2 .left)
-    (sym (g .before .value-is-nan .ensures) ∙ g .if3 .left) _ (sym (m .room-for .ensures) ∙ c .before .before .room2 .given .1)
+    (none-own (s .args .mark) _ (g .before .mark-number .ensures) (g .if3 .left)) _ (sym (m .room-for .ensures) ∙ c .before .before .room2 .given .1)
     (c .admit .ensures)
 
 returns-4 : tie.Need-returns-4
@@ -76,7 +77,7 @@ returns-4 c =
     let e = f .before .before in
     let s = e .before in
     refused-7 (s .pre) (s .args .start) (s .args .end) (s .args .mark) (e .if1 .left) (f .if2 .left)
-    (sym (g .before .value-is-nan .ensures) ∙ g .if3 .left) (sym (m .room-for .ensures) ∙ c .enum-told .given .1)
+    (none-own (s .args .mark) _ (g .before .mark-number .ensures) (g .if3 .left)) (sym (m .room-for .ensures) ∙ c .enum-told .given .1)
 
 returns-5 : tie.Need-returns-5
 returns-5 c =
@@ -86,7 +87,7 @@ returns-5 c =
     let e = f .before .before in
     let s = e .before in
     refused-8 (s .pre) (s .args .start) (s .args .end) (s .args .mark) (e .if1 .left) (f .if2 .left)
-    (sym (g .before .value-is-nan .ensures) ∙ g .if3 .left) (sym (m .room-for .ensures) ∙ c .enum-told2 .given .1)
+    (none-own (s .args .mark) _ (g .before .mark-number .ensures) (g .if3 .left)) (sym (m .room-for .ensures) ∙ c .enum-told2 .given .1)
 
 returns-6 : tie.Need-returns-6
 returns-6 c =
@@ -96,7 +97,7 @@ returns-6 c =
     let e = f .before .before in
     let s = e .before in
     known-done (s .pre) (s .args .start) (s .args .end) (s .args .mark) (e .if1 .left) (f .if2 .left)
-    (sym (g .before .value-is-nan .ensures) ∙ g .if3 .left) _ (sym (m .room-for .ensures) ∙ c .before .before .room .given .1)
+    (none-own (s .args .mark) _ (g .before .mark-number .ensures) (g .if3 .left)) _ (sym (m .room-for .ensures) ∙ c .before .before .room .given .1)
     (c .lay .ensures)
 
 returns-7 : tie.Need-returns-7
@@ -107,7 +108,7 @@ returns-7 c =
     let e = f .before .before in
     let s = e .before in
     new-done (s .pre) (s .args .start) (s .args .end) (s .args .mark) (e .if1 .left) (f .if2 .left)
-    (sym (g .before .value-is-nan .ensures) ∙ g .if3 .left) _ (sym (m .room-for .ensures) ∙ c .before .before .before .room2 .given .1)
+    (none-own (s .args .mark) _ (g .before .mark-number .ensures) (g .if3 .left)) _ (sym (m .room-for .ensures) ∙ c .before .before .before .room2 .given .1)
     (c .before .admit .ensures) (c .lay2 .ensures)
 
 pub annotate-spec : {M : Type 1} → statement M
