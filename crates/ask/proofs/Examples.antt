@@ -15,7 +15,7 @@ use Rattle.runs.specs.Gather.{gather}
 use Rattle.runs.specs.Positions.{anyAt, stretchTo, allAt}
 use Rattle.runs.specs.Scan.{commonAt}
 use Rattle.runs.specs.Positions.{sumBelow}
-use Rattle.tank.specs.Rules.{View, Edit, annotating, inserting, deleting, removing, inherited, forInsert, backFrom, empty, over, long, madeFlag, markNumber, ownNumber, clash, clashes, full, refusal}
+use Rattle.tank.specs.Rules.{View, Edit, annotating, inserting, deleting, removing, inherited, forInsert, backFrom, empty, over, long, madeFlag, retiredFlag, markNumber, ownNumber, clash, clashes, full, refusal}
 use Rattle.tank.proofs.Counted.{counted}
 use Rattle.tank.proofs.OnRuns.{known, numberOn, runsAfter, touchedAfter}
 use Rattle.lists.specs.Anchors.{anchors, anchorsOf}
@@ -227,5 +227,5 @@ unfolding table found claimed abc accepted allAt sumBelow
     numberAt allAfter step steps tried may judgement known numberOn runsAfter touchedAfter ranges rangeOf anchorsOn edges anchorsOf
     altered deleted inserted copyRuns pushRun joinRun changing gather commonAt setAt total
     pick withBit placeOf member stands numbers clash sameContent only hasKey winner winners
-    refusal empty over long ownNumber markNumber madeFlag clashes full forInsert inherited backFrom stretchTo anyAt yesNo yesNoRefusal
+    refusal empty over long ownNumber markNumber madeFlag retiredFlag clashes full forInsert inherited backFrom stretchTo anyAt yesNo yesNoRefusal
 examples = all-hold table refl

@@ -14,7 +14,7 @@ use Rattle.laws.proofs.Lists.{map-set}
 use Rattle.text.specs.Bytes.{sameOf}
 use Rattle.config.specs.Names.{holdsColon}
 use Rattle.config.specs.Table.{Named, Table, find, place, entered, refuses, withEntry, styleFor}
-use Rattle.config.specs.Meaning.{blankEntry, noEntry, entryOf, nameIn, namedOf, styleIn, configured, entryAt, stored, Tidy, Sound, Means, Inserts}
+use Rattle.config.specs.Meaning.{blankEntry, noEntry, entryOf, nameIn, namedOf, styleIn, configured, entryAt, stored, Tidy, Sound, Means, Enters}
 use Rattle.config.specs.declared.Entry.{Entry}
 use Rattle.config.specs.declared.MaybeStyle.{MaybeStyle}
 use Rattle.config.specs.declared.MaybeStyle.the-variants.{Style, Nothing}
@@ -138,7 +138,7 @@ module _ (m : StyleConfigMap) (s : Sound m) (k : List ℕ) (v : StyleConfig) (sh
       }
 
   -- at the place of a known name
-  stored-known : place k (configured m .entries) < m .count → Inserts m k v (record { refusal = 0; map = stored m (place k (configured m .entries)) (entryOf k v) })
+  stored-known : place k (configured m .entries) < m .count → Enters m k v (record { refusal = 0; map = stored m (place k (configured m .entries)) (entryOf k v) })
   stored-known h =
       let at : ℕ = place k (configured m .entries) in
       let es : List Named = configured m .entries in
@@ -155,7 +155,7 @@ module _ (m : StyleConfigMap) (s : Sound m) (k : List ℕ) (v : StyleConfig) (sh
       }
 
   -- after the last entry
-  stored-new : place k (configured m .entries) ≡ m .count → m .count < 32 → Inserts m k v (record { refusal = 0; map = stored m (m .count) (entryOf k v) })
+  stored-new : place k (configured m .entries) ≡ m .count → m .count < 32 → Enters m k v (record { refusal = 0; map = stored m (m .count) (entryOf k v) })
   stored-new h f =
       let es : List Named = configured m .entries in
       let l : length es ≡ m .count = length-configured m s in
@@ -171,7 +171,7 @@ module _ (m : StyleConfigMap) (s : Sound m) (k : List ℕ) (v : StyleConfig) (sh
       }
 
   -- a name with a place among the 32 is accepted
-  pub accepted : place k (configured m .entries) < 32 → Inserts m k v (record { refusal = 0; map = stored m (place k (configured m .entries)) (entryOf k v) })
+  pub accepted : place k (configured m .entries) < 32 → Enters m k v (record { refusal = 0; map = stored m (place k (configured m .entries)) (entryOf k v) })
   accepted h =
       elim (decLt (place k (configured m .entries)) (m .count)) [
         | yes p ↦ stored-known p
@@ -188,5 +188,5 @@ full m s k h =
     refuses-full k (configured m) (known-place k es .1 (omega arith)) (omega (arith, place-le k es))
 
 -- a refused insertion hands back the map as it was
-pub refused : (m : StyleConfigMap) → Sound m → (k : List ℕ) (v : StyleConfig) → refuses k (configured m) ≡ true → Inserts m k v (record { refusal = 19; map = m })
+pub refused : (m : StyleConfigMap) → Sound m → (k : List ℕ) (v : StyleConfig) → refuses k (configured m) ≡ true → Enters m k v (record { refusal = 19; map = m })
 refused m s k v r = record { refusal = rw r; table = record { sound = s; means = rw r } }

@@ -9,7 +9,7 @@ use Rattle.text.specs.Bytes.{bytes, upTo, holds, startsOf, sameOf}
 use Rattle.richtext.specs.Flags.{flagOf}
 use Rattle.richtext.specs.declared.ExpandType.the-variants.{Before, After, Both, None}
 use Rattle.config.specs.Names.{cut}
-use Rattle.config.specs.Table.{Table, known, find, entered, once, refuses, withEntry, withDefault}
+use Rattle.config.specs.Table.{Table, known, find, entered, once, refuses, withEntry, withDefault, insertNumber, defaultNumber}
 use Rattle.config.specs.BuiltIn.{growing, builtIns, builtIn}
 use Rattle.config.specs.Answers.{getSays, flagSays, unmarkSays}
 
@@ -72,6 +72,21 @@ appended = refl
 colon : refuses comment17 builtIn ≡ true
 unfolding comment17 holds known startsOf sameOf
 colon = refl
+
+-- a table from before change request 13 keeps its entry until that is replaced: Before is answered, and its reverse is Before
+before : Table
+before = record { entries = growing "old" Before ∷ []; default = none }
+
+kept-before : (getSays (bytes "old") before ≡ record { refusal = 0; value = some (record { expand = Before }) })
+    × (unmarkSays (bytes "old") before ≡ record { refusal = 0; value = some (flagOf 0x82) })
+unfolding before upTo find startsOf sameOf orElse
+kept-before = (refl, refl)
+
+-- 18 for the retired type, also where it would replace itself, and 19 before it
+retired-18 : (insertNumber (bytes "old") (record { expand = Before }) before ≡ 18) × (insertNumber (bytes "old") (record { expand = After }) before ≡ 0)
+    × (insertNumber comment17 (record { expand = Before }) before ≡ 19) × (defaultNumber (record { expand = Before }) ≡ 18)
+unfolding before comment17 holds known startsOf sameOf
+retired-18 = (refl, refl, refl, refl)
 
 -- each of the built-in names stands once
 seven : once builtIns ≡ true

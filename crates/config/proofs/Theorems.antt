@@ -1,7 +1,7 @@
 -- What the statements of `src/` come to: each public function has one result, a refusal changes nothing, and what an insertion does
 -- to later questions. Assumes nothing.
-use mathlib.Core.Path.{_≡_, sym, _∙_}
-use mathlib.Core.Bool.{true, false}
+use mathlib.Core.Path.{_≡_, refl, sym, _∙_}
+use mathlib.Core.Bool.{Bool, true, false, cond}
 use mathlib.Core.List.{List}
 use mathlib.Core.Option.{some}
 use Prim.Native.Nat.{ℕ, suc, _≤_, _<_}
@@ -10,9 +10,9 @@ use lib.ListN.{length, getD}
 use Rattle.text.specs.Bytes.{sameOf}
 use Rattle.text.proofs.Prefix.{same-refl, same-true}
 use Rattle.config.specs.Names.{holdsColon}
-use Rattle.config.specs.Table.{Named, find, place, entered, refuses, styleFor}
+use Rattle.config.specs.Table.{Named, Table, find, place, entered, refuses, retiredStyle, insertNumber, styleFor}
 use Rattle.config.specs.Answers.{said, saidFlag, getSays, flagSays, unmarkSays}
-use Rattle.config.specs.Meaning.{noEntry, namedOf, styleIn, configured, Sound, Inserts}
+use Rattle.config.specs.Meaning.{noEntry, namedOf, styleIn, configured, Sound, Means, Inserts, SetsDefault}
 use Rattle.config.specs.declared.Got.{Got}
 use Rattle.config.specs.declared.GotFlag.{GotFlag}
 use Rattle.config.specs.declared.Inserted.{Inserted}
@@ -22,13 +22,19 @@ use Rattle.config.proofs.TableLaws.{place-by}
 use Rattle.config.proofs.MapLaws.{length-configured, configured-at, style-default, one-map, one-means}
 use Rattle.config.proofs.AnswerLaws.{one-said, one-flag}
 
--- One result each: new, default_rich_text_config, set_default and clear_default by `one-means`; the others here
+-- One result each: new, default_rich_text_config and clear_default by `one-means`; the others here
+
+-- one number and one meaning are one answer
+one-inserted : (n : ℕ) (t : Table) (a b : Inserted) → a .refusal ≡ n → b .refusal ≡ n → Means t (a .map) → Means t (b .map) → a ≡ b
+one-inserted n t a b p q x y =
+    let e : a .map ≡ b .map = one-means t (a .map) (b .map) x y in
+    λ i. record { refusal = (p ∙ sym q) i; map = e i }
 
 pub one-insert : (m : StyleConfigMap) (k : List ℕ) (s : StyleConfig) (a b : Inserted) → Inserts m k s a → Inserts m k s b → a ≡ b
-one-insert m k s a b p q =
-    let n : a .refusal ≡ b .refusal = p .refusal ∙ sym (q .refusal) in
-    let e : a .map ≡ b .map = one-means _ (a .map) (b .map) (p .table) (q .table) in
-    λ i. record { refusal = n i; map = e i }
+one-insert m k s a b p q = one-inserted _ _ a b (p .refusal) (q .refusal) (p .table) (q .table)
+
+pub one-default : (m : StyleConfigMap) (s : StyleConfig) (a b : Inserted) → SetsDefault m s a → SetsDefault m s b → a ≡ b
+one-default m s a b p q = one-inserted _ _ a b (p .refusal) (q .refusal) (p .table) (q .table)
 
 pub one-get : (m : StyleConfigMap) (k : List ℕ) (a b : Got) → said a ≡ getSays k (configured m) → said b ≡ getSays k (configured m) → a ≡ b
 one-get m k a b p q = one-said a b (p ∙ sym q)
@@ -41,8 +47,14 @@ one-unmark-flag m k a b p q = one-flag a b (p ∙ sym q)
 
 -- Beside a refusal stands the very table that was handed in
 
-pub refused-same : (m : StyleConfigMap) → Sound m → (k : List ℕ) (s : StyleConfig) (r : Inserted) → Inserts m k s r → refuses k (configured m) ≡ true → r .map ≡ m
-refused-same m t k s r i e = one-map (r .map) m (i .table .sound) t (rw e at (i .table .means))
+pub refused-same : (m : StyleConfigMap) → Sound m → (k : List ℕ) (s : StyleConfig) (r : Inserted) → Inserts m k s r → 0 < insertNumber k s (configured m) → r .map ≡ m
+refused-same m t k s r i h =
+    one-map (r .map) m (i .table .sound) t (i .table .means ∙ stays-as (retiredStyle s) (refuses k (configured m)) _ (configured m) h)
+  where
+    stays-as : (b c : Bool) (x y : Table) → 0 < cond c 19 (cond b 18 0) → cond b y (cond c y x) ≡ y
+    stays-as true c x y l = refl
+    stays-as false true x y l = refl
+    stays-as false false x y l = absurd (omega arith)
 
 -- Names with a colon are never entries: `get` answers the default
 

@@ -8,7 +8,7 @@ use lib.ListN.{length, getD, take, drop, set, replicate}
 use lib.Dec.{eqb}
 use Rattle.richtext.specs.declared.ExpandType.the-variants.{Before}
 use Rattle.config.specs.Names.{holdsColon, zeros}
-use Rattle.config.specs.Table.{Named, Table, once, withEntry, refuses}
+use Rattle.config.specs.Table.{Named, Table, once, withEntry, refuses, insertNumber, afterInsert, defaultNumber, afterDefault}
 use Rattle.config.specs.Answers.{number}
 use Rattle.config.specs.declared.Entry.{Entry}
 use Rattle.config.specs.declared.Inserted.{Inserted}
@@ -79,7 +79,17 @@ pub record Means (t : Table) (m : StyleConfigMap) : Type 0 where
   pub sound : Sound m
   pub means : configured m ≡ t
 
--- what an insertion hands back: 19 or 0, and the table after it
-pub record Inserts (m : StyleConfigMap) (k : List ℕ) (s : StyleConfig) (r : Inserted) : Type 0 where
+-- what an entry hands back, whatever its type: 19 or 0, and the table after it
+pub record Enters (m : StyleConfigMap) (k : List ℕ) (s : StyleConfig) (r : Inserted) : Type 0 where
   pub refusal : r .refusal ≡ number (refuses k (configured m))
   pub table : Means (withEntry k s (configured m)) (r .map)
+
+-- what a new default hands back: 18 or 0, and the table after it
+pub record SetsDefault (m : StyleConfigMap) (s : StyleConfig) (r : Inserted) : Type 0 where
+  pub refusal : r .refusal ≡ defaultNumber s
+  pub table : Means (afterDefault s (configured m)) (r .map)
+
+-- what an insertion hands back: 19, 18 or 0, and the table after it
+pub record Inserts (m : StyleConfigMap) (k : List ℕ) (s : StyleConfig) (r : Inserted) : Type 0 where
+  pub refusal : r .refusal ≡ insertNumber k s (configured m)
+  pub table : Means (afterInsert k s (configured m)) (r .map)

@@ -7,6 +7,7 @@ use Prim.Native.Nat.{ℕ, suc}
 use lib.Dec.{leb}
 use lib.ListN.{length}
 use Rattle.text.specs.Bytes.{sameOf}
+use Rattle.richtext.specs.Types.{retired}
 use Rattle.config.specs.Names.{tooLong, holdsColon}
 use Rattle.config.specs.declared.StyleConfig.{StyleConfig}
 
@@ -53,13 +54,34 @@ once (x ∷ xs) = not (known (x .name) xs) && once xs
 abbrev pub refuses : List ℕ → Table → Bool
 refuses k t = tooLong k || (holdsColon k || (not (known k (t .entries)) && leb 32 (length (t .entries))))
 
--- the table after an insertion: as it was where that is refused
+-- the table with an entry: as it was where that is refused
 abbrev pub withEntry : List ℕ → StyleConfig → Table → Table
 withEntry k s t = cond (refuses k t) t (record { entries = entered k s (t .entries); default = t .default })
+
+-- ---- Before is retired
+-- the style of a retired type
+abbrev pub retiredStyle : StyleConfig → Bool
+retiredStyle s = retired (s .expand)
+
+-- an insertion's number: 19, then 18 for a retired type, 0 for neither
+abbrev pub insertNumber : List ℕ → StyleConfig → Table → ℕ
+insertNumber k s t = cond (refuses k t) 19 (cond (retiredStyle s) 18 0)
+
+-- the table after an insertion: as it was where that is refused
+abbrev pub afterInsert : List ℕ → StyleConfig → Table → Table
+afterInsert k s t = cond (retiredStyle s) t (withEntry k s t)
 
 -- with another default, or none
 abbrev pub withDefault : Option StyleConfig → Table → Table
 withDefault d t = record { entries = t .entries; default = d }
+
+-- a new default's number: 18 for a retired type
+abbrev pub defaultNumber : StyleConfig → ℕ
+defaultNumber s = cond (retiredStyle s) 18 0
+
+-- the table after a new default: as it was where that is refused
+abbrev pub afterDefault : StyleConfig → Table → Table
+afterDefault s t = cond (retiredStyle s) t (withDefault (some s) t)
 
 -- the style that a name has: its entry's, else the default
 abbrev pub styleFor : List ℕ → Table → Option StyleConfig

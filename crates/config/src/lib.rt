@@ -1,6 +1,8 @@
 // Which way each named style grows: a table of up to 32 names and an optional default, held by value.
 ghost use mathlib.Core.Path.{_≡_};
 ghost use mathlib.Core.List.{_++_};
+ghost use mathlib.Core.Bool.{cond};
+ghost use lib.Dec.{eqb};
 ghost use mathlib.Core.Option.{none, some};
 ghost use Prim.Native.Nat.{_-_, _≤_, _<_};
 ghost use lib.ListN.{length};
@@ -9,7 +11,7 @@ ghost use Rattle.config.specs.Names.{cut, zeros};
 ghost use Rattle.config.specs.Table.{emptyTable, place, styleFor, withDefault, withEntry};
 ghost use Rattle.config.specs.BuiltIn.{builtIn};
 ghost use Rattle.config.specs.Answers.{said, saidFlag, asked, getSays, flagSays, unmarkSays};
-ghost use Rattle.config.specs.Meaning.{entryOf, nameIn, styleIn, configured, stored, Tidy, Sound, Means, Inserts};
+ghost use Rattle.config.specs.Meaning.{entryOf, nameIn, styleIn, configured, stored, Tidy, Sound, Means, Enters, SetsDefault, Inserts};
 use richtext::ExpandType;
 use richtext::TextStyleInfoFlag;
 
@@ -20,6 +22,8 @@ const MAX_NAME: usize = 32;
 const COLON: u8 = b':';
 
 const REFUSED: u64 = 19;
+
+const RETIRED: u64 = 18;
 
 // How a style grows.
 pub struct StyleConfig {
@@ -78,10 +82,20 @@ pub struct StyleConfigMap {
     default_style: MaybeStyle,
 }
 
-// The refusal of an insertion, 0 where there is none, and the table after it.
+// The refusal of an insertion or of a new default, 0 where there is none, and the table after it.
 pub struct Inserted {
     pub refusal: u64,
     pub map: StyleConfigMap,
+}
+
+// The first number, or the second where the first is 0.
+fn first(number: u64, later: u64) -> u64
+    ensures { λ r. ⌜ r ≡ cond (eqb number 0) later number ⌝ }
+{
+    if number == 0 {
+        return later;
+    }
+    number
 }
 
 // The bytes of a name, and zeros after them.
@@ -155,11 +169,28 @@ impl StyleConfigMap {
         map.with(b"code", ExpandType::None)
     }
 
-    // A known name's style is replaced; a new name comes last. Refused: a name that holds a colon, a name over 32 bytes, a new name
-    // into 32 entries.
+    // A known name's style is replaced; a new name comes last. Refused: by 19 a name that holds a colon, a name over 32 bytes, a new name
+    // into 32 entries; then by 18 a retired type.
     pub fn insert(self, key: &[u8], value: StyleConfig) -> Inserted
         requires { ⌜ Sound self ⌝ }
         ensures { λ r. ⌜ Inserts self (now (key .entry)) value r ⌝ }
+    {
+        let done = self.enter(key, value);
+        let number = done.refusal;
+        let expand = value.expand;
+        if expand.retired() {
+            return Inserted {
+                refusal: first(number, RETIRED),
+                map: self,
+            };
+        }
+        done
+    }
+
+    // The same whatever the type.
+    fn enter(self, key: &[u8], value: StyleConfig) -> Inserted
+        requires { ⌜ Sound self ⌝ }
+        ensures { λ r. ⌜ Enters self (now (key .entry)) value r ⌝ }
     {
         if MAX_NAME < key.len() {
             return Inserted {
@@ -189,11 +220,27 @@ impl StyleConfigMap {
         requires { ⌜ Sound self ⌝ }
         ensures { λ r. ⌜ Means (withEntry (now (key .entry)) (record { expand = expand }) (configured self)) r ⌝ }
     {
-        self.insert(key, StyleConfig { expand }).map
+        self.enter(key, StyleConfig { expand }).map
     }
 
-    // The table with this default.
-    pub fn set_default(self, style: StyleConfig) -> StyleConfigMap
+    // The table with this default; a retired type is refused by 18.
+    pub fn set_default(self, style: StyleConfig) -> Inserted
+        requires { ⌜ Sound self ⌝ }
+        ensures { λ r. ⌜ SetsDefault self style r ⌝ }
+    {
+        let expand = style.expand;
+        if expand.retired() {
+            return Inserted {
+                refusal: RETIRED,
+                map: self,
+            };
+        }
+        let map = self.with_default(style);
+        Inserted { refusal: 0, map }
+    }
+
+    // The same whatever the type.
+    fn with_default(self, style: StyleConfig) -> StyleConfigMap
         requires { ⌜ Sound self ⌝ }
         ensures { λ r. ⌜ Means (withDefault (some style) (configured self)) r ⌝ }
     {

@@ -202,8 +202,11 @@ fn with_default(map: StyleConfigMap, expand: ExpandType) -> StyleConfigMap
 {
     say(b"default ");
     say_type(expand);
+    let done = map.set_default(StyleConfig::new().expand(expand));
+    say(b" = ");
+    say_number(done.refusal);
     say(b"\n");
-    map.set_default(StyleConfig::new().expand(expand))
+    done.map
 }
 
 pub(crate) fn defaults(map: StyleConfigMap)

@@ -22,6 +22,13 @@ growsAfter After = true
 growsAfter Both = true
 growsAfter None = false
 
+-- a type that no new mark and no entry of a config may have; marks and entries that have it keep it
+abbrev pub retired : ExpandType → Bool
+retired Before = true
+retired After = false
+retired Both = false
+retired None = false
+
 -- Both and None change places; Before and After stay
 abbrev pub reversed : ExpandType → ExpandType
 reversed Before = Before

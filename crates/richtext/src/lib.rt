@@ -1,7 +1,7 @@
 // How a style grows when text is inserted beside it, and the flag byte that a style carries.
 ghost use mathlib.Core.Path.{_≡_};
 ghost use Rattle.richtext.specs.Flags.{expandsBefore, expandsAfter, typeOf, beforeAt, flagOf, newByte, deletedByte};
-ghost use Rattle.richtext.specs.Types.{growsBefore, growsAfter, reversed, named};
+ghost use Rattle.richtext.specs.Types.{growsBefore, growsAfter, retired, reversed, named};
 
 const EXPAND_BEFORE_MASK: u8 = 0b0000_0010;
 
@@ -50,6 +50,18 @@ impl ExpandType {
             ExpandType::Before => false,
             ExpandType::After => true,
             ExpandType::Both => true,
+            ExpandType::None => false,
+        }
+    }
+
+    // Is it a type that no new mark and no entry of a config may have?
+    pub fn retired(self) -> bool
+        ensures { λ r. ⌜ r ≡ retired self ⌝ }
+    {
+        match self {
+            ExpandType::Before => true,
+            ExpandType::After => false,
+            ExpandType::Both => false,
             ExpandType::None => false,
         }
     }

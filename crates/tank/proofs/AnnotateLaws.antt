@@ -22,7 +22,7 @@ use Rattle.runs.specs.Gather.{gather}
 use Rattle.styles.proofs.Digits.{or-within}
 use Rattle.tank.specs.declared.Tank.{Tank}
 use Rattle.tank.specs.declared.Room.the-variants.{Known, New, Clash, Full}
-use Rattle.tank.specs.Rules.{View, madeFlag, annotating, after, afterAnnotate, empty, over, long, markNumber, ownNumber, clash, clashes, full, carried, runsHeld}
+use Rattle.tank.specs.Rules.{View, madeFlag, retiredFlag, annotating, after, afterAnnotate, empty, over, long, markNumber, ownNumber, clash, clashes, full, carried, runsHeld}
 use Rattle.tank.specs.State.{runsOf, tableOf, view, Formed, Sound, Called}
 use Rattle.tank.specs.Steps.{Stepped, CanLay, CanAdmit, roomFor}
 use Rattle.tank.proofs.AdmitLaws.{place-fits}
@@ -56,7 +56,7 @@ put-at (suc i) m (x ∷ xs) h = put-at i m xs (omega arith)
 -- a mark that is not refused by itself has no NaN
 good-number : (m : Mark) → markNumber m ≡ 0 → valueNan (m .value) ≡ false
 unfolding markNumber
-good-number m = go (valueNan (m .value)) (cond (madeFlag (m .flags)) 0 14)
+good-number m = go (valueNan (m .value)) (cond (madeFlag (m .flags)) (cond (retiredFlag (m .flags)) 18 0) 14)
   where
     go : (b : Bool) (n : ℕ) → cond b 6 n ≡ 0 → b ≡ false
     go true n h = absurd (omega arith)

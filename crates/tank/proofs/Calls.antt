@@ -8,7 +8,7 @@ use Rattle.laws.proofs.Cases.{cond-by}
 use Rattle.styles.specs.Values.{valueNan}
 use borrow.Author.Tests.{lt-ltb, le-ltb, le-leb, lt-leb, ne-eqb}
 use Rattle.tank.specs.declared.Tank.{Tank}
-use Rattle.tank.specs.Rules.{View, Edit, annotating, inserting, deleting, removing, madeFlag, markNumber, after, empty, over, long, ownNumber, clashes, full, refusal, whenAccepted, askedRange}
+use Rattle.tank.specs.Rules.{View, Edit, annotating, inserting, deleting, removing, madeFlag, retiredFlag, markNumber, after, empty, over, long, ownNumber, clashes, full, refusal, whenAccepted, askedRange}
 use Rattle.tank.specs.State.{view, Formed, Sound, Called}
 use Rattle.tank.proofs.Unique.{same-tank}
 
@@ -29,7 +29,7 @@ module _ (e : Edit) (v : View) where
       number-5 c = simp (a, b, c)
 
       module _ (c : long e v ≡ false) where
-        -- 6 or 14, by the mark alone
+        -- 6, 14 or 18, by the mark alone
         pub number-own : 0 < ownNumber e → refusal e v ≡ ownNumber e
         unfolding refusal
         number-own d = simp (a, b, c) (rw (ne-eqb (ownNumber e) 0 (λ z. omega arith)))
@@ -49,22 +49,23 @@ module _ (e : Edit) (v : View) where
             number-0 g = simp (a, b, c, d, f, g)
 
 -- what holds of every number that a tank's own rules give, and of 0
-own-by : (P : ℕ → Type 0) → P 0 → P 6 → P 14 → (e : Edit) → P (ownNumber e)
+own-by : (P : ℕ → Type 0) → P 0 → P 6 → P 14 → P 18 → (e : Edit) → P (ownNumber e)
 unfolding ownNumber markNumber
-own-by P zero six fourteen (annotating a b m) = cond-by P (valueNan (m .value)) six (cond-by P (madeFlag (m .flags)) zero fourteen)
-own-by P zero six fourteen (inserting pos len) = zero
-own-by P zero six fourteen (deleting a b) = zero
-own-by P zero six fourteen (removing id last) = zero
+own-by P zero six fourteen eighteen (annotating a b m) =
+    cond-by P (valueNan (m .value)) six (cond-by P (madeFlag (m .flags)) (cond-by P (retiredFlag (m .flags)) eighteen zero) fourteen)
+own-by P zero six fourteen eighteen (inserting pos len) = zero
+own-by P zero six fourteen eighteen (deleting a b) = zero
+own-by P zero six fourteen eighteen (removing id last) = zero
 
-pub number-by : (P : ℕ → Type 0) → P 0 → P 3 → P 4 → P 5 → P 6 → P 7 → P 8 → P 14 → (e : Edit) (v : View) → P (refusal e v)
+pub number-by : (P : ℕ → Type 0) → P 0 → P 3 → P 4 → P 5 → P 6 → P 7 → P 8 → P 14 → P 18 → (e : Edit) (v : View) → P (refusal e v)
 unfolding refusal
-number-by P zero three four five six seven eight fourteen e v =
+number-by P zero three four five six seven eight fourteen eighteen e v =
     cond-by P (empty e) three
     (cond-by P (over e v) four
     (cond-by P (long e v) five
     (cond-by P (eqb (ownNumber e) 0)
     (cond-by P (clashes e v) seven (cond-by P (full e v) eight zero))
-    (own-by P zero six fourteen e))))
+    (own-by P zero six fourteen eighteen e))))
 
 -- ---- and of a range that is asked about
 module _ (a b later : ℕ) (v : View) where

@@ -12,7 +12,7 @@ use Rattle.styles.specs.declared.Value.the-variants.{Null, Decimal}
 use Rattle.styles.specs.Order.{idOf, stands, numbers}
 use Rattle.styles.specs.Marks.{insertMark, eitherOf, member, only, sameContent, sameMarks}
 use Rattle.runs.specs.Positions.{within, sumBelow, anyAt, starts, stretchTo}
-use Rattle.tank.specs.Rules.{View, freshView, afterAnnotate, inherited, afterInsert, forInsert, afterDelete, backFrom, stripped, afterRemove, runsHeld, gathered, carried, annotating, inserting, deleting, removing, empty, over, long, madeFlag, markNumber, ownNumber, clash, clashes, full, refusal}
+use Rattle.tank.specs.Rules.{View, freshView, afterAnnotate, inherited, afterInsert, forInsert, afterDelete, backFrom, stripped, afterRemove, runsHeld, gathered, carried, annotating, inserting, deleting, removing, empty, over, long, madeFlag, retiredFlag, markNumber, ownNumber, clash, clashes, full, refusal}
 
 abbrev mark : ℕ → ℕ → ℕ → ℕ → Value → Mark
 mark key lamport peer flags value = record { key = key; flags = flags; lamport = lamport; peer = peer; value = value }
@@ -81,24 +81,33 @@ four = (refl, refl, refl, refl)
 
 -- the largest length is reached, and not passed
 five : (refusal (inserting 2 9223372036854775804) v ≡ 5) × (refusal (inserting 2 9223372036854775803) v ≡ 0)
-unfolding refusal empty over long ownNumber markNumber madeFlag clashes full
+unfolding refusal empty over long ownNumber markNumber madeFlag retiredFlag clashes full
 five = (refl, refl)
 
 six : refusal (annotating 0 1 (mark 1 5 1 0x84 (Decimal nan))) v ≡ 6
-unfolding refusal empty over long ownNumber markNumber madeFlag isNan
+unfolding refusal empty over long ownNumber markNumber madeFlag retiredFlag isNan
 six = refl
 
+-- an odd flag byte, and the retired one, also under an identity that is carried, and with that very byte; a NaN goes first
+fourteen : (refusal (annotating 0 1 (mark 1 5 1 0x41 Null)) v ≡ 14) × (refusal (annotating 0 1 (mark 1 5 1 0x04 Null)) v ≡ 14) × (refusal (annotating 0 1 (mark 1 5 1 0x41 (Decimal nan))) v ≡ 6)
+unfolding refusal empty over long ownNumber markNumber madeFlag retiredFlag isNan
+fourteen = (refl, refl, refl)
+
+eighteen : (refusal (annotating 0 1 (mark 1 5 1 0x82 Null)) v ≡ 18) × (refusal (annotating 1 0 (mark 1 5 1 0x82 Null)) v ≡ 3)
+unfolding refusal empty over long ownNumber markNumber madeFlag retiredFlag
+eighteen = (refl, refl)
+
 -- another flag byte; the same mark again is accepted
-seven : (refusal (annotating 0 1 (mark 1 5 1 0x82 Null)) v ≡ 7) × (refusal (annotating 0 1 A) v ≡ 0)
-unfolding refusal empty over long ownNumber markNumber madeFlag clashes clash anyAt full gathered eitherOf insertMark member sameContent stands numbers
+seven : (refusal (annotating 0 1 (mark 1 5 1 0x86 Null)) v ≡ 7) × (refusal (annotating 0 1 A) v ≡ 0)
+unfolding refusal empty over long ownNumber markNumber madeFlag retiredFlag clashes clash anyAt full gathered eitherOf insertMark member sameContent stands numbers
 seven = (refl, refl)
 
 -- every position is looked at: A is refused where another position has its identity with another flag byte
 abbrev split : View
 split = record { length = 2; touched = true; at = λ p. cond (eqb p 0) A (mark 1 5 1 0x82 Null) ∷ [] }
 
-seven-anywhere : (refusal (annotating 0 1 A) split ≡ 7) × (refusal (annotating 0 1 (mark 1 5 1 0x82 Null)) split ≡ 7)
-unfolding refusal empty over long ownNumber markNumber madeFlag clashes clash anyAt sameContent stands numbers
+seven-anywhere : (refusal (annotating 0 1 A) split ≡ 7) × (refusal (annotating 0 1 (mark 1 5 1 0x86 Null)) split ≡ 7)
+unfolding refusal empty over long ownNumber markNumber madeFlag retiredFlag clashes clash anyAt sameContent stands numbers
 seven-anywhere = (refl, refl)
 
 -- marks of the keys 0 .. n - 1
@@ -112,5 +121,5 @@ unfolding upTo
 crowded = record { length = 1; touched = true; at = λ p. upTo 64 }
 
 eight : (refusal (annotating 0 1 (mark 64 0 0 0x84 Null)) crowded ≡ 8) × (refusal (annotating 0 1 (mark 63 0 0 0x84 Null)) crowded ≡ 0)
-unfolding upTo refusal empty over long ownNumber markNumber madeFlag clashes clash anyAt full gathered eitherOf insertMark member sameContent stands numbers
+unfolding upTo refusal empty over long ownNumber markNumber madeFlag retiredFlag clashes clash anyAt full gathered eitherOf insertMark member sameContent stands numbers
 eight = (refl, refl)

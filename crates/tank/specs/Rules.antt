@@ -1,4 +1,4 @@
--- Document 01, "What a tank means" and refusals 3 to 8 and 14: a tank by its positions.
+-- Document 01, "What a tank means" and refusals 3 to 8, 14 and 18: a tank by its positions.
 -- A set of marks is a list of them, sorted by identity. Nothing here knows how a tank is stored.
 use Prim.Native.Nat.{ℕ, zero, suc, _+_, _-_}
 use mathlib.Core.Bool.{Bool, true, false, cond, _&&_, _||_, not}
@@ -7,7 +7,8 @@ use lib.Dec.{ltb, leb, eqb}
 use lib.ListN.{length}
 use Rattle.runs.specs.Positions.{alteredAt, deletedAt, insertedAt, anyAt, stretchCount, stretchTo}
 use Rattle.richtext.specs.declared.ExpandType.the-variants.{Before, After, Both, None}
-use Rattle.richtext.specs.Flags.{newByte}
+use Rattle.richtext.specs.Flags.{newByte, typeOf}
+use Rattle.richtext.specs.Types.{retired}
 use Rattle.styles.specs.declared.Identity.{Identity}
 use Rattle.styles.specs.declared.Mark.{Mark}
 use Rattle.styles.specs.Order.{idOf, sameId}
@@ -153,12 +154,16 @@ long (removing id last) v = false
 unfoldable pub madeFlag : ℕ → Bool
 madeFlag f = eqb f (newByte None) || (eqb f (newByte Before) || (eqb f (newByte After) || eqb f (newByte Both)))
 
--- what a mark is refused by whatever the tank carries: 6, the value is NaN; 14, an odd flag byte; 0 for neither. A mark that a tank carries may
--- have any byte
-unfoldable pub markNumber : Mark → ℕ
-markNumber m = cond (valueNan (m .value)) 6 (cond (madeFlag (m .flags)) 0 14)
+-- the type that the flag byte has is retired (change request 13)
+unfoldable pub retiredFlag : ℕ → Bool
+retiredFlag f = retired (typeOf f)
 
--- 6 and 14: only an annotate hands a mark in
+-- what a mark is refused by whatever the tank carries: 6, the value is NaN; 14, an odd flag byte (change request 7); 18, a retired one; 0 for
+-- none. A mark that a tank carries may have any byte
+unfoldable pub markNumber : Mark → ℕ
+markNumber m = cond (valueNan (m .value)) 6 (cond (madeFlag (m .flags)) (cond (retiredFlag (m .flags)) 18 0) 14)
+
+-- 6, 14 and 18: only an annotate hands a mark in
 unfoldable pub ownNumber : Edit → ℕ
 ownNumber (annotating a b m) = markNumber m
 ownNumber (inserting pos len) = 0
@@ -184,7 +189,7 @@ full (inserting pos len) v = false
 full (deleting a b) v = false
 full (removing id last) v = false
 
--- the first that applies of 3, 4, 5, 6, 14, 7 and 8, in this order; 0 for none
+-- the first that applies of 3, 4, 5, 6, 14, 18, 7 and 8, in this order; 0 for none
 unfoldable pub refusal : Edit → View → ℕ
 refusal e v =
     cond (empty e) 3

@@ -1,16 +1,17 @@
-// One tank by value: its runs over a table of marks, and the four edits, each judged by refusals 3 to 8 and 14.
+// One tank by value: its runs over a table of marks, and the four edits, each judged by refusals 3 to 8, 14 and 18.
 ghost use mathlib.Core.Path.{_≡_};
 ghost use Prim.Native.Nat.{_≤_};
 ghost use lib.ListN.{take};
 ghost use mathlib.Core.List.{[]};
 ghost use Rattle.styles.specs.Marks.{Sorted};
 ghost use Rattle.styles.specs.Answers.{stylesOf};
-ghost use Rattle.tank.specs.Rules.{freshView, madeFlag, markNumber, annotating, inserting, deleting, removing, insertedSet, removedFirst};
+ghost use Rattle.tank.specs.Rules.{freshView, madeFlag, retiredFlag, markNumber, annotating, inserting, deleting, removing, insertedSet, removedFirst};
 ghost use Rattle.tank.specs.State.{view, Sound, Called};
 ghost use Rattle.tank.specs.Steps.{roomFor};
 
 mod steps; // steps.rt: what the edits are made of
 
+use richtext::TextStyleInfoFlag;
 use styles::Identity;
 use styles::Mark;
 use styles::Styles;
@@ -70,7 +71,16 @@ fn made_flag(flags: u8) -> bool
     flags == 0x86
 }
 
-// What a mark is refused by whatever the tank carries: 6 for a NaN, 14 for an odd flag byte, else 0.
+// Is the type that it has retired?
+fn retired_flag(flags: u8) -> bool
+    ensures { λ r. ⌜ r ≡ retiredFlag flags ⌝ }
+{
+    let flag = TextStyleInfoFlag::from_byte(flags);
+    let expand = flag.expand_type();
+    expand.retired()
+}
+
+// What a mark is refused by whatever the tank carries: 6 for a NaN, 14 for an odd flag byte, 18 for a retired one, else 0.
 fn mark_number(mark: Mark) -> u64
     ensures { λ r. ⌜ r ≡ markNumber mark ⌝ }
 {
@@ -79,6 +89,9 @@ fn mark_number(mark: Mark) -> u64
         return 6;
     }
     if made_flag(mark.flags) {
+        if retired_flag(mark.flags) {
+            return 18;
+        }
         return 0;
     }
     14

@@ -11,7 +11,7 @@ use Rattle.styles.specs.declared.Value.the-variants.{Null}
 use Rattle.styles.specs.Order.{stands, numbers}
 use Rattle.styles.specs.Marks.{insertMark, eitherOf, member, sameContent, sameMarks}
 use Rattle.runs.specs.Positions.{sumBelow, allAt, anyAt, starts}
-use Rattle.tank.specs.Rules.{View, annotating, deleting, madeFlag, markNumber, ownNumber, empty, over, long, clash, clashes, full, gathered, refusal, after, afterAnnotate, afterDelete}
+use Rattle.tank.specs.Rules.{View, annotating, deleting, madeFlag, retiredFlag, markNumber, ownNumber, empty, over, long, clash, clashes, full, gathered, refusal, after, afterAnnotate, afterDelete}
 use Rattle.tanks.specs.declared.Setting.{Setting}
 use Rattle.tanks.specs.declared.Head.{Head}
 use Rattle.tanks.specs.declared.Run.{Run}
@@ -128,7 +128,7 @@ crowded =
 -- tank 0 gives it back, and then tank 1 may have it; asked first, tank 1 is refused by 10
 one-order : (refusalAt crowded 0 (deleting 2 4) ≡ 0)
     × (refusalAt (afterAt crowded 0 (deleting 2 4)) 1 (annotating 0 2 mark) ≡ 0) × (refusalAt crowded 1 (annotating 0 2 mark) ≡ 10)
-unfolding refusalAt afterAt refusal empty over long ownNumber markNumber madeFlag clashes clash anyAt full gathered eitherOf insertMark member sameMarks sameContent after afterDelete afterAnnotate judgement sumBelow starts stands numbers
+unfolding refusalAt afterAt refusal empty over long ownNumber markNumber madeFlag retiredFlag clashes clash anyAt full gathered eitherOf insertMark member sameMarks sameContent after afterDelete afterAnnotate judgement sumBelow starts stands numbers
 one-order = (refl, refl, refl)
 
 -- ---- packed: two runs of tank 0, then one of tank 1

@@ -116,10 +116,11 @@ ten-then h t e p = refusal-in h t e (p .tank) ∙ rw (p .own) (judge-10 (h .sett
 abbrev pub NoWant : ℕ → Type 0
 NoWant n = (n ≢ 9) × (n ≢ 10)
 
--- the tank's own numbers are 3 to 8 and 14
+-- the tank's own numbers are 3 to 8, 14 and 18
 own-free : (e : Edit) (v : View) → NoWant (refusal e v)
 own-free e v =
     number-by NoWant
+    (λ z. omega arith, λ z. omega arith)
     (λ z. omega arith, λ z. omega arith)
     (λ z. omega arith, λ z. omega arith)
     (λ z. omega arith, λ z. omega arith)

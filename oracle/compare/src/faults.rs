@@ -9,7 +9,7 @@ use crate::mark::{listed, Content, Id};
 use crate::tanks::Tanks;
 
 /// The name of a fault, and what it gets wrong.
-pub const FAULTS: [(&str, &str); 42] = [
+pub const FAULTS: [(&str, &str); 43] = [
     ("refusal1", "answers for tank 0 in place of refusal 1"),
     ("refusal2", "accepts settings that break the rule"),
     ("refusal3", "accepts an empty edit"),
@@ -22,6 +22,7 @@ pub const FAULTS: [(&str, &str); 42] = [
     ("refusal10", "accepts runs over the pool"),
     ("refusal11", "accepts a short buffer"),
     ("refusal14", "accepts an odd flag byte"),
+    ("refusal18", "accepts the flag byte of Before"),
     ("refusal-order", "gives 10 where 9 applies as well"),
     ("left-inherit", "new positions inherit from the left neighbour alone"),
     ("inherit-answer", "leaves the last mark out of an inherited set that has several"),

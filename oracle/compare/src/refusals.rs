@@ -108,7 +108,7 @@ fn longest() -> Vec<Call> {
     ]
 }
 
-/// Refusals 6, 14, 7 and 8.
+/// Refusals 6, 14, 18, 7 and 8.
 fn contents() -> Vec<Call> {
     let tank = 0;
     let zero = Value::Decimal(0);
@@ -126,6 +126,8 @@ fn contents() -> Vec<Call> {
         annotate(tank, 4, 6, with(zero, 0x41)),
         annotate(tank, 4, 6, with(NAN, 0x41)),
         annotate(tank, 6, 4, with(zero, 0x41)),
+        annotate(tank, 4, 6, with(zero, 0x82)),
+        annotate(tank, 4, 6, with(NAN, 0x82)),
         annotate(tank, 4, 6, with(Value::Whole(0), 0x84)),
         annotate(tank, 4, 6, with(NAN, 0x84)),
         ask(0, 4, minus),

@@ -11,7 +11,9 @@ pub const POOL: u64 = 512;
 /// Different marks that one tank carries at most.
 pub const MARKS: usize = 64;
 /// The flag bytes that an annotate may carry.
-pub const FLAGS: [u8; 4] = [0x80, 0x82, 0x84, 0x86];
+pub const FLAGS: [u8; 3] = [0x80, 0x84, 0x86];
+/// The flag byte of Before, which an annotate no longer may carry.
+pub const RETIRED: u8 = 0x82;
 /// The console's own buffers, in u64 and in anchor records.
 const STRETCH_ROOM: u64 = 1536;
 const ANCHOR_ROOM: u64 = 32768;
@@ -88,7 +90,9 @@ impl Tanks {
     fn annotate(&mut self, tank: u64, start: u64, end: u64, mark: Mark) -> Judged<Answer> {
         self.edit_range(tank, start, end)?;
         refuse_if(mark.content.value.is_nan(), 6)?;
-        refuse_if(!FLAGS.contains(&mark.content.flags), 14)?;
+        let flags = mark.content.flags;
+        refuse_if(flags != RETIRED && !FLAGS.contains(&flags), 14)?;
+        refuse_if(flags == RETIRED, 18)?;
         let carried = self.tank(tank).carried();
         let known = carried.get(&mark.id);
         refuse_if(known.is_some_and(|content| *content != mark.content), 7)?;

@@ -153,6 +153,9 @@ impl Page {
         if known.refuses(name) {
             number = 19;
             self.refused += 1;
+        } else if matches!(expand, ExpandType::Before) {
+            number = 18;
+            self.refused += 1;
         } else {
             known.map.insert(name.into(), StyleConfig::new().expand(expand));
             if !known.names.iter().any(|other| other == name) {
@@ -193,8 +196,14 @@ impl Page {
     }
 
     fn with_default(&mut self, known: &mut Known, expand: ExpandType) {
-        writeln!(self.text, "default {expand:?}").unwrap();
-        set_default(&mut known.map, Some(StyleConfig::new().expand(expand)));
+        let retired = matches!(expand, ExpandType::Before);
+        let number = if retired { 18 } else { 0 };
+        writeln!(self.text, "default {expand:?} = {number}").unwrap();
+        if retired {
+            self.refused += 1;
+        } else {
+            set_default(&mut known.map, Some(StyleConfig::new().expand(expand)));
+        }
     }
 
     fn defaults(&mut self) {

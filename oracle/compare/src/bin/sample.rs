@@ -101,6 +101,7 @@ fn wanted() -> Vec<&'static str> {
         "refused 10",
         "refused 11",
         "refused 14",
+        "refused 18",
         "open: accepted",
         "annotate: accepted",
         "delete: accepted",
