@@ -10,10 +10,10 @@ use Rattle.runs.proofs.Copies.{pushRun, clip, copyRuns, adding, part, a
 use Rattle.runs.proofs.Laws.{push-by}
 
 -- 1 where there is one at least, else 0
-pub ind : ℕ → ℕ
+ind : ℕ → ℕ
 ind x = min 1 x
 
-pub most-one : (x : ℕ) → ind x ≤ 1
+most-one : (x : ℕ) → ind x ≤ 1
 unfolding ind
 most-one x = omega arith
 
@@ -22,7 +22,7 @@ touched : ℕ → ℕ → List Run → ℕ
 touched from to [] = 0
 touched from to (r ∷ rs) = touched from to rs + ind (clip from to (total rs) (r .len))
 
-pub length-push : (rs : List Run) (l s : ℕ) → length (pushRun rs l s) ≤ length rs + ind l
+length-push : (rs : List Run) (l s : ℕ) → length (pushRun rs l s) ≤ length rs + ind l
 unfolding ind
 length-push rs l s =
     push-by (λ a b. length b ≤ length a + min 1 l) l s (λ a z. omega arith) (λ r a nz e. omega arith) (λ a nz o. omega arith) rs
@@ -37,9 +37,6 @@ touched-all : (from to : ℕ) (rs : List Run) → touched from to rs ≤ length 
 unfolding touched
 touched-all from to [] = omega arith
 touched-all from to (r ∷ rs) = omega (arith, touched-all from to rs, most-one (clip from to (total rs) (r .len)))
-
-pub length-copy : (f : ℕ → ℕ) (base : List Run) (from to : ℕ) (rs : List Run) → length (copyRuns f base from to rs) ≤ length base + length rs
-length-copy f base from to rs = omega (arith, copied-runs f base from to rs, touched-all from to rs)
 
 -- a cut at mid of one run
 module _ (from mid to t l : ℕ) (up : from ≤ mid) (up′ : mid ≤ to) where

@@ -101,16 +101,6 @@ module _ (f : ℕ → ℕ) (base : List Run) (from to : ℕ) (rs : List Run) (c 
       → out ≡ copyRuns f base from to rs
   copied-is j = one-joined j copied-joined
 
--- a copy onto nothing is that of the positions from .. to alone
-pub alone-joined : (f : ℕ → ℕ) (from to : ℕ) (rs : List Run) → Joined (min to (total rs) - from) (λ p. f (setAt rs (from + p))) (copyRuns f [] from to rs)
-unfolding total Canon
-alone-joined f from to rs =
-    record {
-      canon = canon-copy f [] from to rs tt;
-      all = omega (arith, total-copy f [] from to rs);
-      sets = λ p h. copy-to f [] from to rs p (from + p) (omega arith) (omega arith) (omega arith) (omega arith);
-    }
-
 -- base is no longer than out, and holds no more
 pub record Inside (base out : List Run) : Type 0 where
   pub longer : length base ≤ length out

@@ -14,7 +14,6 @@ use Rattle.runs.proofs.Copies.{joinRun, pushRun, clip, copyRuns, adding
 use Rattle.runs.specs.Gather.{gather, Renumbered}
 use Rattle.runs.specs.Positions.{sumBelow, anyAt, allAt, stretchTo, starts, stretchCount, stretch, extended, stretchesAt, asNumbers}
 use Rattle.runs.specs.Scan.{meets, shows, passes, commonAt}
-use Rattle.runs.specs.Count.{tallyOf}
 use Rattle.runs.specs.Stretches.{alikeIn, marksIn, listed, entry, inFront}
 use Rattle.runs.proofs.Clipped.{clipped}
 use Rattle.runs.proofs.MapLaws.{AllSets, mapRuns}
@@ -201,10 +200,6 @@ common = (refl, refl, refl, refl)
 two-stretches : stretchCount (alikeIn t) 15 ≡ 2
 unfolding sumBelow starts setAt t
 two-stretches = refl
-
-tallied : tallyOf t ≡ record { count = 2; last = 2 }
-unfolding tallyOf t
-tallied = refl
 
 -- ---- lists
 clipped-t : clipped 8 12 t ≡ stretch 10 12 1 ∷ stretch 8 10 0 ∷ []

@@ -1,5 +1,5 @@
 -- The stretches of a range, as a caller's buffer shows them.
-use Prim.Native.Nat.{ℕ, suc, _≤_}
+use Prim.Native.Nat.{ℕ, suc, _≤_, _<_, _^_}
 use mathlib.Core.Bool.{Bool, cond, _&&_}
 use mathlib.Core.List.{List, [], _∷_, _++_}
 use lib.Count.{ones}
@@ -7,7 +7,7 @@ use lib.Dec.{ltb, leb, eqb}
 use lib.ListN.{length, drop}
 use Rattle.runs.specs.Positions.{stretchesAt, asNumbers}
 use Rattle.runs.specs.Runs.{Run, runs, setAt, Canon}
-use Rattle.runs.specs.Scan.{CanScan}
+use Rattle.runs.specs.Scan.{CanLook, CanScan}
 
 -- position p and the next have one set
 abbrev pub alikeIn : List Run → ℕ → Bool
@@ -30,6 +30,11 @@ pub record CanList (least from to : ℕ) (lens sets : List ℕ) (n : ℕ) (out :
   pub scan : CanScan lens sets n to
   pub joined : Canon (runs lens sets n)
   pub room : length (listed least from to lens sets n) ≤ length out
+
+-- what counting its numbers asks: besides a look, that there are few enough runs that three numbers for each can be counted
+pub record CanCount (lens sets : List ℕ) (n : ℕ) : Type 0 where
+  pub look : CanLook lens sets n
+  pub few : n < 2 ^ 62
 
 -- the numbers of one stretch: none where nothing of it is asked, or where it has too few marks
 unfoldable pub entry : ℕ → ℕ → ℕ → ℕ → List ℕ

@@ -1,7 +1,6 @@
 // Run lists on lent number slices: run i of the first n has the length lens[i] and the set sets[i]. Nothing is allocated, and no state is copied.
 // A result goes into slices of its own, run by run, so that it is in joined form as soon as it is written.
 
-pub mod count; // count.rt: how many runs a result would have
 pub mod stretches; // stretches.rt: the stretches of a range, in a lent buffer
 pub mod scan; // scan.rt: questions over a range
 pub mod sets; // sets.rt: all sets together, and sets renumbered in place

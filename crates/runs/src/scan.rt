@@ -67,14 +67,6 @@ pub fn any_in(lens: &[u64], sets: &[u64], n: usize, from: u64, to: u64, mask: u6
     some_in(lens, sets, n, from, to, Test::Meets(mask))
 }
 
-// Whether every position of from .. to has a bit of the mask.
-pub fn all_in(lens: &[u64], sets: &[u64], n: usize, from: u64, to: u64, mask: u64) -> bool
-    requires { ⌜ CanScan (now lens) (now sets) n to ⌝ }
-    ensures { λ r. ⌜ r ≡ allAt (λ p. meets mask (setAt (runs (now (lens .entry)) (now (sets .entry)) n) p)) from to ⌝ }
-{
-    !some_in(lens, sets, n, from, to, Test::Misses(mask))
-}
-
 // Whether at every position of from .. to the highest bit of `first` is one of `second`.
 pub fn all_show(
     lens: &[u64],

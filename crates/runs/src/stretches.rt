@@ -6,8 +6,7 @@ ghost use Prim.Native.Nat.{_+_, _≤_};
 ghost use lib.Count.{ones};
 ghost use lib.ListN.{length, take, drop};
 ghost use Rattle.runs.specs.Runs.{runs, total, Canon};
-ghost use Rattle.runs.specs.Count.{CanTally};
-ghost use Rattle.runs.specs.Stretches.{entry, inFront, listed, CanList};
+ghost use Rattle.runs.specs.Stretches.{entry, inFront, listed, CanList, CanCount};
 use super::later;
 use super::sooner;
 
@@ -108,7 +107,7 @@ pub fn list_marked(
 
 // How many numbers the stretches of from .. to take that have at least `least` marks.
 fn need(lens: &[u64], sets: &[u64], n: usize, from: u64, to: u64, least: u64) -> usize
-    requires { ⌜ (CanTally (now lens) (now sets) n) × Canon (runs (now lens) (now sets) n) × (to ≤ total (runs (now lens) (now sets) n)) ⌝ }
+    requires { ⌜ (CanCount (now lens) (now sets) n) × Canon (runs (now lens) (now sets) n) × (to ≤ total (runs (now lens) (now sets) n)) ⌝ }
     ensures { λ r. ⌜ r ≡ length (listed least from to (now (lens .entry)) (now (sets .entry)) n) ⌝ }
 {
     let mut k = 0;
@@ -127,7 +126,7 @@ fn need(lens: &[u64], sets: &[u64], n: usize, from: u64, to: u64, least: u64) ->
 
 // How many numbers `list_range` writes.
 pub fn need_range(lens: &[u64], sets: &[u64], n: usize, from: u64, to: u64) -> usize
-    requires { ⌜ (CanTally (now lens) (now sets) n) × Canon (runs (now lens) (now sets) n) × (to ≤ total (runs (now lens) (now sets) n)) ⌝ }
+    requires { ⌜ (CanCount (now lens) (now sets) n) × Canon (runs (now lens) (now sets) n) × (to ≤ total (runs (now lens) (now sets) n)) ⌝ }
     ensures { λ r. ⌜ r ≡ length (listed 0 from to (now (lens .entry)) (now (sets .entry)) n) ⌝ }
 {
     need(lens, sets, n, from, to, 0)
@@ -135,7 +134,7 @@ pub fn need_range(lens: &[u64], sets: &[u64], n: usize, from: u64, to: u64) -> u
 
 // How many numbers `list_marked` writes.
 pub fn need_marked(lens: &[u64], sets: &[u64], n: usize, from: u64, to: u64) -> usize
-    requires { ⌜ (CanTally (now lens) (now sets) n) × Canon (runs (now lens) (now sets) n) × (to ≤ total (runs (now lens) (now sets) n)) ⌝ }
+    requires { ⌜ (CanCount (now lens) (now sets) n) × Canon (runs (now lens) (now sets) n) × (to ≤ total (runs (now lens) (now sets) n)) ⌝ }
     ensures { λ r. ⌜ r ≡ length (listed 1 from to (now (lens .entry)) (now (sets .entry)) n) ⌝ }
 {
     need(lens, sets, n, from, to, 1)

@@ -1,5 +1,5 @@
 -- The sorted table: where an identity stands, and a mark put in at its place.
-use Prim.Native.Nat.{ℕ, zero, suc, _+_, _-_, _≤_, _<_}
+use Prim.Native.Nat.{ℕ, zero, suc, _+_, _≤_, _<_}
 use mathlib.Core.Path.{_≡_, refl, sym, ap, ap₂, _∙_}
 use mathlib.Core.Bool.{true, false, cond, _&&_, _||_, true≢false, and-false}
 use mathlib.Core.List.{List, [], _∷_, _++_}
@@ -9,13 +9,13 @@ use native.Mathlib.Numerals.{add-one}
 use lib.Dec.{ltb, leb, leb·suc-suc}
 use borrow.Author.Tests.{lt-ltb, le-ltb, le-leb, lt-leb}
 use lib.ListN.{length, take, drop, getD, set, take-append-drop, drop-of-length-le, length-take}
-use lib.Seq.{drop-cons, drop-set-lt, drop-drop, set-split, take-at, drop-at, getD-take}
+use lib.Seq.{drop-cons, drop-set-lt, drop-drop, take-at, drop-at, getD-take}
 use Rattle.styles.specs.declared.Identity.{Identity}
 use Rattle.styles.specs.declared.Mark.{Mark}
 use Rattle.styles.specs.declared.Stand.{Stand}
 use Rattle.styles.specs.declared.Stand.the-variants.{Before, Same, After}
 use Rattle.styles.specs.Order.{stands, idOf, isBefore, less, sameId}
-use Rattle.styles.specs.Marks.{Above, Sorted, member, insertAt, removeAt, placeOf, tableWith, tableWithout, blank}
+use Rattle.styles.specs.Marks.{Above, Sorted, member, insertAt, placeOf, tableWith}
 use Rattle.styles.proofs.OrderLaws.{less-flip, more-flip, same-flip}
 use Rattle.styles.proofs.PickLaws.{not-member, above-trans}
 
@@ -166,61 +166,3 @@ module _ (n i : ℕ) (m : Mark) (t : List Mark) (low : i ≤ n) (room : n < 64) 
 
   pub with-rest : drop (n + 1) (tableWith n i m t) ≡ drop (n + 1) t
   with-rest = ap (drop (n + 1)) (put-there n i m t low room) ∙ drop-at (insertAt i m (take n t)) (drop (n + 1) t) (n + 1) put-length
-
--- ---- a mark taken out
--- a turn of the loop: the mark after place k moves down, and its own place is now the one to take out
-pub out-turn : (t : List Mark) (k : ℕ) (d : Mark) → k + 1 < length t → removeAt (k + 1) (set t k (getD t (k + 1) d)) ≡ removeAt k t
-unfolding removeAt
-out-turn [] k d h = absurd (omega arith)
-out-turn (x ∷ []) zero d h = absurd (omega arith)
-out-turn (x ∷ y ∷ ys) zero d h = refl
-out-turn (x ∷ xs) (suc k) d h = rw (suc-add k 1) (ap (_∷_ x) (out-turn xs k d (omega arith)))
-
-out-front : (t : List Mark) (p : ℕ) → take p (removeAt p t) ≡ take p t
-unfolding removeAt
-out-front [] zero = refl
-out-front [] (suc p) = refl
-out-front (x ∷ xs) zero = refl
-out-front (x ∷ xs) (suc p) = ap (_∷_ x) (out-front xs p)
-
-out-take : (t : List Mark) (p i : ℕ) → i ≤ p → take p (removeAt i t) ≡ removeAt i (take (suc p) t)
-unfolding removeAt
-out-take [] zero i h = refl
-out-take [] (suc p) i h = refl
-out-take (x ∷ xs) p zero h = refl
-out-take (x ∷ xs) zero (suc i) h = absurd (omega arith)
-out-take (x ∷ xs) (suc p) (suc i) h = ap (_∷_ x) (out-take xs p i (omega arith))
-
-out-drop : (t : List Mark) (p i : ℕ) → i ≤ p → drop p (removeAt i t) ≡ drop (suc p) t
-unfolding removeAt
-out-drop [] zero i h = refl
-out-drop [] (suc p) i h = refl
-out-drop (x ∷ xs) p zero h = refl
-out-drop (x ∷ xs) zero (suc i) h = absurd (omega arith)
-out-drop (x ∷ xs) (suc p) (suc i) h = out-drop xs p i (omega arith)
-
--- the end of the loop: the last place is blank
-module _ (table t : List Mark) (n i : ℕ) (low : i < n) (long : n ≤ length t) (same : removeAt (n - 1) t ≡ removeAt i table) where
-  pub out-all : set t (n - 1) blank ≡ removeAt i (take n table) ++ blank ∷ drop n table
-  out-all =
-      let e : suc (n - 1) ≡ n = omega arith in
-      let f : take (n - 1) t ≡ removeAt i (take n table) =
-      sym (out-front t (n - 1)) ∙ ap (take (n - 1)) same ∙ (rw e at (out-take table (n - 1) i (omega arith)))
-      in
-      let g : drop n t ≡ drop n table =
-      sym (rw e at (out-drop t (n - 1) (n - 1) (omega arith))) ∙ ap (drop (n - 1)) same ∙ (rw e at (out-drop table (n - 1) i (omega arith)))
-      in
-      (rw e at (set-split t (n - 1) blank (omega arith))) ∙ (rw (f, g))
-
--- the table with one mark less, by cases
-pub out-there : (n i : ℕ) (t : List Mark) → i < n → n ≤ 64 → tableWithout n i t ≡ removeAt i (take n t) ++ blank ∷ drop n t
-unfolding tableWithout
-out-there n i t h l = rw (lt-ltb i n h, le-leb n 64 l)
-
-pub out-nowhere : (n i : ℕ) (t : List Mark) → n ≤ i → tableWithout n i t ≡ t
-unfolding tableWithout
-out-nowhere n i t h = rw (le-ltb i n h)
-
-pub out-large : (n i : ℕ) (t : List Mark) → 64 < n → tableWithout n i t ≡ t
-unfolding tableWithout
-out-large n i t h = rw (lt-leb n 64 h, and-false (ltb i n))

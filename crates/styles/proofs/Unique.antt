@@ -1,19 +1,16 @@
 -- Each public function of this crate has one answer: any two results that meet its statement are equal.
 -- Where the statement is an equation `r ≡ ..` that is the library's `_∙⁻¹_`; the functions that say it otherwise follow it.
 use Prim.Native.Nat.{ℕ}
-use mathlib.Core.Path.{_≡_, refl, sym, ap, _∙_, _∙⁻¹_}
+use mathlib.Core.Path.{_≡_, sym, _∙_, _∙⁻¹_}
 use mathlib.Core.Bool.{Bool}
 use mathlib.Core.List.{List}
 use native.Mathlib.Omega.{arith}
 use native.Mathlib.Decide.{decLt}
 use lib.Count.{ones}
 use lib.ListN.{length}
-use Rattle.styles.specs.declared.RankedBit.{RankedBit}
-use Rattle.styles.specs.declared.RankedBit.the-variants.{Past, At}
 use Rattle.styles.specs.declared.Mark.{Mark}
 use Rattle.styles.specs.Bits.{NthBit, Squeezed, MaskOf}
-use Rattle.styles.specs.Answers.{RankBit}
-use Rattle.styles.proofs.RankLaws.{nth-held, one-place, nth-there}
+use Rattle.styles.proofs.RankLaws.{one-place, nth-there}
 use Rattle.styles.proofs.Built.{maskOf}
 use Rattle.styles.proofs.Digits.{below-pow, same-bits}
 use Rattle.styles.proofs.MaskLaws.{mask-is}
@@ -25,13 +22,6 @@ one-nth-bit set j r s h k =
       | yes e ↦ one-place set j r s (h .found e) (k .found e)
       | no e ↦ h .past (omega arith) ∙⁻¹ k .past (omega arith)
     ]
-
--- `ranked_bit`
-pub one-ranked-bit : (set j : ℕ) (r s : RankedBit) → RankBit set j r → RankBit set j s → r ≡ s
-one-ranked-bit set j Past Past h k = refl
-one-ranked-bit set j Past (At i) h k = absurd (omega (arith, nth-held set j i k))
-one-ranked-bit set j (At i) Past h k = absurd (omega (arith, nth-held set j i h))
-one-ranked-bit set j (At i) (At l) h k = ap At (one-place set j i l h k)
 
 -- a set that `runs::sets::squeeze_sets` leaves
 pub one-squeezed : (mask s r u : ℕ) → Squeezed mask s r → Squeezed mask s u → r ≡ u

@@ -125,12 +125,6 @@ insertAt zero m ms = m ∷ ms
 insertAt (suc i) m [] = []
 insertAt (suc i) m (x ∷ xs) = x ∷ insertAt i m xs
 
--- the mark at a place of a list taken out
-unfoldable pub removeAt : ℕ → List Mark → List Mark
-removeAt i [] = []
-removeAt zero (m ∷ ms) = ms
-removeAt (suc i) (m ∷ ms) = m ∷ removeAt i ms
-
 -- how many marks at the front come before an identity: where it stands in a sorted list, or would
 unfoldable pub placeOf : Identity → List Mark → ℕ
 placeOf i [] = 0
@@ -141,8 +135,3 @@ placeOf i (m ∷ ms) = cond (less (idOf m) i) (suc (placeOf i ms)) 0
 unfoldable pub tableWith : ℕ → ℕ → Mark → List Mark → List Mark
 unfolding insertAt
 tableWith n i m table = cond (leb i n && ltb n 64) (insertAt i m (take n table) ++ drop (n + 1) table) table
-
--- the table without the mark at place i, and the last of the n places blank; as it was where there is no such mark, or n is past 64
-unfoldable pub tableWithout : ℕ → ℕ → List Mark → List Mark
-unfolding removeAt
-tableWithout n i table = cond (ltb i n && leb n 64) (removeAt i (take n table) ++ blank ∷ drop n table) table

@@ -7,9 +7,8 @@ use borrow.Author.Needs.{needs}
 use lib.Count.{ones}
 use lib.ListN.{length, getD}
 use Rattle.runs.specs.Runs.{runs, total}
-use Rattle.runs.specs.Count.{CanTally}
 use Rattle.runs.specs.Positions.{asNumbers}
-use Rattle.runs.specs.Stretches.{entry}
+use Rattle.runs.specs.Stretches.{entry, CanCount}
 use Rattle.runs.proofs.Clipped.{clipped, clippedList}
 use Rattle.runs.proofs.PositionLaws.{listed-is}
 use Rattle.runs.proofs.Laws.{total-more, turn-end}
@@ -22,7 +21,7 @@ record Needed (lens sets : List ℕ) (n from to least k start count : ℕ) : Typ
   begun : start ≡ total (runs lens sets k)
   place : count ≡ length (clippedList least from to lens sets k)
 
-module _ {lens sets : List ℕ} {n from to least k start count : ℕ} (can : CanTally lens sets n) (inv : Needed lens sets n from to least k start count) (in-turn : k < n) where
+module _ {lens sets : List ℕ} {n from to least k start count : ℕ} (can : CanCount lens sets n) (inv : Needed lens sets n from to least k start count) (in-turn : k < n) where
   small : count < 3 * 2 ^ 62
   small = omega (arith, clipped-most least from to lens sets k)
 
