@@ -1,15 +1,15 @@
 -- The table walked mark by mark: the marks kept, and the winner for a key.
 use Prim.Native.Nat.{ℕ, zero, suc, _+_, _-_, _/_, _%_, _^_, _≤_, _<_}
-use mathlib.Core.Path.{_≡_, refl, ap, _∙_, subst}
+use mathlib.Core.Path.{_≡_, refl, sym, ap, _∙_, subst}
 use mathlib.Core.Bool.{Bool, true, false, cond}
-use mathlib.Core.List.{List, [], _∷_, _++_, append-nil}
+use mathlib.Core.List.{List, [], _∷_, _++_, append-nil, append-assoc}
 use native.Mathlib.Omega.{arith}
 use native.Mathlib.Nat.{div-one}
 use native.Mathlib.Numerals.{add-one}
 use lib.Dec.{eqb}
 use borrow.Author.Tests.{eqb-true, eqb-false, eq-eqb, ne-eqb}
 use lib.ListN.{length, take, getD, length-take}
-use lib.Seq.{take-suc, take-take}
+use lib.Seq.{take-suc}
 use Rattle.styles.specs.declared.Identity.{Identity}
 use Rattle.styles.specs.declared.Mark.{Mark}
 use Rattle.styles.specs.declared.Stand.the-variants.{Before}
@@ -22,7 +22,6 @@ use Rattle.styles.proofs.OrderLaws.{num-same}
 use Rattle.styles.proofs.PickLaws.{keep-by, above-pick}
 use Rattle.styles.proofs.BitLaws.{half-shr}
 use Rattle.styles.proofs.CountLaws.{length-keep}
-use Rattle.styles.proofs.UnionLaws.{pick-front}
 
 -- ---- one mark more at the end of the table
 keep-append : (b : ℕ) (x : Mark) (xs ys : List Mark) → keepBit b x (xs ++ ys) ≡ keepBit b x xs ++ ys
@@ -85,31 +84,39 @@ unfolding Sorted pick
 sorted-pick [] s h = tt
 sorted-pick (m ∷ ms) s h = let k = sorted-pick ms (s / 2) (h .1) in keep-by Sorted (s % 2) k (above-pick (idOf m) ms (s / 2) (h .0), k)
 
--- ---- a turn of the walk down to the winner
-module _ (t : List Mark) (n s key i : ℕ) (d : Mark) (more : 0 < i) (within : i ≤ n) (long : n ≤ length t) (sorted : Sorted (take n t)) where
-  back : i - 1 + 1 ≡ i
-  back = omega arith
+-- ---- the walk up to the winner: so far wins the last mark with the key among those passed
+above-front : (j : Identity) (xs ys : List Mark) → Above j (xs ++ ys) → Above j xs
+unfolding Above
+above-front j [] ys h = tt
+above-front j (x ∷ xs) ys h = (h .0, above-front j xs ys (h .1))
 
-  sorted-front : Sorted (take i t)
-  sorted-front = subst Sorted (pick-front i (take n t) ∙ take-take i n t within) (sorted-pick (take n t) (2 ^ i - 1) sorted)
+sorted-front : (xs ys : List Mark) → Sorted (xs ++ ys) → Sorted xs
+unfolding Sorted
+sorted-front [] ys h = tt
+sorted-front (x ∷ xs) ys h = (above-front (idOf x) xs ys (h .0), sorted-front xs ys (h .1))
 
-  win-clear′ : hasBit (i - 1) s ≡ false → pick (take i t) s ≡ pick (take (i - 1) t) s
-  win-clear′ h = rw back at (next-clear t s (i - 1) d (omega arith) h)
+-- of a set's marks some are passed and some are left, and `best` is the winner of the passed ones
+pub record Walked (key : ℕ) (marks left : List Mark) (best : Winner) : Type 0 where
+  pub passed : List Mark
+  pub split : passed ++ left ≡ marks
+  pub best-is : best ≡ winner key passed
 
-  pub win-clear : hasBit (i - 1) s ≡ false → winner key (pick (take i t) s) ≡ winner key (pick (take (i - 1) t) s)
-  win-clear h = ap (winner key) (win-clear′ h)
+pub walk-begun : (key : ℕ) (marks : List Mark) → Walked key marks marks Nothing
+unfolding winner
+walk-begun key marks = record { passed = []; split = refl; best-is = refl }
 
-  win-set : hasBit (i - 1) s ≡ true → winner key (pick (take i t) s) ≡ cond (eqb (getD t (i - 1) d .key) key) (Shows (getD t (i - 1) d)) (winner key (pick (take (i - 1) t) s))
-  win-set h =
-      let e : pick (take i t) s ≡ pick (take (i - 1) t) s ++ getD t (i - 1) d ∷ [] = rw back at (next-set t s (i - 1) d (omega arith) h) in
-      ap (winner key) e ∙ winner-last key (pick (take (i - 1) t) s) (getD t (i - 1) d) (subst Sorted e (sorted-pick (take i t) s sorted-front))
+module _ {key : ℕ} {marks rest : List Mark} {best : Winner} {m : Mark} (sorted : Sorted marks) (w : Walked key marks (m ∷ rest) best) where
+  on : (w .passed ++ m ∷ []) ++ rest ≡ marks
+  on = append-assoc (w .passed) (m ∷ []) rest ∙ w .split
 
-  pub win-here : hasBit (i - 1) s ≡ true → getD t (i - 1) d .key ≡ key → winner key (pick (take i t) s) ≡ Shows (getD t (i - 1) d)
-  win-here h e = rw (eq-eqb (getD t (i - 1) d .key) key e) at (win-set h)
+  then-best : winner key (w .passed ++ m ∷ []) ≡ cond (eqb (m .key) key) (Shows m) (winner key (w .passed))
+  then-best = winner-last key (w .passed) m (sorted-front (w .passed ++ m ∷ []) rest (subst Sorted (sym on) sorted))
 
-  pub win-other : hasBit (i - 1) s ≡ true → (getD t (i - 1) d .key ≡ key → ⊥) → winner key (pick (take i t) s) ≡ winner key (pick (take (i - 1) t) s)
-  win-other h e = rw (ne-eqb (getD t (i - 1) d .key) key e) at (win-set h)
+  pub walk-here : m .key ≡ key → Walked key marks rest (Shows m)
+  walk-here e = record { passed = w .passed ++ m ∷ []; split = on; best-is = sym (rw (eq-eqb (m .key) key e) at then-best) }
 
-pub winner-none : (key : ℕ) (t : List Mark) (s : ℕ) → winner key (pick (take 0 t) s) ≡ Nothing
-unfolding winner pick
-winner-none key t s = refl
+  pub walk-other : (m .key ≡ key → ⊥) → Walked key marks rest best
+  walk-other e = record { passed = w .passed ++ m ∷ []; split = on; best-is = w .best-is ∙ sym (rw (ne-eqb (m .key) key e) at then-best) }
+
+pub walk-over : {key : ℕ} {marks : List Mark} {best : Winner} → Walked key marks [] best → best ≡ winner key marks
+walk-over {key} w = w .best-is ∙ ap (winner key) (sym (append-nil (w .passed)) ∙ w .split)
