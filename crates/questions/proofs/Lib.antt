@@ -1,2 +1,3 @@
 pub mod QuestionLaws
+pub mod AnswerLaws
 pub mod QuestionTests

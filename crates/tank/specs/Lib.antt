@@ -1,4 +1,5 @@
 pub mod Rules
+pub mod Answers
 pub mod Lengths
 pub mod State
 pub mod Steps
