@@ -98,8 +98,3 @@ module _ (lens sets lens′ sets′ lens″ sets″ : List ℕ) (n m all : ℕ) 
 
   pub one-sets : length sets′ ≡ length sets → length sets″ ≡ length sets → sets′ ≡ sets″
   one-sets l k = ext-getD 0 sets′ sets″ (l ∙ sym k) (λ i _. same-entry i .1)
-
--- ---- two counts of the runs that a copy or an edit would leave are one, since there is a list that it leaves (`alone-joined`, `altered-joined` ..)
-pub one-length : {n : ℕ} {at : ℕ → ℕ} {rs : List Run} → Joined n at rs → (r r′ : ℕ)
-    → ((out : List Run) → Joined n at out → r ≡ length out) → ((out : List Run) → Joined n at out → r′ ≡ length out) → r ≡ r′
-one-length {rs = rs} j r r′ a b = a rs j ∙ sym (b rs j)
