@@ -105,7 +105,7 @@ pub(crate) fn words() {
 }
 
 // The three questions about a name.
-fn ask(map: StyleConfigMap, key: &[u8])
+pub(crate) fn ask(map: StyleConfigMap, key: &[u8])
     requires { ⌜ Sound map ⌝ }
 {
     say(b"\"");
@@ -120,7 +120,7 @@ fn ask(map: StyleConfigMap, key: &[u8])
 }
 
 // An insertion with its number, and the map after it.
-fn put(map: StyleConfigMap, key: &[u8], expand: ExpandType) -> StyleConfigMap
+pub(crate) fn put(map: StyleConfigMap, key: &[u8], expand: ExpandType) -> StyleConfigMap
     requires { ⌜ Sound map ⌝ }
     ensures { λ r. ⌜ Sound r ⌝ }
 {
@@ -189,14 +189,28 @@ fn long_names(map: StyleConfigMap)
     ask(b, b"comment:xxxxxxxxxxxxxxxxxxxxxxxxx");
 }
 
+// A colon in front, at the back and alone: each is refused, and the table answers as before.
+fn colons(map: StyleConfigMap)
+    requires { ⌜ Sound map ⌝ }
+{
+    let a = put(map, b":bold", ExpandType::Both);
+    let b = put(a, b"bold:", ExpandType::Both);
+    let c = put(b, b":", ExpandType::Both);
+    ask(c, b":bold");
+    ask(c, b"bold:");
+    ask(c, b":");
+    seven(c);
+}
+
 pub(crate) fn names(map: StyleConfigMap)
     requires { ⌜ Sound map ⌝ }
 {
     odd_names(map);
+    colons(map);
     long_names(map);
 }
 
-fn with_default(map: StyleConfigMap, expand: ExpandType) -> StyleConfigMap
+pub(crate) fn with_default(map: StyleConfigMap, expand: ExpandType) -> StyleConfigMap
     requires { ⌜ Sound map ⌝ }
     ensures { λ r. ⌜ Sound r ⌝ }
 {
@@ -209,6 +223,14 @@ fn with_default(map: StyleConfigMap, expand: ExpandType) -> StyleConfigMap
     done.map
 }
 
+pub(crate) fn without_default(map: StyleConfigMap) -> StyleConfigMap
+    requires { ⌜ Sound map ⌝ }
+    ensures { λ r. ⌜ Sound r ⌝ }
+{
+    say(b"no default\n");
+    map.clear_default()
+}
+
 pub(crate) fn defaults(map: StyleConfigMap)
     requires { ⌜ Sound map ⌝ }
 {
@@ -219,8 +241,7 @@ pub(crate) fn defaults(map: StyleConfigMap)
     let b = with_default(a, ExpandType::Before);
     ask(b, b"other:1");
     ask(b, b"xxxxxxxxxxxxxxxxxxxxxxxxxxxxxxxxx");
-    say(b"no default\n");
-    let c = b.clear_default();
+    let c = without_default(b);
     ask(c, b"other");
 }
 
@@ -239,12 +260,26 @@ fn fill(map: StyleConfigMap) -> StyleConfigMap
     full
 }
 
-// A new name into 32 entries, and known ones.
+// The same 25 names, asked for.
+fn ask_letters(map: StyleConfigMap)
+    requires { ⌜ Sound map ⌝ }
+{
+    let mut i: u64 = 0;
+    while i < 25 {
+        let name = [97 + (i % 26) as u8];
+        ask(map, &name);
+        i += 1;
+    }
+}
+
+// A new name into 32 entries, after which all 32 answer as before, and known ones.
 fn into_full(map: StyleConfigMap)
     requires { ⌜ Sound map ⌝ }
 {
     let a = put(map, b"z", ExpandType::After);
     ask(a, b"z");
+    seven(a);
+    ask_letters(a);
     let b = put(a, b"bold", ExpandType::Both);
     ask(b, b"bold");
     let c = put(b, b"y", ExpandType::None);

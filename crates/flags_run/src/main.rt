@@ -1,5 +1,6 @@
-// All 256 flag bytes, the words for expand types, and calls of the config, each with its answer beside it.
+// All 256 flag bytes, the words for expand types, and calls of the config, chosen and then drawn, each with its answer beside it.
 mod calls;
+mod draw;
 mod print;
 
 fn main() {
@@ -10,4 +11,5 @@ fn main() {
     calls::names(map);
     calls::defaults(map);
     calls::full(map);
+    draw::tables();
 }

@@ -7,6 +7,7 @@
 //! - `console`, `check`, `shrink`, `tally`: running a console, comparing, making a finding small.
 //! - `faults`: wrong answers on purpose, to see that the comparison notices them.
 //! - `cases`: document 01's checked examples as calls.
+//! - `page`: a program's printed lines beside the Rust's.
 
 pub mod answer;
 pub mod author;
@@ -19,6 +20,7 @@ pub mod exhaust;
 pub mod faults;
 pub mod mark;
 pub mod mirror;
+pub mod page;
 pub mod random;
 pub mod reader;
 pub mod refusals;

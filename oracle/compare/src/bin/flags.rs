@@ -3,19 +3,23 @@
 //!
 //!     flags FILE
 //!
-//! The calls are made here in the program's order, and each line is printed in its words. Where
-//! document 01 has refusal 19 the Rust has no answer that could be compared, and is not asked.
+//! The calls are made here in the program's order, and each line is printed in its words; those at
+//! the end are drawn from the program's own sequence of numbers. Where the rules have refusal 18
+//! or 19 the Rust has no answer that could be compared, and is not asked.
 
 use std::fmt::Write;
 use std::fs;
 use std::process::ExitCode;
 
+use compare::page::first_difference;
 use original::{
     set_default, AnchorType, ExpandType, StyleConfig, StyleConfigMap, TextStyleInfoFlag,
 };
 
 const TYPES: [ExpandType; 4] =
     [ExpandType::Before, ExpandType::After, ExpandType::Both, ExpandType::None];
+
+const SEVEN: [&str; 7] = ["bold", "italic", "underline", "link", "highlight", "comment", "code"];
 
 const LONG: &str = "xxxxxxxxxxxxxxxxxxxxxxxxxxxxxxxx";
 const TOO_LONG: &str = "xxxxxxxxxxxxxxxxxxxxxxxxxxxxxxxxx";
@@ -33,26 +37,24 @@ fn main() -> ExitCode {
         }
     };
     let page = page();
-    let (ours, theirs): (Vec<_>, Vec<_>) = (printed.lines().collect(), page.text.lines().collect());
-    for number in 0..ours.len().max(theirs.len()) {
-        let (ours, theirs) = (ours.get(number), theirs.get(number));
-        if ours != theirs {
-            println!("{file}, line {}: ours {ours:?}, the Rust's {theirs:?}", number + 1);
-            return ExitCode::FAILURE;
-        }
+    if let Some(difference) = first_difference(&printed, &page.text) {
+        println!("{file}, {difference}");
+        return ExitCode::FAILURE;
     }
     println!(
-        "flags and config: {} lines, {} refusals among them; no difference",
-        ours.len(),
+        "flags and config: {} lines, {} drawn calls and {} refusals among them; no difference",
+        page.text.lines().count(),
+        page.drawn,
         page.refused
     );
     ExitCode::SUCCESS
 }
 
-/// What the program prints, and how many of its answers are refusals.
+/// What the program prints, how many of its calls are drawn, and how many answers are refusals.
 #[derive(Default)]
 struct Page {
     text: String,
+    drawn: usize,
     refused: usize,
 }
 
@@ -62,9 +64,11 @@ fn page() -> Page {
     page.words();
     page.built_in();
     page.odd_names();
+    page.colons();
     page.long_names();
     page.defaults();
     page.full();
+    page.tables();
     page
 }
 
@@ -87,11 +91,14 @@ struct Known {
 }
 
 impl Known {
+    fn empty() -> Known {
+        Known { map: StyleConfigMap::new(), names: Vec::new() }
+    }
+
     fn built_in() -> Known {
-        let names = ["bold", "italic", "underline", "link", "highlight", "comment", "code"];
         Known {
             map: StyleConfigMap::default_rich_text_config(),
-            names: names.map(String::from).to_vec(),
+            names: SEVEN.map(String::from).to_vec(),
         }
     }
 
@@ -185,6 +192,17 @@ impl Page {
         self.ask(&known, "comment:17");
     }
 
+    /// Each is refused, and the table answers as before.
+    fn colons(&mut self) {
+        let mut known = Known::built_in();
+        for name in [":bold", "bold:", ":"] {
+            self.insert(&mut known, name, ExpandType::Both);
+        }
+        for name in [":bold", "bold:", ":"].into_iter().chain(SEVEN) {
+            self.ask(&known, name);
+        }
+    }
+
     fn long_names(&mut self) {
         let mut known = Known::built_in();
         self.insert(&mut known, LONG, ExpandType::Both);
@@ -206,6 +224,11 @@ impl Page {
         }
     }
 
+    fn without_default(&mut self, known: &mut Known) {
+        writeln!(self.text, "no default").unwrap();
+        set_default(&mut known.map, None);
+    }
+
     fn defaults(&mut self) {
         let mut known = Known::built_in();
         self.with_default(&mut known, ExpandType::Both);
@@ -215,8 +238,7 @@ impl Page {
         self.with_default(&mut known, ExpandType::Before);
         self.ask(&known, "other:1");
         self.ask(&known, TOO_LONG);
-        writeln!(self.text, "no default").unwrap();
-        set_default(&mut known.map, None);
+        self.without_default(&mut known);
         self.ask(&known, "other");
     }
 
@@ -226,15 +248,78 @@ impl Page {
         for letter in 'a'..='y' {
             self.insert(&mut known, &letter.to_string(), ExpandType::After);
         }
-        let calls = [
-            ("z", ExpandType::After),
-            ("bold", ExpandType::Both),
-            ("y", ExpandType::None),
-            ("", ExpandType::None),
-        ];
+        self.insert(&mut known, "z", ExpandType::After);
+        self.ask(&known, "z");
+        for name in known.names.clone() {
+            self.ask(&known, &name);
+        }
+        let calls = [("bold", ExpandType::Both), ("y", ExpandType::None), ("", ExpandType::None)];
         for (name, expand) in calls {
             self.insert(&mut known, name, expand);
             self.ask(&known, name);
         }
+    }
+
+    /// 250 drawn calls on each of eight tables.
+    fn tables(&mut self) {
+        let mut sequence = Sequence(1);
+        for _ in 0..4 {
+            writeln!(self.text, "empty table").unwrap();
+            self.turns(Known::empty(), &mut sequence);
+            writeln!(self.text, "built-in table").unwrap();
+            self.turns(Known::built_in(), &mut sequence);
+        }
+    }
+
+    fn turns(&mut self, mut known: Known, sequence: &mut Sequence) {
+        for _ in 0..250 {
+            let drawn = sequence.call();
+            match drawn.what {
+                0..=3 => self.insert(&mut known, &drawn.name, drawn.expand),
+                4 => self.with_default(&mut known, drawn.expand),
+                5 => self.without_default(&mut known),
+                _ => self.ask(&known, &drawn.name),
+            }
+            self.drawn += if drawn.what > 5 { 3 } else { 1 };
+        }
+    }
+}
+
+/// The numbers from which `flags_run` draws.
+struct Sequence(u64);
+
+struct Drawn {
+    what: u64,
+    expand: ExpandType,
+    name: String,
+}
+
+impl Sequence {
+    fn next(&mut self) -> u64 {
+        self.0 = (self.0 * 1103515245 + 12345) % (1 << 31);
+        self.0 >> 16
+    }
+
+    fn call(&mut self) -> Drawn {
+        let what = self.next() % 10;
+        let expand = TYPES[(self.next() % 4) as usize];
+        let class = self.next() % 8;
+        let size = self.next();
+        let name = match class {
+            0 => self.name(8, 1),
+            1 | 2 => self.name(8, 2),
+            3 => self.name(9, 2),
+            6 => self.name(1, 30 + size % 5),
+            7 => ["bold", "link", "comment", "comment:17", "bold:"][(size % 5) as usize].into(),
+            _ => self.name(9, size % 10),
+        };
+        Drawn { what, expand, name }
+    }
+
+    /// 40 letters are drawn, of which the first are the name.
+    fn name(&mut self, letters: u64, length: u64) -> String {
+        let drawn: Vec<u64> = (0..40).map(|_| self.next() % letters).collect();
+        let letter = |&n: &u64| if n < 8 { (b'a' + n as u8) as char } else { ':' };
+        drawn[..length as usize].iter().map(letter).collect()
     }
 }
