@@ -30,16 +30,16 @@ pub struct Setting {
 
 // A tank but for its runs and its marks, which are so many.
 pub struct Head {
-    pub touched: bool,
-    pub length: u64,
+    touched: bool,
+    length: u64,
     pub runs: usize,
-    pub marks: usize,
+    marks: usize,
 }
 
 // So many neighbouring positions with one set of marks, by their bits in the tank's table.
 pub struct Run {
-    pub len: u64,
-    pub set: u64,
+    len: u64,
+    set: u64,
 }
 
 // Where a tank's runs begin and those of the tanks behind it, how many runs and places there are from there on, and whether those behind
@@ -54,15 +54,16 @@ struct Spots {
 
 // A tank's marks.
 pub struct Table {
-    pub marks: [Mark; 64],
+    marks: [Mark; 64],
 }
 
-// In the pool stand the runs of tank 0, then those of tank 1, and so on, and blanks behind them.
+// In the pool stand the runs of tank 0, then those of tank 1, and so on, and blanks behind them. A crate above may read the settings and how
+// many runs each tank holds; the rest it asks for.
 pub struct Tanks {
     pub settings: [Setting; 8],
     pub heads: [Head; 8],
-    pub tables: [Table; 8],
-    pub pool: [Run; 512],
+    tables: [Table; 8],
+    pool: [Run; 512],
 }
 
 // What opening hands back: 0 or 2, and the state.
