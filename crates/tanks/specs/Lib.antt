@@ -2,3 +2,4 @@ pub mod Settings
 pub mod House
 pub mod Pool
 pub mod Contracts
+pub mod Answers
