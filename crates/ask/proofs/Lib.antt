@@ -3,3 +3,4 @@ pub mod Most
 pub mod Ranges
 pub mod Examples
 pub mod Others
+pub mod WrongPrograms
