@@ -8,7 +8,6 @@ use Rattle.tanks.specs.declared.Tanks.{Tanks}
 use Rattle.tanks.specs.House.{House, smallestSettings, opening}
 use Rattle.tanks.specs.Pool.{meaning, Sound}
 use Rattle.script.specs.declared.Ending.{Ending}
-use Rattle.script.specs.declared.Op.{Op}
 use Rattle.script.specs.declared.Reader.{Reader}
 use Rattle.script.specs.Reading.{freshOf}
 use Rattle.script.specs.Lines.{readerAt, stateOf, endingOf}
@@ -120,7 +119,7 @@ runs-as {t} {reader} {x} {r} {n} out {over} ok stands l most =
     }
 
 -- from the very beginning
-pub runs-whole : {h : House} {first : Reader} {d out : List ℕ} {r : Eaten} → h ≡ opening smallestSettings → first ≡ readerAt (freshOf Op.Nothing) 0 → pieceRoom ≤ length d → RunsFrom (record { house = h; reader = stateOf first; waits = waiting d 0; over = false }) r out → RunsWhole r
+pub runs-whole : {h : House} {first : Reader} {d out : List ℕ} {r : Eaten} → h ≡ opening smallestSettings → first ≡ readerAt (freshOf 0) 0 → pieceRoom ≤ length d → RunsFrom (record { house = h; reader = stateOf first; waits = waiting d 0; over = false }) r out → RunsWhole r
 runs-whole {h} {first} {d} {out} {r} e f room x =
     record {
       buffer = d;

@@ -14,7 +14,10 @@ use Rattle.tanks.specs.Pool.{meaning, Sound}
 use Rattle.tanks.specs.Contracts.{counts, says}
 use Rattle.ask.specs.Asks.{askAt, valueAsked, marksAsked, markAsked, inheritAsked, inheritedAsked, keyAsked, allValueAsked, sameAsked, rangeNeededAsked, wholeNeededAsked}
 use Rattle.script.specs.declared.Call.{Call}
+use Rattle.script.specs.declared.Change.{Change}
+use Rattle.script.specs.declared.Listing.{Listing}
 use Rattle.script.specs.declared.Op.{Op}
+use Rattle.script.specs.declared.Question.{Question}
 use Rattle.script.specs.Args.{numberAt, keyAt, markOf, identityOf}
 use Rattle.text.specs.Bytes.{bytes}
 use Rattle.answers.specs.Waiting.{Pieces, Adds}
@@ -59,29 +62,20 @@ abbrev pub removal : Call → Edit
 removal c = removing (identityOf c) (numberAt c 4)
 
 -- ---- The eight tanks after it: a question leaves them as they were
+-- by a call that changes them
+abbrev pub changed : Change → House → Call → House
+changed Change.Open h c = opening (settingsOf c)
+changed Change.Annotate h c = afterAt h (tankFor c) (annotation c)
+changed Change.Insert h c = afterAt h (tankFor c) (insertion c)
+changed Change.Delete h c = afterAt h (tankFor c) (deletion c)
+changed Change.Remove h c = afterAt h (tankFor c) (removal c)
+
+-- after any call
 unfoldable pub afterOp : Op → House → Call → House
-afterOp Op.Open h c = opening (settingsOf c)
-afterOp Op.Annotate h c = afterAt h (tankFor c) (annotation c)
-afterOp Op.Insert h c = afterAt h (tankFor c) (insertion c)
-afterOp Op.Delete h c = afterAt h (tankFor c) (deletion c)
-afterOp Op.Remove h c = afterAt h (tankFor c) (removal c)
 afterOp Op.Nothing h c = h
-afterOp Op.Length h c = h
-afterOp Op.Touched h c = h
-afterOp Op.Runs h c = h
-afterOp Op.Value h c = h
-afterOp Op.HasKey h c = h
-afterOp Op.AllValue h c = h
-afterOp Op.Same h c = h
-afterOp Op.Marks h c = h
-afterOp Op.Inherit h c = h
-afterOp Op.Mark h c = h
-afterOp Op.Inherited h c = h
-afterOp Op.Stretches h c = h
-afterOp Op.StretchesNeeded h c = h
-afterOp Op.Whole h c = h
-afterOp Op.WholeNeeded h c = h
-afterOp Op.Anchors h c = h
+afterOp (Op.Change e) h c = changed e h c
+afterOp (Op.Question q) h c = h
+afterOp (Op.Listing l) h c = h
 
 -- ---- Its answer
 -- the marked stretches of a tank, where there is room for so many numbers
@@ -92,30 +86,42 @@ wholeSays h t room = askAt h t (refusedSays 1) (λ v. orRefused (wholeNumber roo
 abbrev pub allAnchorsSay : View → Pieces
 allAnchorsSay v = lineSays (bytes "anchors=") (length (anchors v)) ++ anchorsSay (anchors v)
 
--- a row for each op
+-- of a call that changes the tanks: a row for each op
+abbrev pub changeSays : Change → House → Call → Pieces
+changeSays Change.Open h c = acceptedSays (openNumber (settingsOf c))
+changeSays Change.Annotate h c = acceptedSays (refusalAt h (tankFor c) (annotation c))
+changeSays Change.Insert h c = orRefused (refusalAt h (tankFor c) (insertion c)) (stylesSay (stylesOf (insertedSetAt h (tankFor c) (numberAt c 1) (numberAt c 2))))
+changeSays Change.Delete h c = acceptedSays (refusalAt h (tankFor c) (deletion c))
+changeSays Change.Remove h c = firstSays (refusalAt h (tankFor c) (removal c)) (removedFirstAt h (tankFor c) (identityOf c) (numberAt c 4))
+
+-- of one that asks
+abbrev pub answerSays : Question → House → Call → Pieces
+answerSays Question.Length h c = countSays (bytes "length=") (counts (askNumber (tankFor c)) (tankAt h (tankFor c) .length))
+answerSays Question.Touched h c = touchedSays (says (askNumber (tankFor c)) (tankAt h (tankFor c) .touched))
+answerSays Question.Runs h c = countSays (bytes "runs=") (counts (askNumber (tankFor c)) (held h (tankFor c)))
+answerSays Question.Value h c = shownSays (valueAsked h (tankFor c) (numberAt c 1) (keyAt c 2))
+answerSays Question.HasKey h c = toldSays (keyAsked h (tankFor c) (startIn c) (endIn c) (keyAt c 3))
+answerSays Question.AllValue h c = toldSays (allValueAsked h (tankFor c) (startIn c) (endIn c) (keyAt c 3) (c .value))
+answerSays Question.Same h c = sharedSays (sameAsked h (tankFor c) (startIn c) (endIn c))
+answerSays Question.Marks h c = setSays (marksAsked h (tankFor c) (numberAt c 1))
+answerSays Question.Inherit h c = setSays (inheritAsked h (tankFor c) (numberAt c 1))
+answerSays Question.Mark h c = askedSays (markAsked h (tankFor c) (numberAt c 1) (numberAt c 2))
+answerSays Question.Inherited h c = askedSays (inheritedAsked h (tankFor c) (numberAt c 1) (numberAt c 2))
+
+-- of one that asks for a list
+abbrev pub listingSays : Listing → House → Call → Pieces
+listingSays Listing.Stretches h c = askAt h (tankFor c) (refusedSays 1) (λ v. orRefused (rangeNumber (startIn c) (endIn c) (numberAt c 3) v) (listSays (tankFor c) (rangeList (startIn c) (endIn c) v)))
+listingSays Listing.StretchesNeeded h c = neededSays (rangeNeededAsked h (tankFor c) (startIn c) (endIn c))
+listingSays Listing.Whole h c = wholeSays h (tankFor c) (numberAt c 1)
+listingSays Listing.WholeNeeded h c = neededSays (wholeNeededAsked h (tankFor c))
+listingSays Listing.Anchors h c = askAt h (tankFor c) (refusedSays 1) (λ v. orRefused (anchorsNumber (numberAt c 1) v) (allAnchorsSay v))
+
+-- of any call
 unfoldable pub saysOf : Op → House → Call → Pieces
 saysOf Op.Nothing h c = []
-saysOf Op.Open h c = acceptedSays (openNumber (settingsOf c))
-saysOf Op.Annotate h c = acceptedSays (refusalAt h (tankFor c) (annotation c))
-saysOf Op.Insert h c = orRefused (refusalAt h (tankFor c) (insertion c)) (stylesSay (stylesOf (insertedSetAt h (tankFor c) (numberAt c 1) (numberAt c 2))))
-saysOf Op.Delete h c = acceptedSays (refusalAt h (tankFor c) (deletion c))
-saysOf Op.Remove h c = firstSays (refusalAt h (tankFor c) (removal c)) (removedFirstAt h (tankFor c) (identityOf c) (numberAt c 4))
-saysOf Op.Length h c = countSays (bytes "length=") (counts (askNumber (tankFor c)) (tankAt h (tankFor c) .length))
-saysOf Op.Touched h c = touchedSays (says (askNumber (tankFor c)) (tankAt h (tankFor c) .touched))
-saysOf Op.Runs h c = countSays (bytes "runs=") (counts (askNumber (tankFor c)) (held h (tankFor c)))
-saysOf Op.Value h c = shownSays (valueAsked h (tankFor c) (numberAt c 1) (keyAt c 2))
-saysOf Op.HasKey h c = toldSays (keyAsked h (tankFor c) (startIn c) (endIn c) (keyAt c 3))
-saysOf Op.AllValue h c = toldSays (allValueAsked h (tankFor c) (startIn c) (endIn c) (keyAt c 3) (c .value))
-saysOf Op.Same h c = sharedSays (sameAsked h (tankFor c) (startIn c) (endIn c))
-saysOf Op.Marks h c = setSays (marksAsked h (tankFor c) (numberAt c 1))
-saysOf Op.Inherit h c = setSays (inheritAsked h (tankFor c) (numberAt c 1))
-saysOf Op.Mark h c = askedSays (markAsked h (tankFor c) (numberAt c 1) (numberAt c 2))
-saysOf Op.Inherited h c = askedSays (inheritedAsked h (tankFor c) (numberAt c 1) (numberAt c 2))
-saysOf Op.Stretches h c = askAt h (tankFor c) (refusedSays 1) (λ v. orRefused (rangeNumber (startIn c) (endIn c) (numberAt c 3) v) (listSays (tankFor c) (rangeList (startIn c) (endIn c) v)))
-saysOf Op.StretchesNeeded h c = neededSays (rangeNeededAsked h (tankFor c) (startIn c) (endIn c))
-saysOf Op.Whole h c = wholeSays h (tankFor c) (numberAt c 1)
-saysOf Op.WholeNeeded h c = neededSays (wholeNeededAsked h (tankFor c))
-saysOf Op.Anchors h c = askAt h (tankFor c) (refusedSays 1) (λ v. orRefused (anchorsNumber (numberAt c 1) v) (allAnchorsSay v))
+saysOf (Op.Change e) h c = changeSays e h c
+saysOf (Op.Question q) h c = answerSays q h c
+saysOf (Op.Listing l) h c = listingSays l h c
 
 -- a call performed as one of an op: the next state, and its answer behind what waits
 pub record Performs (op : Op) (s : Tanks) (c : Call) (buffer : List ℕ) (at : ℕ) (r : Done) (out : List ℕ) : Type 0 where

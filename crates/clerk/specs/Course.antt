@@ -11,7 +11,6 @@ use Rattle.tanks.specs.Pool.{meaning, Sound}
 use Rattle.script.specs.declared.Call.{Call}
 use Rattle.script.specs.declared.Ending.{Ending}
 use Rattle.script.specs.declared.Event.{Event}
-use Rattle.script.specs.declared.Op.{Op}
 use Rattle.script.specs.declared.Reader.{Reader}
 use Rattle.text.specs.Bytes.{bytes}
 use Rattle.script.specs.Reading.{freshOf}
@@ -182,7 +181,7 @@ Runs s first buffer r out = RunsFrom (going s first buffer) r out
 
 -- where a whole run begins: fresh tanks, each of share 1 and limit 1 before the first `open`, at the start of a script, with nothing waiting
 abbrev pub beginning : List ℕ → Course
-beginning buffer = record { house = opening smallestSettings; reader = stateOf (readerAt (freshOf Op.Nothing) 0); waits = waiting buffer 0; over = false }
+beginning buffer = record { house = opening smallestSettings; reader = stateOf (readerAt (freshOf 0) 0); waits = waiting buffer 0; over = false }
 
 -- a run from its beginning to its end, in a buffer of its own that has room for a piece
 pub record RunsWhole (r : Eaten) : Type 0 where

@@ -7,10 +7,11 @@ ghost use mathlib.Core.Bool.{false};
 ghost use mathlib.Core.Path.{_≡_};
 ghost use Prim.Native.Nat.{_≤_};
 ghost use lib.ListN.{length};
+ghost use Rattle.script.specs.declared.Op as ops;
 ghost use Rattle.script.specs.Lines.{stateOf};
-ghost use Rattle.tanks.specs.Pool.{Sound};
+ghost use Rattle.tanks.specs.Pool.{Sound, meaning};
 ghost use Rattle.answers.specs.Waiting.{Adds, pieceRoom};
-ghost use Rattle.clerk.specs.Calls.{Performs};
+ghost use Rattle.clerk.specs.Calls.{saysOf, Performs};
 ghost use Rattle.clerk.specs.Course.{malformedSays, Eats, Closes, Reads, Runs, RunsWhole};
 use answers::say;
 use edits::annotated;
@@ -20,9 +21,12 @@ use edits::opened;
 use edits::removed;
 pub use listing::whole;
 use script::Call;
+use script::Change;
 use script::Ending;
 use script::Event;
+use script::Listing;
 use script::Op;
+use script::Question;
 use script::Reader;
 use tanks::Setting;
 use tanks::Tanks;
@@ -71,44 +75,55 @@ fn standing(tanks: Tanks, reader: Reader, at: usize, over: bool) -> Eaten
     }
 }
 
-// The state as it was: a question changes nothing.
-fn kept(s: Tanks, at: usize) -> Done
-    ensures { λ r. ⌜ (r .tanks ≡ s) × (r .at ≡ at) ⌝ }
-{
-    Done { tanks: s, at: at }
-}
-
-// One call: the state after it, and its answer in the output.
-fn perform(s: Tanks, call: Call, out: &mut [u8], at: usize) -> Done
+// A call that changes the tanks: the state after it, and its answer in the output.
+fn change(s: Tanks, e: Change, call: Call, out: &mut [u8], at: usize) -> Done
     requires { ⌜ Sound s ⌝ }
     requires { ⌜ pieceRoom ≤ length (now out) ⌝ }
-    ensures { λ r. ⌜ Performs (call .op) s call (now (out .entry)) at r (now (out .exit)) ⌝ }
+    ensures { λ r. ⌜ Performs (ops.Op.Change e) s call (now (out .entry)) at r (now (out .exit)) ⌝ }
 {
-    let op = call.op;
+    match e {
+        Change::Open => opened(s, call, out, at),
+        Change::Annotate => annotated(s, call, out, at),
+        Change::Insert => inserted(s, call, out, at),
+        Change::Delete => deleted(s, call, out, at),
+        Change::Remove => removed(s, call, out, at),
+    }
+}
+
+// A call that asks leaves the state as it was, and so does not hand it back: the answer is in the output.
+fn answer(s: Tanks, q: Question, call: Call, out: &mut [u8], at: usize) -> usize
+    requires { ⌜ Sound s ⌝ }
+    requires { ⌜ pieceRoom ≤ length (now out) ⌝ }
+    ensures { λ r. ⌜ Adds (now (out .entry)) at (saysOf (ops.Op.Question q) (meaning s) call) r (now (out .exit)) ⌝ }
+{
+    match q {
+        Question::Length => asking::length(s, call, out, at),
+        Question::Touched => asking::touched(s, call, out, at),
+        Question::Runs => asking::runs(s, call, out, at),
+        Question::Value => asking::value(s, call, out, at),
+        Question::HasKey => asking::has_key(s, call, out, at),
+        Question::AllValue => asking::all_value(s, call, out, at),
+        Question::Same => asking::same(s, call, out, at),
+        Question::Marks => asking::marks(s, call, out, at),
+        Question::Inherit => asking::inherit(s, call, out, at),
+        Question::Mark => asking::mark(s, call, out, at),
+        Question::Inherited => asking::inherited(s, call, out, at),
+    }
+}
+
+// One that asks for a list.
+fn listed(s: Tanks, l: Listing, call: Call, out: &mut [u8], at: usize) -> usize
+    requires { ⌜ Sound s ⌝ }
+    requires { ⌜ pieceRoom ≤ length (now out) ⌝ }
+    ensures { λ r. ⌜ Adds (now (out .entry)) at (saysOf (ops.Op.Listing l) (meaning s) call) r (now (out .exit)) ⌝ }
+{
     let n = call.numbers;
-    match op {
-        Op::Nothing => kept(s, at),
-        Op::Open => opened(s, call, out, at),
-        Op::Annotate => annotated(s, call, out, at),
-        Op::Insert => inserted(s, call, out, at),
-        Op::Delete => deleted(s, call, out, at),
-        Op::Remove => removed(s, call, out, at),
-        Op::Length => kept(s, asking::length(s, call, out, at)),
-        Op::Touched => kept(s, asking::touched(s, call, out, at)),
-        Op::Runs => kept(s, asking::runs(s, call, out, at)),
-        Op::Value => kept(s, asking::value(s, call, out, at)),
-        Op::HasKey => kept(s, asking::has_key(s, call, out, at)),
-        Op::AllValue => kept(s, asking::all_value(s, call, out, at)),
-        Op::Same => kept(s, asking::same(s, call, out, at)),
-        Op::Marks => kept(s, asking::marks(s, call, out, at)),
-        Op::Inherit => kept(s, asking::inherit(s, call, out, at)),
-        Op::Mark => kept(s, asking::mark(s, call, out, at)),
-        Op::Inherited => kept(s, asking::inherited(s, call, out, at)),
-        Op::Stretches => kept(s, listing::stretches(s, call, out, at)),
-        Op::StretchesNeeded => kept(s, listing::stretches_needed(s, call, out, at)),
-        Op::Whole => kept(s, whole(s, n[0], n[1], out, at)),
-        Op::WholeNeeded => kept(s, listing::whole_needed(s, call, out, at)),
-        Op::Anchors => kept(s, listing::anchors(s, call, out, at)),
+    match l {
+        Listing::Stretches => listing::stretches(s, call, out, at),
+        Listing::StretchesNeeded => listing::stretches_needed(s, call, out, at),
+        Listing::Whole => whole(s, n[0], n[1], out, at),
+        Listing::WholeNeeded => listing::whole_needed(s, call, out, at),
+        Listing::Anchors => listing::anchors(s, call, out, at),
     }
 }
 
@@ -143,10 +158,22 @@ fn eat(bytes: &[u8], s: Tanks, stand: Stand, out: &mut [u8]) -> Eaten
             }
             Event::Call => {
                 let call = f.call;
-                let d = perform(tanks, call, out, at);
-                let next = d.tanks;
-                tanks = next;
-                at = d.at;
+                let op = call.op;
+                match op {
+                    Op::Nothing => {}
+                    Op::Change(e) => {
+                        let d = change(tanks, e, call, out, at);
+                        let next = d.tanks;
+                        tanks = next;
+                        at = d.at;
+                    }
+                    Op::Question(q) => {
+                        at = answer(tanks, q, call, out, at);
+                    }
+                    Op::Listing(l) => {
+                        at = listed(tanks, l, call, out, at);
+                    }
+                }
             }
         }
     }

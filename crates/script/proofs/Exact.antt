@@ -2,12 +2,12 @@
 use mathlib.Core.Path.{_≡_, refl, ap, _∙_}
 use mathlib.Core.Bool.{Bool, true, false, cond}
 use mathlib.Core.List.{List, [], _∷_, _++_}
-use Prim.Native.Nat.{ℕ, _^_, _≤_, _<_}
+use Prim.Native.Nat.{ℕ, suc, _+_, _^_, _≤_, _<_}
 use native.Mathlib.Omega.{arith}
 use lib.Dec.{T, leb}
 use lib.Ieee.{Float, binary64, toBits, fits}
 use lib.Ieee.Bits.{toBits-lt, ofBits-toBits}
-use lib.ListN.{length, drop}
+use lib.ListN.{length, getD, drop}
 use lib.Seq.{drop-append-seam}
 use borrow.Author.Tests.{le-leb, leb-true}
 use mir.Syntax.{w64}
@@ -20,12 +20,10 @@ use Rattle.text.proofs.Laws.{passed, decimal-back, decimal-only, hex-back}
 use Rattle.text.proofs.Integers.{integer-back}
 use Rattle.text.proofs.Prefix.{starts-split, split-starts, same-true}
 use Rattle.styles.specs.declared.Value.{Value}
-use Rattle.script.specs.declared.Field.{Field}
-use Rattle.script.specs.declared.Op.{Op}
 use Rattle.script.specs.declared.ReadOp.{ReadOp}
 use Rattle.script.specs.declared.ReadValue.{ReadValue}
-use Rattle.script.specs.Grammar.{ops, nameOf, opName}
-use Rattle.script.specs.Reading.{withinOf, numberOf, opAmong, opNamed, valueOf}
+use Rattle.script.specs.Grammar.{Field, OpRow, noRow, ops, rowAt}
+use Rattle.script.specs.Reading.{withinOf, numberOf, opFrom, opNamed, valueOf}
 use Rattle.script.specs.Writing.{kindOf, valueWord}
 
 -- ---- a field's number
@@ -37,32 +35,38 @@ within-only (Parsed.Number k) most n e =
     (o .1, omega (arith, leb-true k most (o .0)))
 
 -- a line is accepted only where it is the field's name and the number's decimal text, and the number is in width
-pub number-only : (f : Field) (most n : ℕ) (line : List ℕ) → numberOf f most line ≡ Parsed.Number n → (line ≡ nameOf f ++ decimalText n) × (n ≤ most)
+pub number-only : (f : Field) (most n : ℕ) (line : List ℕ) → numberOf f most line ≡ Parsed.Number n → (line ≡ f .name ++ decimalText n) × (n ≤ most)
 unfolding numberOf
 number-only f most n line e =
-    let s = passed (startsOf line (nameOf f)) n (withinOf most (decimalOf (drop (length (nameOf f)) line))) e in
-    let w = within-only (decimalOf (drop (length (nameOf f)) line)) most n (s .1) in
-    (starts-split line (nameOf f) (s .0) ∙ ap (λ (t : List ℕ). nameOf f ++ t) (decimal-only (drop (length (nameOf f)) line) n (w .0)), w .1)
+    let s = passed (startsOf line (f .name)) n (withinOf most (decimalOf (drop (length (f .name)) line))) e in
+    let w = within-only (decimalOf (drop (length (f .name)) line)) most n (s .1) in
+    (starts-split line (f .name) (s .0) ∙ ap (λ (t : List ℕ). f .name ++ t) (decimal-only (drop (length (f .name)) line) n (w .0)), w .1)
 
 -- and every such line is
-pub number-back : (f : Field) (most n : ℕ) → n ≤ most → n < 2 ^ 64 → numberOf f most (nameOf f ++ decimalText n) ≡ Parsed.Number n
+pub number-back : (f : Field) (most n : ℕ) → n ≤ most → n < 2 ^ 64 → numberOf f most (f .name ++ decimalText n) ≡ Parsed.Number n
 unfolding numberOf
 number-back f most n h k =
-    ap (λ (b : Bool). cond b (withinOf most (decimalOf (drop (length (nameOf f)) (nameOf f ++ decimalText n)))) Parsed.Bad) (split-starts (nameOf f) (decimalText n))
-    ∙ ap (λ (t : List ℕ). withinOf most (decimalOf t)) (drop-append-seam (nameOf f) (decimalText n))
+    ap (λ (b : Bool). cond b (withinOf most (decimalOf (drop (length (f .name)) (f .name ++ decimalText n)))) Parsed.Bad) (split-starts (f .name) (decimalText n))
+    ∙ ap (λ (t : List ℕ). withinOf most (decimalOf t)) (drop-append-seam (f .name) (decimalText n))
     ∙ ap (withinOf most) (decimal-back n k)
     ∙ ap (λ (b : Bool). cond b (Parsed.Number n) Parsed.Bad) (le-leb n most h)
 
 -- ---- an op's name
-among-only : (os : List Op) (t : List ℕ) (op : Op) → opAmong os t ReadOp.Bad ≡ ReadOp.Op op → t ≡ opName op
-among-only [] t op e = let z : _≡_ {A = ℕ} 0 1 = cc in absurd (omega arith)
-among-only (o ∷ os) t op e =
-    cond-cases (λ r. r ≡ ReadOp.Op op → t ≡ opName op) (sameOf t (opName o)) (λ h f. let q : o ≡ op = cc in same-true t (opName o) h ∙ ap opName q) (λ h. among-only os t op) e
+from-only : (rs : List OpRow) (i : ℕ) (t : List ℕ) (n : ℕ) → opFrom i rs t ≡ ReadOp.Row n → (k : ℕ) × ((n ≡ i + k) × (t ≡ getD rs k noRow .name))
+from-only [] i t n e = let z : _≡_ {A = ℕ} 0 1 = cc in absurd (omega arith)
+from-only (r ∷ rs) i t n e =
+    cond-cases (λ x. x ≡ ReadOp.Row n → (k : ℕ) × ((n ≡ i + k) × (t ≡ getD (r ∷ rs) k noRow .name))) (sameOf t (r .name))
+    (λ h f. let q : i ≡ n = cc in (0, (omega arith, same-true t (r .name) h)))
+    (λ h f. let w = from-only rs (suc i) t n f in (suc (w .0), (omega (arith, w .1 .0), w .1 .1)))
+    e
 
 -- a text is an op only where it is the op's name; that every name is known is shown in Tests
-pub op-only : (t : List ℕ) (op : Op) → opNamed t ≡ ReadOp.Op op → t ≡ opName op
+pub op-only : (t : List ℕ) (n : ℕ) → opNamed t ≡ ReadOp.Row n → t ≡ rowAt n .name
 unfolding opNamed
-op-only t op e = among-only ops t op e
+op-only t n e =
+    let w = from-only ops 1 t n e in
+    let q : suc (w .0) ≡ n = omega (arith, w .1 .0) in
+    w .1 .1 ∙ ap (λ (i : ℕ). rowAt i .name) q
 
 -- ---- a value
 -- a value that 64 bits hold

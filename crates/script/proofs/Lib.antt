@@ -1,5 +1,4 @@
 pub mod Tables
-pub mod Places
 pub mod LineLaws
 pub mod CutLaws
 pub mod PutLaws

@@ -10,10 +10,9 @@ use Rattle.text.specs.Number.{put}
 use Rattle.text.specs.Bytes.{startsOf}
 use Rattle.text.proofs.Prefix.{starts-length, rest-part}
 use Rattle.laws.proofs.Lists.{drop-filling}
-use Rattle.script.specs.declared.Field.{Field}
 use Rattle.script.specs.declared.Name.{Name}
 use Rattle.script.specs.declared.Start.{Start}
-use Rattle.script.specs.Grammar.{nameOf, spelledOf, spelling}
+use Rattle.script.specs.Grammar.{Field, spelledOf, spelling}
 use Rattle.script.specs.Reading.{startOf, afterName}
 
 -- a name spells its bytes, is as long as they are, and is within its places
@@ -48,18 +47,18 @@ not-started true n e = cc
 not-started false n e = refl
 
 module _ (f : Field) (line : List ℕ) where
-  pub start-here : (k : ℕ) → startOf f line ≡ Start.At k → (startsOf line (nameOf f) ≡ true) × (length (nameOf f) ≡ k)
+  pub start-here : (k : ℕ) → startOf f line ≡ Start.At k → (startsOf line (f .name) ≡ true) × (length (f .name) ≡ k)
   unfolding startOf
-  start-here k e = started (startsOf line (nameOf f)) (length (nameOf f)) k e
+  start-here k e = started (startsOf line (f .name)) (length (f .name)) k e
 
   pub start-fits : (k : ℕ) → startOf f line ≡ Start.At k → k ≤ length line
-  start-fits k e = let s = start-here k e in omega (arith, s .1, starts-length line (nameOf f) (s .0))
+  start-fits k e = let s = start-here k e in omega (arith, s .1, starts-length line (f .name) (s .0))
 
   pub name-here : {A : Type 0} (bad : A) (way : List ℕ → A) (k : ℕ) → startOf f line ≡ Start.At k → way (take (length line - k) (drop k line)) ≡ afterName f bad way line
   name-here bad way k e =
       let s = start-here k e in
-      ap way (rest-part k line ∙ ap (λ (j : ℕ). drop j line) (sym (s .1))) ∙ ap (λ (b : Bool). cond b (way (drop (length (nameOf f)) line)) bad) (sym (s .0))
+      ap way (rest-part k line ∙ ap (λ (j : ℕ). drop j line) (sym (s .1))) ∙ ap (λ (b : Bool). cond b (way (drop (length (f .name)) line)) bad) (sym (s .0))
 
   pub name-none : {A : Type 0} (bad : A) (way : List ℕ → A) → startOf f line ≡ Start.Nowhere → bad ≡ afterName f bad way line
   unfolding startOf
-  name-none bad way e = ap (λ (b : Bool). cond b (way (drop (length (nameOf f)) line)) bad) (sym (not-started (startsOf line (nameOf f)) (length (nameOf f)) e))
+  name-none bad way e = ap (λ (b : Bool). cond b (way (drop (length (f .name)) line)) bad) (sym (not-started (startsOf line (f .name)) (length (f .name)) e))

@@ -1,42 +1,45 @@
 -- Closed examples: what the definitions say of a few lines.
 use mathlib.Core.Path.{_≡_, refl}
 use mathlib.Core.Bool.{true}
-use mathlib.Core.List.{[], _++_, map}
+use mathlib.Core.List.{List, [], _∷_, _++_, map}
+use Prim.Native.Nat.{ℕ, suc}
 use lib.ListN.{replicate}
 use Rattle.text.specs.declared.Parsed.{Parsed}
 use Rattle.text.specs.Number.{allDigits, valueIn, numberIn, decimalOf}
 use Rattle.text.specs.Signed.{signedOf, minusOf}
 use Rattle.text.specs.Bytes.{bytes, upTo, holds, startsOf, sameOf}
-use Rattle.script.specs.declared.Field.{Field}
 use Rattle.script.specs.declared.Kind.{Kind}
-use Rattle.script.specs.declared.Op.{Op}
 use Rattle.script.specs.declared.Progress.{Progress}
 use Rattle.script.specs.declared.ReadOp.{ReadOp}
 use Rattle.script.specs.declared.ReadValue.{ReadValue}
 use Rattle.script.specs.declared.Reader.{Reader}
-use Rattle.script.specs.Grammar.{ops, opName, spelling}
+use Rattle.script.specs.Grammar.{key, OpRow, ops, spelling}
 use Rattle.script.specs.Reading.{numberOf, opNamed, valueOf, freshOf, movedOf, heldLine, lineOf}
 use Rattle.script.specs.Lines.{emptyLine, holding, cutOf, readerAt, State, readOf, afterOf, readerAfter}
 
+numbered : ℕ → List OpRow → List ℕ
+numbered i [] = []
+numbered i (r ∷ rs) = i ∷ numbered (suc i) rs
+
 -- every op is known by its name
-names-known : map (λ (o : Op). opNamed (opName o)) ops ≡ map ReadOp.Op ops
-unfolding opNamed sameOf startsOf
+names-known : map (λ (r : OpRow). opNamed (r .name)) ops ≡ map ReadOp.Row (numbered 1 ops)
+unfolding opNamed sameOf startsOf numbered
 names-known = refl
 
 -- a key has 16 bits, and another field's line is not taken for it
-most-key : numberOf Field.Key 65535 (bytes "key=65535") ≡ Parsed.Number 65535
+most-key : numberOf key 65535 (bytes "key=65535") ≡ Parsed.Number 65535
 unfolding numberOf startsOf decimalOf numberIn allDigits valueIn
 most-key = refl
 
-wide-key : numberOf Field.Key 65535 (bytes "key=65536") ≡ Parsed.Bad
+wide-key : numberOf key 65535 (bytes "key=65536") ≡ Parsed.Bad
 unfolding numberOf startsOf decimalOf numberIn allDigits valueIn
 wide-key = refl
 
-leading-zero : numberOf Field.Key 65535 (bytes "key=07") ≡ Parsed.Bad
+leading-zero : numberOf key 65535 (bytes "key=07") ≡ Parsed.Bad
 unfolding numberOf startsOf decimalOf numberIn allDigits valueIn
 leading-zero = refl
 
-other-field : numberOf Field.Key 65535 (bytes "tank=7") ≡ Parsed.Bad
+other-field : numberOf key 65535 (bytes "tank=7") ≡ Parsed.Bad
 unfolding numberOf startsOf decimalOf numberIn allDigits valueIn
 other-field = refl
 
@@ -45,19 +48,19 @@ unfolding valueOf signedOf minusOf decimalOf numberIn allDigits valueIn
 minus-zero = refl
 
 -- the one field of `length` makes the call whole
-whole-call : lineOf (freshOf Op.Length) (bytes "tank=7") .progress ≡ Progress.Ready
+whole-call : lineOf (freshOf 6) (bytes "tank=7") .progress ≡ Progress.Ready
 unfolding lineOf heldLine movedOf numberOf startsOf decimalOf numberIn allDigits valueIn
 whole-call = refl
 
-out-of-order : lineOf (freshOf Op.Insert) (bytes "at=7") .progress ≡ Progress.Bad
+out-of-order : lineOf (freshOf 3) (bytes "at=7") .progress ≡ Progress.Bad
 unfolding lineOf heldLine movedOf numberOf startsOf decimalOf numberIn allDigits valueIn
 out-of-order = refl
 
 start : State
-start = record { held = bytes "op=ru"; call = freshOf Op.Nothing; newlines = 4 }
+start = record { held = bytes "op=ru"; call = freshOf 0; newlines = 4 }
 
 -- a line whose start came before
-second-half : afterOf start (bytes "ns\ntank=1") ≡ record { held = []; call = freshOf Op.Runs; newlines = 5 }
+second-half : afterOf start (bytes "ns\ntank=1") ≡ record { held = []; call = freshOf 8; newlines = 5 }
 unfolding start afterOf upTo holds lineOf heldLine opNamed sameOf startsOf
 second-half = refl
 
@@ -73,23 +76,23 @@ cut-line = refl
 
 -- a reader within a line
 within : Reader
-within = record { line = holding emptyLine (bytes "tank="); call = freshOf Op.Length; newlines = 1 }
+within = record { line = holding emptyLine (bytes "tank="); call = freshOf 6; newlines = 1 }
 
 -- the line goes on behind what is kept
-open-line : readerAfter within (bytes "7") ≡ record { line = holding emptyLine (bytes "tank=7"); call = freshOf Op.Length; newlines = 1 }
+open-line : readerAfter within (bytes "7") ≡ record { line = holding emptyLine (bytes "tank=7"); call = freshOf 6; newlines = 1 }
 unfolding within readerAfter afterOf upTo holds lineOf
 open-line = refl
 
 -- the next starts empty, here with a new call
-next-line : readerAfter within (bytes "7\nop=") ≡ readerAt (freshOf Op.Nothing) 2
+next-line : readerAfter within (bytes "7\nop=") ≡ readerAt (freshOf 0) 2
 unfolding within readerAfter afterOf upTo holds lineOf heldLine movedOf numberOf startsOf decimalOf numberIn allDigits valueIn
 next-line = refl
 
 -- the call as a line's end leaves it, and before that as it was
-named-call : readOf start (bytes "ns\ntank=1") .call ≡ freshOf Op.Runs
+named-call : readOf start (bytes "ns\ntank=1") .call ≡ freshOf 8
 unfolding start upTo holds lineOf heldLine opNamed sameOf startsOf
 named-call = refl
 
-waiting-call : readOf start (bytes "ns") .call ≡ freshOf Op.Nothing
+waiting-call : readOf start (bytes "ns") .call ≡ freshOf 0
 unfolding start holds
 waiting-call = refl

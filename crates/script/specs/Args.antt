@@ -9,7 +9,7 @@ use Rattle.script.specs.declared.Call.{Call}
 abbrev pub numberAt : Call → ℕ → ℕ
 numberAt c i = getD (c .numbers) i 0
 
--- A number that was read is within its field's width (Grammar: holdsOf), so that a remainder below is the number itself.
+-- A number that was read is within its field's width (Grammar), so that a remainder below is the number itself.
 
 -- the key at a place
 abbrev pub keyAt : Call → ℕ → ℕ

@@ -1,152 +1,173 @@
--- The ops of a call script, the fields of each in their order, and what each field holds.
+-- The two tables of a call script: the fields, how the line of each begins and what it gives, and the ops, how each is called and which fields it has, in their order.
 use mathlib.Core.List.{List, [], _∷_, _++_}
-use Prim.Native.Nat.{ℕ, _-_, _^_}
+use Prim.Native.Nat.{ℕ, _+_, _-_, _^_}
+use Prim.Native.String.{String}
 use lib.ListN.{length, getD, take, replicate}
+use Rattle.script.specs.declared.Change.{Change}
+use Rattle.script.specs.declared.Listing.{Listing}
 use Rattle.script.specs.declared.Op.{Op}
+use Rattle.script.specs.declared.Question.{Question}
 use Rattle.script.specs.declared.Progress.{Progress}
-use Rattle.script.specs.declared.Field.{Field}
-use Rattle.script.specs.declared.Field.the-variants.{Done, OpName, Tank, Start, End, At, Len, Key, Lamport, Peer, Last, Flags, Value, Rank, Room, Share0, Limit0, Share1, Limit1, Share2, Limit2, Share3, Limit3, Share4, Limit4, Share5, Limit5, Share6, Limit6, Share7, Limit7}
 use Rattle.script.specs.declared.Holds.{Holds}
 use Rattle.script.specs.declared.Kind.{Kind}
 use Rattle.script.specs.declared.Name.{Name}
 use Rattle.text.specs.Bytes.{bytes}
 
--- the ops that a script can name
-abbrev pub ops : List Op
-ops = Op.Open ∷ Op.Annotate ∷ Op.Insert ∷ Op.Delete ∷ Op.Remove ∷ Op.Length ∷ Op.Touched ∷ Op.Runs ∷ Op.Value ∷ Op.HasKey ∷ Op.AllValue ∷ Op.Same ∷ Op.Marks ∷ Op.Inherit ∷ Op.Mark ∷ Op.Inherited ∷ Op.Stretches ∷ Op.StretchesNeeded ∷ Op.Whole ∷ Op.WholeNeeded ∷ Op.Anchors ∷ []
+-- ---- Fields
+-- how a field's line begins, and what it gives
+pub record Field : Type 0 where
+  pub name : List ℕ
+  pub holds : Holds
 
--- the name of an op; between two groups there is none
-abbrev pub opName : Op → List ℕ
-opName Op.Nothing = []
-opName Op.Open = bytes "open"
-opName Op.Annotate = bytes "annotate"
-opName Op.Insert = bytes "insert"
-opName Op.Delete = bytes "delete"
-opName Op.Remove = bytes "remove"
-opName Op.Length = bytes "length"
-opName Op.Touched = bytes "touched"
-opName Op.Runs = bytes "runs"
-opName Op.Value = bytes "value"
-opName Op.HasKey = bytes "has_key"
-opName Op.AllValue = bytes "all_value"
-opName Op.Same = bytes "same"
-opName Op.Marks = bytes "marks"
-opName Op.Inherit = bytes "inherit"
-opName Op.Mark = bytes "mark"
-opName Op.Inherited = bytes "inherited"
-opName Op.Stretches = bytes "stretches"
-opName Op.StretchesNeeded = bytes "stretches_needed"
-opName Op.Whole = bytes "whole"
-opName Op.WholeNeeded = bytes "whole_needed"
-opName Op.Anchors = bytes "anchors"
+-- where no field is to come
+abbrev pub noField : Field
+noField = record { name = []; holds = Holds.Nothing }
 
--- the fields of an op, in their order; a group starts with the line that names its op
-abbrev pub fieldsOf : Op → List Field
-fieldsOf Op.Nothing = OpName ∷ []
-fieldsOf Op.Open = Share0 ∷ Limit0 ∷ Share1 ∷ Limit1 ∷ Share2 ∷ Limit2 ∷ Share3 ∷ Limit3 ∷ Share4 ∷ Limit4 ∷ Share5 ∷ Limit5 ∷ Share6 ∷ Limit6 ∷ Share7 ∷ Limit7 ∷ []
-fieldsOf Op.Annotate = Tank ∷ Start ∷ End ∷ Key ∷ Lamport ∷ Peer ∷ Flags ∷ Field.Kind ∷ Value ∷ []
-fieldsOf Op.Insert = Tank ∷ At ∷ Len ∷ []
-fieldsOf Op.Delete = Tank ∷ Start ∷ End ∷ []
-fieldsOf Op.Remove = Tank ∷ Key ∷ Lamport ∷ Peer ∷ Last ∷ []
-fieldsOf Op.Length = Tank ∷ []
-fieldsOf Op.Touched = Tank ∷ []
-fieldsOf Op.Runs = Tank ∷ []
-fieldsOf Op.Value = Tank ∷ At ∷ Key ∷ []
-fieldsOf Op.HasKey = Tank ∷ Start ∷ End ∷ Key ∷ []
-fieldsOf Op.AllValue = Tank ∷ Start ∷ End ∷ Key ∷ Field.Kind ∷ Value ∷ []
-fieldsOf Op.Same = Tank ∷ Start ∷ End ∷ []
-fieldsOf Op.Marks = Tank ∷ At ∷ []
-fieldsOf Op.Inherit = Tank ∷ At ∷ []
-fieldsOf Op.Mark = Tank ∷ At ∷ Rank ∷ []
-fieldsOf Op.Inherited = Tank ∷ At ∷ Rank ∷ []
-fieldsOf Op.Stretches = Tank ∷ Start ∷ End ∷ Room ∷ []
-fieldsOf Op.StretchesNeeded = Tank ∷ Start ∷ End ∷ []
-fieldsOf Op.Whole = Tank ∷ Room ∷ []
-fieldsOf Op.WholeNeeded = Tank ∷ []
-fieldsOf Op.Anchors = Tank ∷ Room ∷ []
-
--- the field at a place, and Done past the last
-abbrev pub fieldAt : Op → ℕ → Field
-fieldAt op i = getD (fieldsOf op) i Done
-
--- sixteen places for the fields
-abbrev pub padded : List Field → List Field
-padded fs = fs ++ replicate (16 - length fs) Done
-
--- how a field's line begins
-abbrev pub nameOf : Field → List ℕ
-nameOf Done = []
-nameOf OpName = bytes "op="
-nameOf Tank = bytes "tank="
-nameOf Start = bytes "start="
-nameOf End = bytes "end="
-nameOf At = bytes "at="
-nameOf Len = bytes "len="
-nameOf Key = bytes "key="
-nameOf Lamport = bytes "lamport="
-nameOf Peer = bytes "peer="
-nameOf Last = bytes "last="
-nameOf Flags = bytes "flags="
-nameOf Field.Kind = bytes "kind="
-nameOf Value = bytes "value="
-nameOf Rank = bytes "rank="
-nameOf Room = bytes "room="
-nameOf Share0 = bytes "share0="
-nameOf Limit0 = bytes "limit0="
-nameOf Share1 = bytes "share1="
-nameOf Limit1 = bytes "limit1="
-nameOf Share2 = bytes "share2="
-nameOf Limit2 = bytes "limit2="
-nameOf Share3 = bytes "share3="
-nameOf Limit3 = bytes "limit3="
-nameOf Share4 = bytes "share4="
-nameOf Limit4 = bytes "limit4="
-nameOf Share5 = bytes "share5="
-nameOf Limit5 = bytes "limit5="
-nameOf Share6 = bytes "share6="
-nameOf Limit6 = bytes "limit6="
-nameOf Share7 = bytes "share7="
-nameOf Limit7 = bytes "limit7="
+-- a field by the word for it
+abbrev pub field : String → Holds → Field
+field word h = record { name = bytes word ++ bytes "="; holds = h }
 
 -- the most that a number of so many bits can be
 abbrev pub mostOf : ℕ → ℕ
 mostOf bits = 2 ^ bits - 1
 
--- what a field's line gives
-abbrev pub holdsOf : Field → Holds
-holdsOf Done = Holds.Nothing
-holdsOf OpName = Holds.Op
-holdsOf Field.Kind = Holds.Kind
-holdsOf Value = Holds.Value
-holdsOf Key = Holds.Number (mostOf 16)
-holdsOf Lamport = Holds.Number (mostOf 32)
-holdsOf Flags = Holds.Number (mostOf 8)
-holdsOf Tank = Holds.Number (mostOf 64)
-holdsOf Start = Holds.Number (mostOf 64)
-holdsOf End = Holds.Number (mostOf 64)
-holdsOf At = Holds.Number (mostOf 64)
-holdsOf Len = Holds.Number (mostOf 64)
-holdsOf Peer = Holds.Number (mostOf 64)
-holdsOf Last = Holds.Number (mostOf 64)
-holdsOf Rank = Holds.Number (mostOf 64)
-holdsOf Room = Holds.Number (mostOf 64)
-holdsOf Share0 = Holds.Number (mostOf 64)
-holdsOf Limit0 = Holds.Number (mostOf 64)
-holdsOf Share1 = Holds.Number (mostOf 64)
-holdsOf Limit1 = Holds.Number (mostOf 64)
-holdsOf Share2 = Holds.Number (mostOf 64)
-holdsOf Limit2 = Holds.Number (mostOf 64)
-holdsOf Share3 = Holds.Number (mostOf 64)
-holdsOf Limit3 = Holds.Number (mostOf 64)
-holdsOf Share4 = Holds.Number (mostOf 64)
-holdsOf Limit4 = Holds.Number (mostOf 64)
-holdsOf Share5 = Holds.Number (mostOf 64)
-holdsOf Limit5 = Holds.Number (mostOf 64)
-holdsOf Share6 = Holds.Number (mostOf 64)
-holdsOf Limit6 = Holds.Number (mostOf 64)
-holdsOf Share7 = Holds.Number (mostOf 64)
-holdsOf Limit7 = Holds.Number (mostOf 64)
+-- a field that gives a number of so many bits
+abbrev pub number : String → ℕ → Field
+number word bits = field word (Holds.Number (mostOf bits))
 
+-- a setting of one of the eight tanks: the tank's digit stands behind the word
+abbrev pub setting : String → ℕ → Field
+setting word i = record { name = bytes word ++ (48 + i) ∷ bytes "="; holds = Holds.Number (mostOf 64) }
+
+-- the line that names an op
+abbrev pub opLine : Field
+opLine = field "op" Holds.Op
+
+-- a tank, and in it a range, a position, a length, or the last position that is looked at
+abbrev pub tank : Field
+tank = number "tank" 64
+
+abbrev pub start : Field
+start = number "start" 64
+
+abbrev pub end : Field
+end = number "end" 64
+
+abbrev pub at : Field
+at = number "at" 64
+
+abbrev pub len : Field
+len = number "len" 64
+
+abbrev pub last : Field
+last = number "last" 64
+
+-- the parts of a mark; a kind says how the value's line is read
+abbrev pub key : Field
+key = number "key" 16
+
+abbrev pub lamport : Field
+lamport = number "lamport" 32
+
+abbrev pub peer : Field
+peer = number "peer" 64
+
+abbrev pub flags : Field
+flags = number "flags" 8
+
+abbrev pub kind : Field
+kind = field "kind" Holds.Kind
+
+abbrev pub value : Field
+value = field "value" Holds.Value
+
+-- which mark of a position is asked for, and how much an answer may take
+abbrev pub rank : Field
+rank = number "rank" 64
+
+abbrev pub room : Field
+room = number "room" 64
+
+-- a share and a limit for each of the eight tanks
+abbrev pub settings : List Field
+settings =
+    setting "share" 0 ∷ setting "limit" 0 ∷ setting "share" 1 ∷ setting "limit" 1 ∷ setting "share" 2 ∷ setting "limit" 2 ∷ setting "share" 3 ∷ setting "limit" 3 ∷
+    setting "share" 4 ∷ setting "limit" 4 ∷ setting "share" 5 ∷ setting "limit" 5 ∷ setting "share" 6 ∷ setting "limit" 6 ∷ setting "share" 7 ∷ setting "limit" 7 ∷ []
+
+-- ---- Ops
+-- an op, its name, and its fields in their order
+pub record OpRow : Type 0 where
+  pub op : Op
+  pub name : List ℕ
+  pub fields : List Field
+
+-- a row of the table
+abbrev pub row : Op → String → List Field → OpRow
+row op word fields = record { op = op; name = bytes word; fields = fields }
+
+-- of an op that changes the tanks
+abbrev pub change : Change → String → List Field → OpRow
+change e = row (Op.Change e)
+
+-- of one that asks
+abbrev pub question : Question → String → List Field → OpRow
+question q = row (Op.Question q)
+
+-- of one that asks for a list
+abbrev pub listing : Listing → String → List Field → OpRow
+listing l = row (Op.Listing l)
+
+-- the ops that a script can name
+abbrev pub ops : List OpRow
+ops =
+    change Change.Open "open" settings ∷
+    change Change.Annotate "annotate" (tank ∷ start ∷ end ∷ key ∷ lamport ∷ peer ∷ flags ∷ kind ∷ value ∷ []) ∷
+    change Change.Insert "insert" (tank ∷ at ∷ len ∷ []) ∷
+    change Change.Delete "delete" (tank ∷ start ∷ end ∷ []) ∷
+    change Change.Remove "remove" (tank ∷ key ∷ lamport ∷ peer ∷ last ∷ []) ∷
+    question Question.Length "length" (tank ∷ []) ∷
+    question Question.Touched "touched" (tank ∷ []) ∷
+    question Question.Runs "runs" (tank ∷ []) ∷
+    question Question.Value "value" (tank ∷ at ∷ key ∷ []) ∷
+    question Question.HasKey "has_key" (tank ∷ start ∷ end ∷ key ∷ []) ∷
+    question Question.AllValue "all_value" (tank ∷ start ∷ end ∷ key ∷ kind ∷ value ∷ []) ∷
+    question Question.Same "same" (tank ∷ start ∷ end ∷ []) ∷
+    question Question.Marks "marks" (tank ∷ at ∷ []) ∷
+    question Question.Inherit "inherit" (tank ∷ at ∷ []) ∷
+    question Question.Mark "mark" (tank ∷ at ∷ rank ∷ []) ∷
+    question Question.Inherited "inherited" (tank ∷ at ∷ rank ∷ []) ∷
+    listing Listing.Stretches "stretches" (tank ∷ start ∷ end ∷ room ∷ []) ∷
+    listing Listing.StretchesNeeded "stretches_needed" (tank ∷ start ∷ end ∷ []) ∷
+    listing Listing.Whole "whole" (tank ∷ room ∷ []) ∷
+    listing Listing.WholeNeeded "whole_needed" (tank ∷ []) ∷
+    listing Listing.Anchors "anchors" (tank ∷ room ∷ []) ∷
+    []
+
+-- between two groups there is no op, and the line that names one is to come
+abbrev pub idleRow : OpRow
+idleRow = row Op.Nothing "" (opLine ∷ [])
+
+-- where there is no row
+abbrev pub noRow : OpRow
+noRow = row Op.Nothing "" []
+
+-- a call has its op by the number of its row: 0 between two groups, and from 1 on as above
+abbrev pub opRows : List OpRow
+opRows = idleRow ∷ ops
+
+-- how many rows there are
+abbrev pub opCount : ℕ
+opCount = length opRows
+
+-- the row of a number
+abbrev pub rowAt : ℕ → OpRow
+rowAt i = getD opRows i noRow
+
+-- the field at a place of a row, and none past the last
+abbrev pub fieldAt : ℕ → ℕ → Field
+fieldAt i place = getD (rowAt i .fields) place noField
+
+-- ---- Progress, kinds and names
 -- how a call stands when this comes next: whole where nothing does
 abbrev pub progressOf : Holds → Progress
 progressOf Holds.Nothing = Progress.Ready

@@ -1,6 +1,6 @@
 pub mod Grammar
 pub mod Reading
 pub mod Lines
-pub mod Names
+pub mod Cells
 pub mod Args
 pub mod Writing

@@ -13,11 +13,10 @@ use Rattle.script.specs.declared.Event.{Event}
 use Rattle.script.specs.declared.Fed.{Fed}
 use Rattle.script.specs.declared.Holds.{Holds}
 use Rattle.script.specs.declared.Line.{Line}
-use Rattle.script.specs.declared.Op.{Op}
 use Rattle.script.specs.declared.Progress.{Progress}
 use Rattle.script.specs.declared.Read.{Read}
 use Rattle.script.specs.declared.Reader.{Reader}
-use Rattle.script.specs.Grammar.{fieldAt, holdsOf}
+use Rattle.script.specs.Grammar.{fieldAt}
 use Rattle.script.specs.Reading.{freshOf, lineOf}
 
 -- the bytes in front of the first newline
@@ -89,7 +88,7 @@ eventOf Progress.Ready = Event.Call
 abbrev pub turnedOf : ℕ → Progress → Call → State
 turnedOf n Progress.Bad c = record { held = []; call = c; newlines = n }
 turnedOf n Progress.More c = record { held = []; call = c; newlines = countedOf n }
-turnedOf n Progress.Ready c = record { held = []; call = freshOf Op.Nothing; newlines = countedOf n }
+turnedOf n Progress.Ready c = record { held = []; call = freshOf 0; newlines = countedOf n }
 
 -- what the bytes up to the first newline, or all of them, make of the call: a line is read at its newline, and before it the call stays as it was
 abbrev pub readOf : State → List ℕ → Read
@@ -130,4 +129,4 @@ endingBy Holds.Value = Ending.Cut
 
 -- whether the input may end here: between two calls, with no line begun
 unfoldable pub endingOf : State → Ending
-endingOf s = cond (eqb (length (s .held)) 0) (endingBy (holdsOf (fieldAt (s .call .op) (s .call .place)))) Ending.Cut
+endingOf s = cond (eqb (length (s .held)) 0) (endingBy (fieldAt (s .call .row) (s .call .place) .holds)) Ending.Cut

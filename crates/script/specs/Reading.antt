@@ -1,7 +1,7 @@
 -- What a line gives to a call.
 use mathlib.Core.Bool.{true, false, cond}
 use mathlib.Core.List.{List, [], _∷_}
-use Prim.Native.Nat.{ℕ, _+_}
+use Prim.Native.Nat.{ℕ, suc, _+_}
 use lib.Dec.{ltb, leb, eqb}
 use lib.Ieee.{ofBits, binary64}
 use lib.ListN.{length, drop, set, replicate}
@@ -12,7 +12,6 @@ use Rattle.text.specs.Signed.{signedOf}
 use Rattle.text.specs.Bytes.{bytes, startsOf, sameOf}
 use Rattle.styles.specs.declared.Value.{Value}
 use Rattle.script.specs.declared.Call.{Call}
-use Rattle.script.specs.declared.Field.{Field}
 use Rattle.script.specs.declared.Holds.{Holds}
 use Rattle.script.specs.declared.Kind.{Kind}
 use Rattle.script.specs.declared.Op.{Op}
@@ -22,15 +21,15 @@ use Rattle.script.specs.declared.ReadKind.{ReadKind}
 use Rattle.script.specs.declared.ReadOp.{ReadOp}
 use Rattle.script.specs.declared.ReadValue.{ReadValue}
 use Rattle.script.specs.declared.Start.{Start}
-use Rattle.script.specs.Grammar.{ops, opName, kindName, nameOf, fieldAt, holdsOf, progressOf}
+use Rattle.script.specs.Grammar.{Field, OpRow, ops, rowAt, kindName, fieldAt, progressOf}
 
 -- where the value starts in a field's line
 unfoldable pub startOf : Field → List ℕ → Start
-startOf f line = cond (startsOf line (nameOf f)) (Start.At (length (nameOf f))) Start.Nowhere
+startOf f line = cond (startsOf line (f .name)) (Start.At (length (f .name))) Start.Nowhere
 
 -- what follows a field's name in its line, read in a way
 abbrev pub afterName : {A : Type 0} → Field → A → (List ℕ → A) → List ℕ → A
-afterName f bad way line = cond (startsOf line (nameOf f)) (way (drop (length (nameOf f)) line)) bad
+afterName f bad way line = cond (startsOf line (f .name)) (way (drop (length (f .name)) line)) bad
 
 -- a number that is at most so much
 abbrev pub withinOf : ℕ → Parsed → Parsed
@@ -46,13 +45,14 @@ abbrev pub among : {A R : Type 0} → (A → List ℕ) → (A → R) → List A 
 among name gives [] t other = other
 among name gives (x ∷ xs) t other = cond (sameOf t (name x)) (gives x) (among name gives xs t other)
 
--- of ops
-abbrev pub opAmong : List Op → List ℕ → ReadOp → ReadOp
-opAmong = among opName ReadOp.Op
+-- the first row of a list that has a name, by its number, where the list begins with row i
+abbrev pub opFrom : ℕ → List OpRow → List ℕ → ReadOp
+opFrom i [] t = ReadOp.Bad
+opFrom i (r ∷ rs) t = cond (sameOf t (r .name)) (ReadOp.Row i) (opFrom (suc i) rs t)
 
--- the op with a name
+-- the op with a name, by its row
 unfoldable pub opNamed : List ℕ → ReadOp
-opNamed t = opAmong ops t ReadOp.Bad
+opNamed t = opFrom 1 ops t
 
 -- of kinds
 abbrev pub kindAmong : List Kind → List ℕ → ReadKind → ReadKind
@@ -79,16 +79,16 @@ valueOf Kind.Bool t = cond (sameOf t (bytes "0")) (ReadValue.Value (Value.Flag f
 valueOf Kind.Whole t = wholeOf (signedOf t)
 valueOf Kind.Decimal t = decimalOfBits (hexOf t)
 
--- a call of which only the op is known
-abbrev pub freshOf : Op → Call
-freshOf op = record { op = op; place = 0; numbers = replicate 16 0; kind = Kind.Null; value = Value.Null }
+-- a call of which only the op is known, by its row
+abbrev pub freshOf : ℕ → Call
+freshOf row = record { op = rowAt row .op; row = row; place = 0; numbers = replicate 16 0; kind = Kind.Null; value = Value.Null }
 
 -- the call with one field more: whole where that was the last
-unfoldable pub movedOf : Op → ℕ → List ℕ → Kind → Value → Read
-movedOf op place numbers kind value =
+unfoldable pub movedOf : Op → ℕ → ℕ → List ℕ → Kind → Value → Read
+movedOf op row place numbers kind value =
     record {
-      call = record { op = op; place = place + 1; numbers = numbers; kind = kind; value = value };
-      progress = progressOf (holdsOf (fieldAt op (place + 1)));
+      call = record { op = op; row = row; place = place + 1; numbers = numbers; kind = kind; value = value };
+      progress = progressOf (fieldAt row (place + 1) .holds);
     }
 
 -- a bad line leaves the call as it was
@@ -98,22 +98,22 @@ badOf c = record { call = c; progress = Progress.Bad }
 -- what is read goes into the call: an op begins it anew
 abbrev pub withOp : Call → ReadOp → Read
 withOp c ReadOp.Bad = badOf c
-withOp c (ReadOp.Op op) = record { call = freshOf op; progress = Progress.More }
+withOp c (ReadOp.Row row) = record { call = freshOf row; progress = Progress.More }
 
 -- a number goes to its field's place
 abbrev pub withNumber : Call → Parsed → Read
 withNumber c Parsed.Bad = badOf c
-withNumber c (Parsed.Number n) = movedOf (c .op) (c .place) (set (c .numbers) (c .place) n) (c .kind) (c .value)
+withNumber c (Parsed.Number n) = movedOf (c .op) (c .row) (c .place) (set (c .numbers) (c .place) n) (c .kind) (c .value)
 
 -- a kind says how the value's line is read
 abbrev pub withKind : Call → ReadKind → Read
 withKind c ReadKind.Bad = badOf c
-withKind c (ReadKind.Kind k) = movedOf (c .op) (c .place) (c .numbers) k (c .value)
+withKind c (ReadKind.Kind k) = movedOf (c .op) (c .row) (c .place) (c .numbers) k (c .value)
 
 -- a value is the call's value
 abbrev pub withValue : Call → ReadValue → Read
 withValue c ReadValue.Bad = badOf c
-withValue c (ReadValue.Value v) = movedOf (c .op) (c .place) (c .numbers) (c .kind) v
+withValue c (ReadValue.Value v) = movedOf (c .op) (c .row) (c .place) (c .numbers) (c .kind) v
 
 -- a line that gives what the field holds
 unfoldable pub heldLine : Call → Field → Holds → List ℕ → Read
@@ -126,4 +126,4 @@ heldLine c f Holds.Value line = withValue c (afterName f ReadValue.Bad (valueOf 
 -- a line of at most 64 bytes gives the field that comes next
 unfoldable pub lineOf : Call → List ℕ → Read
 unfolding heldLine
-lineOf c line = cond (ltb 64 (length line)) (badOf c) (heldLine c (fieldAt (c .op) (c .place)) (holdsOf (fieldAt (c .op) (c .place))) line)
+lineOf c line = cond (ltb 64 (length line)) (badOf c) (heldLine c (fieldAt (c .row) (c .place)) (fieldAt (c .row) (c .place) .holds) line)

@@ -33,14 +33,17 @@ pub use writing::put_line;
 pub use writing::put_mark;
 pub use writing::put_value;
 
-// Nothing stands for the time between two groups.
-pub enum Op {
-    Nothing,
+// Ops that change the tanks.
+pub enum Change {
     Open,
     Annotate,
     Insert,
     Delete,
     Remove,
+}
+
+// Ops that ask for a number, a yes or no, a value, a mark or a set.
+pub enum Question {
     Length,
     Touched,
     Runs,
@@ -52,6 +55,10 @@ pub enum Op {
     Inherit,
     Mark,
     Inherited,
+}
+
+// Ops that ask for a list, or for what one takes.
+pub enum Listing {
     Stretches,
     StretchesNeeded,
     Whole,
@@ -59,40 +66,12 @@ pub enum Op {
     Anchors,
 }
 
-// What a line of a group gives.
-pub enum Field {
-    Done,
-    OpName,
-    Tank,
-    Start,
-    End,
-    At,
-    Len,
-    Key,
-    Lamport,
-    Peer,
-    Last,
-    Flags,
-    Kind,
-    Value,
-    Rank,
-    Room,
-    Share0,
-    Limit0,
-    Share1,
-    Limit1,
-    Share2,
-    Limit2,
-    Share3,
-    Limit3,
-    Share4,
-    Limit4,
-    Share5,
-    Limit5,
-    Share6,
-    Limit6,
-    Share7,
-    Limit7,
+// An op, by what it does; Nothing stands for the time between two groups.
+pub enum Op {
+    Nothing,
+    Change(Change),
+    Question(Question),
+    Listing(Listing),
 }
 
 // A name of at most 16 bytes.
@@ -117,9 +96,11 @@ pub enum Holds {
     Value,
 }
 
-// A call, as far as its lines have come: how many of its fields are read, and each number at its field's place.
+// A call, as far as its lines have come: its op and that op's row in the table, how many of its fields are read, and each
+// number at its field's place.
 pub struct Call {
     pub op: Op,
+    pub row: usize,
     pub place: usize,
     pub numbers: [u64; 16],
     pub kind: Kind,
@@ -139,9 +120,10 @@ pub struct Read {
     pub progress: Progress,
 }
 
+// An op by its row.
 pub enum ReadOp {
     Bad,
-    Op(Op),
+    Row(usize),
 }
 
 pub enum ReadKind {

@@ -11,7 +11,6 @@ use super::Event;
 use super::Fed;
 use super::Holds;
 use super::Line;
-use super::Op;
 use super::Progress;
 use super::Read;
 use super::Reader;
@@ -114,7 +113,7 @@ fn at_line(call: Call, newlines: u64) -> Reader
 
 // A reader at the start of an input.
 pub fn begin() -> Reader
-    ensures { λ r. ⌜ r ≡ readerAt (freshOf Op.Nothing) 0 ⌝ }
+    ensures { λ r. ⌜ r ≡ readerAt (freshOf 0) 0 ⌝ }
 {
     at_line(idle(), 0)
 }
@@ -191,9 +190,9 @@ pub fn ended(r: Reader) -> Ending
 {
     let line = r.line;
     let call = r.call;
-    let op = call.op;
+    let row = call.row;
     if kept(line) == 0 {
-        return ending(field_holds(field_at(op, call.place)));
+        return ending(field_holds(field_at(row, call.place)));
     }
     Ending::Cut
 }

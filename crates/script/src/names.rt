@@ -1,18 +1,25 @@
 // How ops, fields and kinds are spelled, for reading and for writing.
 //
-// The names of ops stand in one text, a line each, and those of fields in another: a function lays out each text that it
-// has at every call, so that a text of its own in each arm of a table is dear to run and to prove.
+// All names of ops stand in one text, a cell of 16 bytes for each row, and those of fields in another, a cell of 8 for each letter: a
+// function lays out each text that it has at every call, so that a text of its own in each arm of a table is dear to run and
+// to prove. The last cell of a text is blank, and stands for every number past the table.
 ghost use mathlib.Core.Path.{_≡_};
-ghost use Prim.Native.Nat.{_≤_};
-ghost use lib.ListN.{length, drop};
-ghost use Rattle.text.specs.Bytes.{startsOf, sameOf};
-ghost use Rattle.script.specs.Grammar.{spelledOf, spelling, opName, nameOf, kindName};
-ghost use Rattle.script.specs.Lines.{lineFront};
-ghost use Rattle.script.specs.Names.{opNames, fieldNames, NameAt};
-use super::Field;
+ghost use Prim.Native.Nat.{_+_, _-_, _≤_, min};
+ghost use lib.ListN.{length, take, drop};
+ghost use Rattle.text.specs.Bytes.{startsOf, sameOf, upTo};
+ghost use Rattle.script.specs.Cells.{letterCount, fieldOf, Names};
+ghost use Rattle.script.specs.Reading.{opNamed};
+ghost use Rattle.script.specs.Grammar.{spelledOf, spelling, rowAt, kindName};
 use super::Kind;
 use super::Name;
-use super::Op;
+use super::ReadOp;
+use super::lines::least;
+
+// How many rows there are: one for each op, and one for the time between two groups.
+pub const OPS: usize = 22;
+
+// How many letters there are, from / to Z.
+const LETTERS: usize = 44;
 
 fn named(word: &[u8]) -> Name
     requires { ⌜ length (now word) ≤ 16 ⌝ }
@@ -23,13 +30,14 @@ fn named(word: &[u8]) -> Name
     Name { text: text, len: n }
 }
 
-// The name that starts at a place of such a text.
-fn name_at(all: &[u8], from: usize) -> Name
-    requires { ⌜ (from ≤ length (now all)) × (length (lineFront (drop from (now all))) ≤ 16) ⌝ }
-    ensures { λ r. ⌜ r ≡ spelling (lineFront (drop from (now (all .entry)))) ⌝ }
+// The name in a cell, up to the first blank.
+fn cell_name(cell: &[u8]) -> Name
+    requires { ⌜ length (now cell) ≤ 16 ⌝ }
+    ensures { λ r. ⌜ r ≡ spelling (upTo 32 (now (cell .entry))) ⌝ }
 {
-    let to = text::find(all, from, b'\n');
-    named(&all[from..to])
+    let from = 0;
+    let to = text::find(cell, from, b' ');
+    named(&cell[from..to])
 }
 
 // Does a line begin with a name?
@@ -52,92 +60,76 @@ pub fn is_name(t: &[u8], n: Name) -> bool
     text::same(t, &name[..k])
 }
 
-// Where an op's name starts in the text of all of them.
-fn op_place(op: Op) -> usize
-    ensures { λ r. ⌜ NameAt opNames r (opName op) ⌝ }
+// The name in the cell of 16 bytes that starts at a place.
+fn op_name_at(all: &[u8], from: usize) -> Name
+    requires { ⌜ from + 16 ≤ length (now all) ⌝ }
+    ensures { λ r. ⌜ r ≡ spelling (upTo 32 (take 16 (drop from (now (all .entry))))) ⌝ }
 {
-    match op {
-        Op::Nothing => 0,
-        Op::Open => 1,
-        Op::Annotate => 6,
-        Op::Insert => 15,
-        Op::Delete => 22,
-        Op::Remove => 29,
-        Op::Length => 36,
-        Op::Touched => 43,
-        Op::Runs => 51,
-        Op::Value => 56,
-        Op::HasKey => 62,
-        Op::AllValue => 70,
-        Op::Same => 80,
-        Op::Marks => 85,
-        Op::Inherit => 91,
-        Op::Mark => 99,
-        Op::Inherited => 104,
-        Op::Stretches => 114,
-        Op::StretchesNeeded => 124,
-        Op::Whole => 141,
-        Op::WholeNeeded => 147,
-        Op::Anchors => 160,
-    }
+    let to = from + 16;
+    cell_name(&all[from..to])
 }
 
-// How an op is named.
-pub fn op_name(op: Op) -> Name
-    ensures { λ r. ⌜ r ≡ spelling (opName op) ⌝ }
+// The name in the cell of 8 bytes that starts at a place.
+fn field_name_at(all: &[u8], from: usize) -> Name
+    requires { ⌜ from + 8 ≤ length (now all) ⌝ }
+    ensures { λ r. ⌜ r ≡ spelling (upTo 32 (take 8 (drop from (now (all .entry))))) ⌝ }
+{
+    let to = from + 8;
+    cell_name(&all[from..to])
+}
+
+// How the op of a row is named.
+pub fn op_name(row: usize) -> Name
+    ensures { λ r. ⌜ r ≡ spelling (rowAt row .name) ⌝ }
 {
     let all =
-        b"\nopen\nannotate\ninsert\ndelete\nremove\nlength\ntouched\nruns\nvalue\nhas_key\nall_value\nsame\nmarks\ninherit\nmark\ninherited\nstretches\nstretches_needed\nwhole\nwhole_needed\nanchors";
-    name_at(all, op_place(op))
+        b"                open            annotate        insert          delete          remove          length          touched         runs            value           has_key         all_value       same            marks           inherit         mark            inherited       stretches       stretches_neededwhole           whole_needed    anchors                         ";
+    op_name_at(all, least(row, OPS) * 16)
 }
 
-// Where a field's name starts in the text of all of them.
-fn field_place(f: Field) -> usize
-    ensures { λ r. ⌜ NameAt fieldNames r (nameOf f) ⌝ }
+// The row of the op that a word names, out of the text of all names: the rows are tried in their order.
+fn row_in(all: &[u8], word: &[u8]) -> ReadOp
+    requires { ⌜ Names (now all) ⌝ }
+    ensures { λ r. ⌜ r ≡ opNamed (now (word .entry)) ⌝ }
 {
-    match f {
-        Field::Done => 0,
-        Field::OpName => 1,
-        Field::Tank => 5,
-        Field::Start => 11,
-        Field::End => 18,
-        Field::At => 23,
-        Field::Len => 27,
-        Field::Key => 32,
-        Field::Lamport => 37,
-        Field::Peer => 46,
-        Field::Last => 52,
-        Field::Flags => 58,
-        Field::Kind => 65,
-        Field::Value => 71,
-        Field::Rank => 78,
-        Field::Room => 84,
-        Field::Share0 => 90,
-        Field::Limit0 => 98,
-        Field::Share1 => 106,
-        Field::Limit1 => 114,
-        Field::Share2 => 122,
-        Field::Limit2 => 130,
-        Field::Share3 => 138,
-        Field::Limit3 => 146,
-        Field::Share4 => 154,
-        Field::Limit4 => 162,
-        Field::Share5 => 170,
-        Field::Limit5 => 178,
-        Field::Share6 => 186,
-        Field::Limit6 => 194,
-        Field::Share7 => 202,
-        Field::Limit7 => 210,
+    let mut i = 1;
+    while i < OPS {
+        let n = op_name_at(all, i * 16);
+        if is_name(word, n) {
+            return ReadOp::Row(i);
+        }
+        i += 1;
     }
+    ReadOp::Bad
+}
+
+// The op that a word names. The text of all names is laid out once, and not for each row that is tried.
+pub fn op_named(word: &[u8]) -> ReadOp
+    ensures { λ r. ⌜ r ≡ opNamed (now (word .entry)) ⌝ }
+{
+    let all =
+        b"                open            annotate        insert          delete          remove          length          touched         runs            value           has_key         all_value       same            marks           inherit         mark            inherited       stretches       stretches_neededwhole           whole_needed    anchors                         ";
+    row_in(all, word)
+}
+
+// The number of a field's cell, by its letter: the first letter is /.
+pub fn field_spot(f: u8) -> usize
+    ensures { λ r. ⌜ r ≡ min (f - 47) letterCount ⌝ }
+{
+    let n = f as usize;
+    if n < 47 {
+        return 0;
+    }
+    least(n - 47, LETTERS)
 }
 
 // How a field's line begins.
-pub fn field_name(f: Field) -> Name
-    ensures { λ r. ⌜ r ≡ spelling (nameOf f) ⌝ }
+pub fn field_name(f: u8) -> Name
+    ensures { λ r. ⌜ r ≡ spelling (fieldOf f .name) ⌝ }
 {
     let all =
-        b"\nop=\ntank=\nstart=\nend=\nat=\nlen=\nkey=\nlamport=\npeer=\nlast=\nflags=\nkind=\nvalue=\nrank=\nroom=\nshare0=\nlimit0=\nshare1=\nlimit1=\nshare2=\nlimit2=\nshare3=\nlimit3=\nshare4=\nlimit4=\nshare5=\nlimit5=\nshare6=\nlimit6=\nshare7=\nlimit7=";
-    name_at(all, field_place(f))
+        b"        share0= limit0= share1= limit1= share2= limit2= share3= limit3= share4= limit4= share5= limit5= share6= limit6= share7= limit7=         at=             kind=           end=    flags=                                  key=    lamport=room=   len=    op=     peer=           rank=   start=  tank=           value=                          last=           ";
+    field_name_at(all, field_spot(f) * 8)
 }
 
 // How a kind is named.

@@ -2,9 +2,9 @@
 ghost use mathlib.Core.Path.{_≡_};
 ghost use mathlib.Core.List.{[], _∷_};
 ghost use Prim.Native.Nat.{_<_};
-ghost use Rattle.script.specs.Reading.{startOf, afterName, withinOf, numberOf, opAmong, opNamed, kindAmong, kindNamed, wholeOf, decimalOfBits, valueOf, freshOf, movedOf, badOf, withOp, withNumber, withKind, withValue, heldLine, lineOf};
+ghost use Rattle.script.specs.Cells.{fieldOf};
+ghost use Rattle.script.specs.Reading.{startOf, afterName, withinOf, numberOf, opNamed, kindAmong, kindNamed, wholeOf, decimalOfBits, valueOf, freshOf, movedOf, badOf, withOp, withNumber, withKind, withValue, heldLine, lineOf};
 use super::Call;
-use super::Field;
 use super::Holds;
 use super::Kind;
 use super::Op;
@@ -16,18 +16,19 @@ use super::ReadValue;
 use super::Start;
 use super::fields::field_at;
 use super::fields::field_holds;
+use super::fields::op_at;
 use super::fields::progress;
 use super::names::begins;
 use super::names::field_name;
 use super::names::is_name;
 use super::names::kind_name;
-use super::names::op_name;
+use super::names::op_named;
 use super::values::of_bits;
 use styles::Value;
 
 // Where the value starts in a field's line.
-fn value_start(f: Field, line: &[u8]) -> Start
-    ensures { λ r. ⌜ r ≡ startOf f (now (line .entry)) ⌝ }
+fn value_start(f: u8, line: &[u8]) -> Start
+    ensures { λ r. ⌜ r ≡ startOf (fieldOf f) (now (line .entry)) ⌝ }
 {
     let n = field_name(f);
     if begins(line, n) {
@@ -49,8 +50,8 @@ fn within(p: text::Parsed, most: u64) -> text::Parsed
 }
 
 // The number of a field's line.
-fn number_line(f: Field, most: u64, line: &[u8]) -> text::Parsed
-    ensures { λ r. ⌜ r ≡ numberOf f most (now (line .entry)) ⌝ }
+fn number_line(f: u8, most: u64, line: &[u8]) -> text::Parsed
+    ensures { λ r. ⌜ r ≡ numberOf (fieldOf f) most (now (line .entry)) ⌝ }
 {
     let Start::At(k) = value_start(f, line) else {
         return text::Parsed::Bad;
@@ -58,64 +59,8 @@ fn number_line(f: Field, most: u64, line: &[u8]) -> text::Parsed
     within(text::decimal(&line[k..]), most)
 }
 
-// An op, where the text is its name.
-fn or_op(t: &[u8], op: Op, other: ReadOp) -> ReadOp
-    ensures { λ r. ⌜ r ≡ opAmong (op ∷ []) (now (t .entry)) other ⌝ }
-{
-    let n = op_name(op);
-    if is_name(t, n) {
-        return ReadOp::Op(op);
-    }
-    other
-}
-
-fn edit_named(t: &[u8], other: ReadOp) -> ReadOp
-    ensures { λ r. ⌜ r ≡ opAmong (Op.Open ∷ Op.Annotate ∷ Op.Insert ∷ Op.Delete ∷ Op.Remove ∷ []) (now (t .entry)) other ⌝ }
-{
-    let a = or_op(t, Op::Remove, other);
-    let b = or_op(t, Op::Delete, a);
-    let c = or_op(t, Op::Insert, b);
-    let d = or_op(t, Op::Annotate, c);
-    or_op(t, Op::Open, d)
-}
-
-fn question_named(t: &[u8], other: ReadOp) -> ReadOp
-    ensures { λ r. ⌜ r ≡ opAmong (Op.Length ∷ Op.Touched ∷ Op.Runs ∷ Op.Value ∷ Op.HasKey ∷ Op.AllValue ∷ Op.Same ∷ []) (now (t .entry)) other ⌝ }
-{
-    let a = or_op(t, Op::Same, other);
-    let b = or_op(t, Op::AllValue, a);
-    let c = or_op(t, Op::HasKey, b);
-    let d = or_op(t, Op::Value, c);
-    let e = or_op(t, Op::Runs, d);
-    let f = or_op(t, Op::Touched, e);
-    or_op(t, Op::Length, f)
-}
-
-fn list_named(t: &[u8], other: ReadOp) -> ReadOp
-    ensures { λ r. ⌜ r ≡ opAmong (Op.Marks ∷ Op.Inherit ∷ Op.Mark ∷ Op.Inherited ∷ Op.Stretches ∷ Op.StretchesNeeded ∷ Op.Whole ∷ Op.WholeNeeded ∷ Op.Anchors ∷ []) (now (t .entry)) other ⌝ }
-{
-    let a = or_op(t, Op::Anchors, other);
-    let b = or_op(t, Op::WholeNeeded, a);
-    let c = or_op(t, Op::Whole, b);
-    let d = or_op(t, Op::StretchesNeeded, c);
-    let e = or_op(t, Op::Stretches, d);
-    let f = or_op(t, Op::Inherited, e);
-    let g = or_op(t, Op::Mark, f);
-    let h = or_op(t, Op::Inherit, g);
-    or_op(t, Op::Marks, h)
-}
-
-fn op_named(t: &[u8]) -> ReadOp
-    ensures { λ r. ⌜ r ≡ opNamed (now (t .entry)) ⌝ }
-{
-    let none = ReadOp::Bad;
-    let list = list_named(t, none);
-    let question = question_named(t, list);
-    edit_named(t, question)
-}
-
-fn op_line(f: Field, line: &[u8]) -> ReadOp
-    ensures { λ r. ⌜ r ≡ afterName f ReadOp.Bad opNamed (now (line .entry)) ⌝ }
+fn op_line(f: u8, line: &[u8]) -> ReadOp
+    ensures { λ r. ⌜ r ≡ afterName (fieldOf f) ReadOp.Bad opNamed (now (line .entry)) ⌝ }
 {
     let Start::At(k) = value_start(f, line) else {
         return ReadOp::Bad;
@@ -144,8 +89,8 @@ fn kind_named(t: &[u8]) -> ReadKind
     or_kind(t, Kind::Null, c)
 }
 
-fn kind_line(f: Field, line: &[u8]) -> ReadKind
-    ensures { λ r. ⌜ r ≡ afterName f ReadKind.Bad kindNamed (now (line .entry)) ⌝ }
+fn kind_line(f: u8, line: &[u8]) -> ReadKind
+    ensures { λ r. ⌜ r ≡ afterName (fieldOf f) ReadKind.Bad kindNamed (now (line .entry)) ⌝ }
 {
     let Start::At(k) = value_start(f, line) else {
         return ReadKind::Bad;
@@ -204,8 +149,8 @@ fn value_of(kind: Kind, t: &[u8]) -> ReadValue
     }
 }
 
-fn value_line(f: Field, kind: Kind, line: &[u8]) -> ReadValue
-    ensures { λ r. ⌜ r ≡ afterName f ReadValue.Bad (valueOf kind) (now (line .entry)) ⌝ }
+fn value_line(f: u8, kind: Kind, line: &[u8]) -> ReadValue
+    ensures { λ r. ⌜ r ≡ afterName (fieldOf f) ReadValue.Bad (valueOf kind) (now (line .entry)) ⌝ }
 {
     let Start::At(k) = value_start(f, line) else {
         return ReadValue::Bad;
@@ -213,12 +158,14 @@ fn value_line(f: Field, kind: Kind, line: &[u8]) -> ReadValue
     value_of(kind, &line[k..])
 }
 
-// A call of which only the op is known.
-fn fresh(op: Op) -> Call
-    ensures { λ r. ⌜ r ≡ freshOf op ⌝ }
+// A call of which only the op is known, by its row.
+fn fresh(row: usize) -> Call
+    ensures { λ r. ⌜ r ≡ freshOf row ⌝ }
 {
+    let op = op_at(row);
     Call {
         op: op,
+        row: row,
         place: 0,
         numbers: [0; 16],
         kind: Kind::Null,
@@ -228,21 +175,22 @@ fn fresh(op: Op) -> Call
 
 // Between two groups: the next line names an op.
 pub fn idle() -> Call
-    ensures { λ r. ⌜ r ≡ freshOf Op.Nothing ⌝ }
+    ensures { λ r. ⌜ r ≡ freshOf 0 ⌝ }
 {
-    fresh(Op::Nothing)
+    fresh(0)
 }
 
 // One field more.
-fn moved(op: Op, place: usize, numbers: [u64; 16], kind: Kind, value: Value) -> Read
+fn moved(op: Op, row: usize, place: usize, numbers: [u64; 16], kind: Kind, value: Value) -> Read
     requires { ⌜ place < 16 ⌝ }
-    ensures { λ r. ⌜ r ≡ movedOf op place numbers kind value ⌝ }
+    ensures { λ r. ⌜ r ≡ movedOf op row place numbers kind value ⌝ }
 {
     let next = place + 1;
-    let f = field_at(op, next);
+    let f = field_at(row, next);
     let stands = progress(field_holds(f));
     let call = Call {
         op: op,
+        row: row,
         place: next,
         numbers: numbers,
         kind: kind,
@@ -267,10 +215,10 @@ fn bad(call: Call) -> Read
 fn with_op(call: Call, o: ReadOp) -> Read
     ensures { λ r. ⌜ r ≡ withOp call o ⌝ }
 {
-    let ReadOp::Op(op) = o else {
+    let ReadOp::Row(row) = o else {
         return bad(call);
     };
-    let next = fresh(op);
+    let next = fresh(row);
     Read {
         call: next,
         progress: Progress::More,
@@ -288,9 +236,10 @@ fn with_number(call: Call, p: text::Parsed) -> Read
     let mut numbers = call.numbers;
     numbers[place] = n;
     let op = call.op;
+    let row = call.row;
     let kind = call.kind;
     let value = call.value;
-    moved(op, place, numbers, kind, value)
+    moved(op, row, place, numbers, kind, value)
 }
 
 fn with_kind(call: Call, k: ReadKind) -> Read
@@ -303,8 +252,9 @@ fn with_kind(call: Call, k: ReadKind) -> Read
     let place = call.place;
     let numbers = call.numbers;
     let op = call.op;
+    let row = call.row;
     let value = call.value;
-    moved(op, place, numbers, kind, value)
+    moved(op, row, place, numbers, kind, value)
 }
 
 fn with_value(call: Call, v: ReadValue) -> Read
@@ -317,14 +267,15 @@ fn with_value(call: Call, v: ReadValue) -> Read
     let place = call.place;
     let numbers = call.numbers;
     let op = call.op;
+    let row = call.row;
     let kind = call.kind;
-    moved(op, place, numbers, kind, value)
+    moved(op, row, place, numbers, kind, value)
 }
 
 // A line that gives what a field holds.
-fn held_line(call: Call, f: Field, h: Holds, line: &[u8]) -> Read
+fn held_line(call: Call, f: u8, h: Holds, line: &[u8]) -> Read
     requires { ⌜ call .place < 16 ⌝ }
-    ensures { λ r. ⌜ r ≡ heldLine call f h (now (line .entry)) ⌝ }
+    ensures { λ r. ⌜ r ≡ heldLine call (fieldOf f) h (now (line .entry)) ⌝ }
 {
     let kind = call.kind;
     match h {
@@ -343,11 +294,11 @@ pub fn read_line(call: Call, line: &[u8]) -> Read
     if line.len() > 64 {
         return bad(call);
     }
-    let op = call.op;
+    let row = call.row;
     let place = call.place;
     if place >= 16 {
         return bad(call);
     }
-    let f = field_at(op, place);
+    let f = field_at(row, place);
     held_line(call, f, field_holds(f), line)
 }

@@ -51,8 +51,7 @@ fn put_place(out: &mut [u8], at: usize, call: Call, place: usize) -> usize
     requires { ⌜ (place < 16) × (64 ≤ length (now out)) ⌝ }
 {
     let free = script::flushed(out, at, 64);
-    let op = call.op;
-    let f = script::field_at(op, place);
+    let f = script::field_at(call.row, place);
     let numbers = call.numbers;
     match script::field_holds(f) {
         Holds::Number(_) => put_numbered(out, free, script::field_name(f), numbers[place]),
@@ -71,8 +70,7 @@ fn put_call(out: &mut [u8], at: usize, call: Call) -> usize
     requires { ⌜ 64 ≤ length (now out) ⌝ }
 {
     let free = script::flushed(out, at, 64);
-    let op = call.op;
-    let mut k = put_named(out, free, b"op=", script::op_name(op));
+    let mut k = put_named(out, free, b"op=", script::op_name(call.row));
     let mut i = 0;
     while i < 16 {
         k = put_place(out, k, call, i);

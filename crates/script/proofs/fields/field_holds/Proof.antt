@@ -1,75 +1,20 @@
--- Each arm is the table's.
+-- What it holds stands at its letter, and behind the last stands nothing.
+use mathlib.Core.Path.{ap, _∙_}
+use mathlib.Core.List.{[], _∷_, _++_, map}
+use Prim.Native.Nat.{ℕ, _-_}
+use lib.ListN.{getD}
 use borrow.Author.Needs.{needs}
-use mathlib.Core.Path.{sym, ap}
-use Rattle.script.specs.Grammar.{holdsOf}
+use Rattle.script.specs.declared.Holds.{Holds}
+use Rattle.script.specs.Grammar.{Field, noField}
+use Rattle.script.specs.Cells.{letters}
+use Rattle.script.proofs.Tables.{in-column}
 use Rattle.script.proofs.fields.field_holds.Statement.{statement}
 use Rattle.script.proofs.fields.field_holds.Tie as tie
 
+returns : tie.Need-returns
+returns c =
+    let s = c .before .before in
+    ap (λ (k : ℕ). getD (map (λ (f : Field). f .holds) (letters ++ noField ∷ [])) k Holds.Nothing) (c .before .field-spot .ensures) ∙ in-column (λ (f : Field). f .holds) noField letters (s .args .f - 47)
+
 pub field-holds-spec : {M : Type 1} → statement M
-field-holds-spec =
-    tie.close
-    (tie.spec
-    (λ c. search needs)
-    (λ c. search needs)
-    (λ c. search needs)
-    (λ c. search needs)
-    (λ c. search needs)
-    (λ c. search needs)
-    (λ c. search needs)
-    (λ c. search needs)
-    (λ c. search needs)
-    (λ c. search needs)
-    (λ c. search needs)
-    (λ c. search needs)
-    (λ c. search needs)
-    (λ c. search needs)
-    (λ c. search needs)
-    (λ c. search needs)
-    (λ c. search needs)
-    (λ c. search needs)
-    (λ c. search needs)
-    (λ c. search needs)
-    (λ c. search needs)
-    (λ c. search needs)
-    (λ c. search needs)
-    (λ c. search needs)
-    (λ c. search needs)
-    (λ c. search needs)
-    (λ c. search needs)
-    (λ c. search needs)
-    (λ c. search needs)
-    (λ c. search needs)
-    (λ c. search needs)
-    (λ c. search needs)
-    (λ c. sym (ap holdsOf (c .enum-told .given .1)))
-    (λ c. sym (ap holdsOf (c .enum-told2 .given .1)))
-    (λ c. sym (ap holdsOf (c .enum-told3 .given .1)))
-    (λ c. sym (ap holdsOf (c .enum-told4 .given .1)))
-    (λ c. sym (ap holdsOf (c .enum-told5 .given .1)))
-    (λ c. sym (ap holdsOf (c .enum-told6 .given .1)))
-    (λ c. sym (ap holdsOf (c .enum-told7 .given .1)))
-    (λ c. sym (ap holdsOf (c .enum-told8 .given .1)))
-    (λ c. sym (ap holdsOf (c .enum-told9 .given .1)))
-    (λ c. sym (ap holdsOf (c .enum-told10 .given .1)))
-    (λ c. sym (ap holdsOf (c .enum-told11 .given .1)))
-    (λ c. sym (ap holdsOf (c .enum-told12 .given .1)))
-    (λ c. sym (ap holdsOf (c .enum-told13 .given .1)))
-    (λ c. sym (ap holdsOf (c .enum-told14 .given .1)))
-    (λ c. sym (ap holdsOf (c .enum-told15 .given .1)))
-    (λ c. sym (ap holdsOf (c .enum-told16 .given .1)))
-    (λ c. sym (ap holdsOf (c .enum-told17 .given .1)))
-    (λ c. sym (ap holdsOf (c .enum-told18 .given .1)))
-    (λ c. sym (ap holdsOf (c .enum-told19 .given .1)))
-    (λ c. sym (ap holdsOf (c .enum-told20 .given .1)))
-    (λ c. sym (ap holdsOf (c .enum-told21 .given .1)))
-    (λ c. sym (ap holdsOf (c .enum-told22 .given .1)))
-    (λ c. sym (ap holdsOf (c .enum-told23 .given .1)))
-    (λ c. sym (ap holdsOf (c .enum-told24 .given .1)))
-    (λ c. sym (ap holdsOf (c .enum-told25 .given .1)))
-    (λ c. sym (ap holdsOf (c .enum-told26 .given .1)))
-    (λ c. sym (ap holdsOf (c .enum-told27 .given .1)))
-    (λ c. sym (ap holdsOf (c .enum-told28 .given .1)))
-    (λ c. sym (ap holdsOf (c .enum-told29 .given .1)))
-    (λ c. sym (ap holdsOf (c .enum-told30 .given .1)))
-    (λ c. sym (ap holdsOf (c .enum-told31 .given .1)))
-    (λ c. sym (ap holdsOf (c .enum-told32 .given .1))))
+field-holds-spec = tie.close (tie.spec (λ c κs. search needs) (λ c. search needs) (λ c. search needs) returns)

@@ -1,19 +1,14 @@
--- The field's name stands at its place in the text of all.
-use mathlib.Core.Path.{ap, _∙_}
+-- The name stands in the cell of its letter.
+use mathlib.Core.Path.{refl}
 use borrow.Author.Needs.{needs}
-use Rattle.script.specs.Grammar.{spelling}
-use Rattle.script.specs.Names.{fieldNames}
-use Rattle.script.proofs.Tables.{place-fits}
+use Rattle.text.specs.Bytes.{upTo}
+use Rattle.script.proofs.Tables.{field-name-at}
 use Rattle.script.proofs.names.field_name.Statement.{statement}
 use Rattle.script.proofs.names.field_name.Tie as tie
 
-name-at-requires : tie.Need-name-at-requires
-unfolding fieldNames
-name-at-requires c κs = place-fits (c .field-place .ensures)
-
 returns : tie.Need-returns
-unfolding fieldNames
-returns c = c .name-at .ensures ∙ ap spelling (c .before .field-place .ensures .name)
+unfolding upTo
+returns c = field-name-at _ _ (c .field-name-at .ensures) (c .before .field-spot .ensures) refl
 
 pub field-name-spec : {M : Type 1} → statement M
-field-name-spec = tie.close (tie.spec (λ c κs. search needs) name-at-requires returns)
+field-name-spec = tie.close (tie.spec (λ c κs. search needs) (λ c. search needs) (λ c κs. search needs) returns)

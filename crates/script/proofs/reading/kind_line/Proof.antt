@@ -3,13 +3,14 @@ use mathlib.Core.Path.{_≡_, sym, _∙_}
 use borrow.Author.Needs.{needs}
 use Rattle.script.specs.declared.ReadKind.{ReadKind}
 use Rattle.script.specs.declared.Start.{Start}
+use Rattle.script.specs.Cells.{fieldOf}
 use Rattle.script.specs.Reading.{startOf, kindNamed}
 use Rattle.script.proofs.LineLaws.{start-fits, name-here, name-none}
 use Rattle.script.proofs.reading.kind_line.Statement.{statement}
 use Rattle.script.proofs.reading.kind_line.Tie as tie
 
 -- where the value starts
-starts-at : (c : tie.After-known-told) → startOf (c .before .before .before .before .before .args .f) (c .before .before .before .before .before .args .line .now) ≡ Start.At (c .before .k .given .0 .0)
+starts-at : (c : tie.After-known-told) → startOf (fieldOf (c .before .before .before .before .before .args .f)) (c .before .before .before .before .before .args .line .now) ≡ Start.At (c .before .k .given .0 .0)
 starts-at c = sym (c .before .before .before .value-start .ensures) ∙ c .before .k .given .1
 
 returns : tie.Need-returns

@@ -6,11 +6,11 @@ use lib.ListN.{length}
 use borrow.Author.Needs.{needs}
 use borrow.Author.Tests.{lt-ltb, le-ltb}
 use Rattle.script.specs.declared.Call.{Call}
-use Rattle.script.specs.declared.Field.{Field}
 use Rattle.script.specs.declared.Holds.{Holds}
-use Rattle.script.specs.Grammar.{fieldAt, holdsOf}
+use Rattle.script.specs.Grammar.{Field, fieldAt}
+use Rattle.script.specs.Cells.{fieldOf}
 use Rattle.script.specs.Reading.{badOf, heldLine, lineOf}
-use Rattle.script.proofs.Places.{past-fields}
+use Rattle.script.proofs.Tables.{past-fields}
 use Rattle.script.proofs.reading.read_line.Statement.{statement}
 use Rattle.script.proofs.reading.read_line.Tie as tie
 
@@ -21,9 +21,9 @@ module _ (c : Call) (line : List ℕ) where
 
   no-field : length line ≤ 64 → 16 ≤ c .place → badOf c ≡ lineOf c line
   unfolding lineOf heldLine
-  no-field h p = rw (le-ltb 64 (length line) h) (rw (past-fields (c .op) (c .place) p))
+  no-field h p = rw (le-ltb 64 (length line) h) (rw (past-fields (c .row) (c .place) p))
 
-  next-field : length line ≤ 64 → heldLine c (fieldAt (c .op) (c .place)) (holdsOf (fieldAt (c .op) (c .place))) line ≡ lineOf c line
+  next-field : length line ≤ 64 → heldLine c (fieldAt (c .row) (c .place)) (fieldAt (c .row) (c .place) .holds) line ≡ lineOf c line
   unfolding lineOf
   next-field h = rw (le-ltb 64 (length line) h)
 
@@ -38,8 +38,8 @@ returns-3 c =
     let f = c .before .before in
     let a = f .before .before .before .before .args in
     c .held-line .ensures
-    ∙ ap (λ (h : Holds). heldLine (a .call) (f .field-at .result) h (a .line .now)) (c .before .field-holds .ensures)
-    ∙ ap (λ (g : Field). heldLine (a .call) g (holdsOf g) (a .line .now)) (f .field-at .ensures)
+    ∙ ap (λ (h : Holds). heldLine (a .call) (fieldOf (f .field-at .result)) h (a .line .now)) (c .before .field-holds .ensures)
+    ∙ ap (λ (g : Field). heldLine (a .call) g (g .holds) (a .line .now)) (f .field-at .ensures)
     ∙ next-field (a .call) (a .line .now) (f .before .before .if1 .left)
 
 pub read-line-spec : {M : Type 1} → statement M

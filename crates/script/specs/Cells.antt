@@ -1,0 +1,42 @@
+-- How the code has the two tables: texts of cells that are all as wide, and a letter for each field.
+use mathlib.Core.Path.{_≡_}
+use mathlib.Core.List.{List, [], _∷_, _++_, map}
+use Prim.Native.Nat.{ℕ, zero, suc, _+_, _-_, _*_}
+use lib.ListN.{length, getD, take, drop, replicate}
+use Rattle.text.specs.Bytes.{upTo}
+use Rattle.script.specs.Grammar.{Field, noField, opLine, tank, start, end, at, len, last, key, lamport, peer, flags, kind, value, rank, room, settings, OpRow, noRow, opRows, opCount}
+
+-- the fields of the bytes from / on: none, the settings by 0 to 9 and on to ?, none, and one for each letter that has one
+abbrev pub letters : List Field
+letters =
+    noField ∷ settings ++
+    noField ∷
+    at ∷ noField ∷ kind ∷ noField ∷ end ∷ flags ∷ noField ∷ noField ∷ noField ∷ noField ∷ key ∷ lamport ∷ room ∷
+    len ∷ opLine ∷ peer ∷ noField ∷ rank ∷ start ∷ tank ∷ noField ∷ value ∷ noField ∷ noField ∷ noField ∷ last ∷ []
+
+-- how many there are
+abbrev pub letterCount : ℕ
+letterCount = length letters
+
+-- the field of a letter
+abbrev pub fieldOf : ℕ → Field
+fieldOf letter = getD letters (letter - 47) noField
+
+-- the first n cells of a text
+abbrev pub cells : ℕ → ℕ → List ℕ → List (List ℕ)
+cells width zero t = []
+cells width (suc n) t = take width t ∷ cells width n (drop width t)
+
+-- sixteen places for a row's fields
+abbrev pub inPlaces : OpRow → List Field
+inPlaces r = r .fields ++ replicate (16 - length (r .fields)) noField
+
+-- a text of the names of all rows, each in a cell that blanks fill up; behind them stands a cell with none
+pub record Names (all : List ℕ) : Type 0 where
+  pub wide : length all ≡ (opCount + 1) * 16
+  pub right : map (upTo 32) (cells 16 (opCount + 1) all) ≡ map (λ (r : OpRow). r .name) (opRows ++ noRow ∷ [])
+
+-- a text of the letters of all rows' fields, in the same cells
+pub record Letters (all : List ℕ) : Type 0 where
+  pub wide : length all ≡ (opCount + 1) * 16
+  pub right : map (map fieldOf) (cells 16 (opCount + 1) all) ≡ map inPlaces (opRows ++ noRow ∷ [])
