@@ -4,11 +4,12 @@ use mathlib.Core.Bool.{false, cond}
 use mathlib.Core.List.{[]}
 use Rattle.styles.specs.declared.Value.{Value}
 use Rattle.questions.specs.declared.Asked.{Asked}
+use Rattle.questions.specs.declared.Extent.{Extent}
 use Rattle.questions.specs.declared.SetAsked.{SetAsked}
 use Rattle.questions.specs.declared.Shared.{Shared}
 use Rattle.questions.specs.declared.Shown.{Shown}
 use Rattle.questions.specs.declared.Told.{Told}
-use Rattle.questions.specs.Questions.{setOf, sharedOf, valueAt, stylesAt, styleAt, stylesForInsert, styleForInsert, rangeContainsKey, rangeHasKeyValue, stylesOfRange}
+use Rattle.questions.specs.Questions.{setOf, sharedOf, extentOf, valueAt, stylesAt, styleAt, stretchAt, stylesForInsert, styleForInsert, rangeContainsKey, rangeHasKeyValue, stylesOfRange}
 use Rattle.lists.specs.declared.Listed.{Listed}
 use Rattle.lists.specs.Lists.{rangeNeeded, wholeNeeded, filledBeside}
 use Rattle.lists.specs.Anchors.{anchorsNeeded}
@@ -31,6 +32,10 @@ marksAsked h t p = askAt h t (setOf 1 []) (stylesAt p)
 -- the j-th of them
 abbrev pub markAsked : House → ℕ → ℕ → ℕ → Asked
 markAsked h t p j = askAt h t (Asked.Refused 1) (styleAt p j)
+
+-- from where to where the marks of a position hold
+abbrev pub stretchAsked : House → ℕ → ℕ → Extent
+stretchAsked h t p = askAt h t (extentOf 1 0 0) (stretchAt p)
 
 -- the marks that an insertion would get
 abbrev pub inheritAsked : House → ℕ → ℕ → SetAsked

@@ -9,10 +9,11 @@ ghost use Rattle.lists.specs.Anchors.{anchors, anchorsNumber};
 ghost use Rattle.tanks.specs.Contracts.{Taken};
 ghost use Rattle.tanks.specs.House.{askNumber};
 ghost use Rattle.tanks.specs.Pool.{meaning, Sound};
-ghost use Rattle.ask.specs.Asks.{askAt, noList, valueAsked, marksAsked, markAsked, inheritAsked, inheritedAsked, keyAsked, allValueAsked, sameAsked, rangeNeededAsked, wholeNeededAsked, anchorsNeededAsked};
+ghost use Rattle.ask.specs.Asks.{askAt, noList, valueAsked, marksAsked, markAsked, stretchAsked, inheritAsked, inheritedAsked, keyAsked, allValueAsked, sameAsked, rangeNeededAsked, wholeNeededAsked, anchorsNeededAsked};
 use lists::Listed;
 use lists::anchors::Anchor;
 use questions::Asked;
+use questions::Extent;
 use questions::SetAsked;
 use questions::Shared;
 use questions::Shown;
@@ -52,6 +53,17 @@ pub fn style_at(s: Tanks, tank: u64, pos: u64, rank: u64) -> Asked
         return Asked::Refused(1);
     }
     questions::style_at(s.take(tank as usize), pos, rank)
+}
+
+// From where to where the marks of a position hold.
+pub fn stretch_at(s: Tanks, tank: u64, pos: u64) -> Extent
+    requires { ⌜ Sound s ⌝ }
+    ensures { λ r. ⌜ r ≡ stretchAsked (meaning s) tank pos ⌝ }
+{
+    if 8 <= tank {
+        return questions::no_extent(1);
+    }
+    questions::stretch_at(s.take(tank as usize), pos)
 }
 
 // The marks that an insertion would get.

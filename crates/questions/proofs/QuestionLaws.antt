@@ -1,13 +1,14 @@
 -- The questions by their cases: each test by its number, and masks over the table in place of tests of marks.
-use Prim.Native.Nat.{ℕ, zero, suc, _≤_, _<_, _^_}
-use mathlib.Core.Path.{_≡_, refl, sym, ap, _∙_}
+use Prim.Native.Nat.{ℕ, zero, suc, _-_, _≤_, _<_, _^_}
+use mathlib.Core.Path.{_≡_, refl, sym, ap, _∙_, fun-ext}
 use mathlib.Core.Bool.{Bool, true, false, cond}
 use mathlib.Core.List.{List, []}
 use native.Mathlib.Omega.{arith}
 use lib.Bits.{bitAnd, and-le-r}
-use lib.ListN.{length}
+use lib.ListN.{length, getD}
 use lib.Pow.{pow-mono}
-use borrow.Author.Tests.{lt-ltb, le-ltb, le-leb, lt-leb}
+use native.Mathlib.Decide.{decLt}
+use borrow.Author.Tests.{lt-ltb, le-ltb, le-leb, lt-leb, eqb-true}
 use Rattle.styles.specs.declared.Mark.{Mark}
 use Rattle.styles.specs.declared.Styles.{Styles}
 use Rattle.styles.specs.declared.Value.{Value}
@@ -19,22 +20,26 @@ use Rattle.styles.specs.Marks.{keyIs, valueIs, sameMarks, blank}
 use Rattle.styles.specs.Values.{valueNan}
 use Rattle.styles.proofs.MaskLaws.{has-key-bits, shows-bits, mask-less}
 use Rattle.styles.proofs.UnionLaws.{pick-none}
-use Rattle.runs.specs.Runs.{setAt, sums}
-use Rattle.runs.specs.Positions.{anyAt, allAt}
+use Rattle.runs.specs.Runs.{setAt, sums, Found}
+use Rattle.runs.specs.Stretches.{alikeIn}
+use Rattle.runs.proofs.Laws.{found-set}
+use Rattle.runs.proofs.ExtentLaws.{found-first, found-last, found-same}
+use Rattle.runs.specs.Positions.{anyAt, allAt, firstOf, lastOf}
 use Rattle.runs.specs.Scan.{meets, shows}
-use Rattle.runs.proofs.ScanLaws.{any-ext, all-ext, can-look as can-ask}
-use lib.Dec.{eqb}
+use Rattle.runs.proofs.ScanLaws.{any-ext, all-ext, can-find as can-ask}
+use lib.Dec.{leb, eqb}
 use Rattle.tank.specs.declared.Tank.{Tank}
+use Rattle.questions.specs.declared.Extent.{Extent}
 use Rattle.questions.specs.declared.SetAsked.{SetAsked}
 use Rattle.questions.specs.declared.Shared.{Shared}
 use Rattle.questions.specs.declared.Told.{Told}
 use Rattle.questions.specs.declared.Told.the-variants as told
-use Rattle.tank.specs.Rules.{forInsert}
+use Rattle.tank.specs.Rules.{alike, forInsert}
 use Rattle.tank.specs.State.{runsOf, tableOf, view, Formed}
-use Rattle.questions.specs.Questions.{toldOf, setOf, sharedOf, positionRefusal, insertRefusal, yesNoRefusal, yesNo, rangeContainsKey, rangeHasKeyValue, sameRefusal, agreeing, stylesOfRange}
+use Rattle.questions.specs.Questions.{toldOf, setOf, sharedOf, extentOf, stretchAt, positionRefusal, insertRefusal, yesNoRefusal, yesNo, rangeContainsKey, rangeHasKeyValue, sameRefusal, agreeing, stylesOfRange}
 use Rattle.tank.proofs.Calls.{asked-empty, asked-over, asked-within}
 use Rattle.tank.proofs.Counted.{at-inside, alike-at}
-use Rattle.tank.proofs.Shape.{can-look}
+use Rattle.tank.proofs.Shape.{can-find}
 use Rattle.tank.proofs.Unique.{table-length, inside-table}
 
 -- ---- no set beside a number
@@ -47,10 +52,14 @@ pub not-shared-is : (n : ℕ) {styles : Styles} → styles ≡ stylesOf []
 not-shared-is zero e = λ i. record { number = 0; agree = false; styles = e i }
 not-shared-is (suc n) e = λ i. record { number = suc n; agree = false; styles = e i }
 
+pub no-extent-is : (n : ℕ) → _≡_ {A = Extent} (record { number = n; first = 0; last = 0 }) (extentOf n 0 0)
+no-extent-is zero = refl
+no-extent-is (suc n) = refl
+
 module _ {t : Tank} (f : Formed t) where
   -- ---- what the runs are asked
-  pub looks : ((t .runs ≤ length (t .lens)) × (t .runs ≤ length (t .sets))) × (sums (t .lens) (t .runs) < 2 ^ 63)
-  looks = can-ask (can-look (f .laid))
+  pub finds : (t .runs ≤ length (t .lens)) × (t .length ≡ sums (t .lens) (t .runs)) × (t .length < 2 ^ 63)
+  finds = can-ask (can-find (f .laid))
 
   -- a set at a position is one over the table
   pub set-inside : (p : ℕ) → setAt (runsOf t) p < 2 ^ t .marks
@@ -66,6 +75,54 @@ module _ {t : Tank} (f : Formed t) where
         → g 0 (pick (tableOf t) s) ≡ g (positionRefusal p (view t)) ((view t) .at p)
     unfolding positionRefusal view
     at-done h e = simp (lt-leb (t .length) p h, e)
+
+  -- ---- the stretch that a position is in
+  -- neighbours are alike where their bits are
+  alike-is : alike ((view t) .at) ≡ alikeIn (runsOf t)
+  unfolding view
+  alike-is = fun-ext (λ p. alike-at (tableOf t) (runsOf t) (f .laid .sorted) (inside-table (f .laid)) p (suc p))
+
+  -- a position within the length is in a run
+  pub found-in : {pos i start end : ℕ} → pos < t .length → Found (t .lens) (t .runs) pos i start end → i < t .runs
+  found-in {pos} {i} {start} h g =
+      let w = g .within in
+      let a = g .starts in
+      let b = g .reached in
+      elim (decLt i (t .runs)) [
+        | yes k ↦ k
+        | no k ↦ let e : i ≡ t .runs = omega arith in absurd (omega (arith, ap (sums (t .lens)) e, finds .1))
+      ]
+
+  module _ {pos i start end : ℕ} (g : Found (t .lens) (t .runs) pos i start end) (there : i < t .runs) where
+    pub extent-done : pos < t .length → record { number = 0; first = start; last = end - 1 } ≡ stretchAt pos (view t)
+    unfolding positionRefusal view
+    extent-done h =
+        let a : start ≡ firstOf (alike ((view t) .at)) pos =
+        sym (ap (λ (x : ℕ → Bool). firstOf x pos) alike-is ∙ found-first (t .lens) (t .sets) (t .runs) (f .laid .canon) g there) in
+        let b : end - 1 ≡ lastOf (alike ((view t) .at)) (t .length) pos =
+        sym
+        (ap (λ (x : ℕ → Bool). lastOf x (t .length) pos) alike-is ∙ ap (λ (n : ℕ). lastOf (alikeIn (runsOf t)) n pos) (f .laid .sum)
+        ∙ found-last (t .lens) (t .sets) (t .runs) (f .laid .canon) g there) in
+        let z : 0 ≡ positionRefusal pos (view t) = sym (simp (lt-leb (t .length) pos h)) in
+        (λ j. record { number = 0; first = a j; last = b j })
+        ∙ ap (λ (n : ℕ). extentOf n (firstOf (alike ((view t) .at)) pos) (lastOf (alike ((view t) .at)) (t .length) pos)) z
+
+    pub found-here : getD (t .sets) i 0 ≡ setAt (runsOf t) pos
+    found-here = sym (found-set (t .lens) (t .sets) (t .runs) pos i start end g there)
+
+    -- the run reaches so far exactly where all positions have its set
+    pub reaches : (to : ℕ) → pos < to → to ≤ t .length → leb to end ≡ allAt (λ p. eqb (setAt (runsOf t) p) (setAt (runsOf t) pos)) pos to
+    reaches to l h = sym (found-same (t .lens) (t .sets) (t .runs) (f .laid .canon) g there to l (omega (arith, f .laid .sum)))
+
+  pub extent-4 : (p : ℕ) → t .length ≤ p → extentOf 4 0 0 ≡ stretchAt p (view t)
+  unfolding positionRefusal view
+  extent-4 p h = simp (le-leb (t .length) p h)
+
+  -- ---- positions with the same marks by identity have the same marks
+  pub same-equal : (p q : ℕ) → sameMarks ((view t) .at p) ((view t) .at q) ≡ true → (view t) .at p ≡ (view t) .at q
+  unfolding view
+  same-equal p q e =
+      ap (pick (tableOf t)) (eqb-true _ _ (sym (alike-at (tableOf t) (runsOf t) (f .laid .sorted) (inside-table (f .laid)) p q) ∙ e))
 
   -- ---- what an insertion would get
   module _ {A : Type 0} (g : ℕ → List Mark → A) (pos : ℕ) where

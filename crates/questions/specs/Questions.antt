@@ -10,13 +10,14 @@ use Rattle.styles.specs.declared.Winner.{Winner}
 use Rattle.styles.specs.Answers.{stylesOf, rankOf}
 use Rattle.styles.specs.Marks.{winner, hasKey, showsValue, sameMarks}
 use Rattle.styles.specs.Values.{valueNan, isNull}
-use Rattle.runs.specs.Positions.{anyAt, allAt}
+use Rattle.runs.specs.Positions.{anyAt, allAt, firstOf, lastOf}
 use Rattle.questions.specs.declared.Asked.{Asked}
+use Rattle.questions.specs.declared.Extent.{Extent}
 use Rattle.questions.specs.declared.SetAsked.{SetAsked}
 use Rattle.questions.specs.declared.Shared.{Shared}
 use Rattle.questions.specs.declared.Shown.{Shown}
 use Rattle.questions.specs.declared.Told.{Told}
-use Rattle.tank.specs.Rules.{View, forInsert, askedRange}
+use Rattle.tank.specs.Rules.{View, alike, forInsert, askedRange}
 
 -- ---- Answers: for each case its number, 0 or a refusal's, and what stands beside it
 -- yes or no; refused: the number, with neither beside it
@@ -52,6 +53,11 @@ sharedOf zero true ms = record { number = 0; agree = true; styles = stylesOf ms 
 sharedOf zero false ms = record { number = 0; agree = false; styles = stylesOf [] }
 sharedOf (suc n) b ms = record { number = suc n; agree = false; styles = stylesOf [] }
 
+-- the first and the last position of a stretch; refused: 0 and 0
+abbrev pub extentOf : ℕ → ℕ → ℕ → Extent
+extentOf zero a b = record { number = 0; first = a; last = b }
+extentOf (suc n) a b = record { number = suc n; first = 0; last = 0 }
+
 -- ---- At a position
 -- 4: a single position at or over the length
 unfoldable pub positionRefusal : ℕ → View → ℕ
@@ -68,6 +74,10 @@ stylesAt p v = setOf (positionRefusal p v) (v .at p)
 -- the j-th of them, counting from 0
 abbrev pub styleAt : ℕ → ℕ → View → Asked
 styleAt p j v = askedOf (positionRefusal p v) (rankOf (v .at p) j)
+
+-- from where to where the position's marks hold: the maximal stretch of equal sets that it is in, by its first and its last position
+abbrev pub stretchAt : ℕ → View → Extent
+stretchAt p v = extentOf (positionRefusal p v) (firstOf (alike (v .at)) p) (lastOf (alike (v .at)) (v .length) p)
 
 -- ---- What an insertion would get
 -- 4: insert position over the length

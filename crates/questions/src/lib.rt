@@ -4,11 +4,12 @@ ghost use mathlib.Core.Bool.{false};
 ghost use mathlib.Core.List.{[]};
 ghost use Prim.Native.Nat.{_≤_, _<_, _^_};
 ghost use Rattle.styles.specs.Bits.{pick};
-ghost use Rattle.runs.specs.Runs.{setAt};
+ghost use Rattle.runs.specs.Runs.{setAt, Found};
 ghost use Rattle.tank.specs.Rules.{runsHeld, forInsert};
 ghost use Rattle.tank.specs.State.{runsOf, tableOf, view, Formed};
-ghost use Rattle.questions.specs.Questions.{toldOf, shownValue, shownOf, askedOf, setOf, sharedOf};
-ghost use Rattle.questions.specs.Questions.{valueAt, stylesAt, styleAt, stylesForInsert, styleForInsert, rangeContainsKey, rangeHasKeyValue, stylesOfRange};
+ghost use Rattle.questions.specs.Questions.{toldOf, shownValue, shownOf, askedOf, setOf, sharedOf, extentOf};
+ghost use Rattle.questions.specs.Questions.{valueAt, stylesAt, styleAt, stretchAt, stylesForInsert, styleForInsert, rangeContainsKey, rangeHasKeyValue, stylesOfRange};
+use runs::Place;
 use styles::Mark;
 use styles::Ranked;
 use styles::Styles;
@@ -49,6 +50,13 @@ pub struct Shared {
     pub number: u64,
     pub agree: bool,
     pub styles: Styles,
+}
+
+// From where to where a stretch goes, both ends in it, beside 0 or the refusal's number.
+pub struct Extent {
+    pub number: u64,
+    pub first: u64,
+    pub last: u64,
 }
 
 // A test as an answer.
@@ -110,6 +118,26 @@ pub fn not_shared(number: u64) -> Shared
     }
 }
 
+// No stretch, beside a refusal's number.
+pub fn no_extent(number: u64) -> Extent
+    ensures { λ r. ⌜ r ≡ extentOf number 0 0 ⌝ }
+{
+    Extent {
+        number: number,
+        first: 0,
+        last: 0,
+    }
+}
+
+// The run that a position is in.
+fn place_at(t: Tank, pos: u64) -> Place
+    requires { ⌜ (Formed t) × (pos < t .length) ⌝ }
+    ensures { λ r. ⌜ (Found (t .lens) (t .runs) pos (r .index) (r .start) (r .end)) × (r .index < t .runs) ⌝ }
+{
+    let lens = t.lens;
+    runs::find(&lens, t.runs, t.length, pos)
+}
+
 // The bits of the marks at a position.
 fn set_at(t: Tank, pos: u64) -> u64
     requires { ⌜ Formed t ⌝ }
@@ -117,7 +145,7 @@ fn set_at(t: Tank, pos: u64) -> u64
 {
     let lens = t.lens;
     let sets = t.sets;
-    runs::set_at(&lens, &sets, t.runs, pos)
+    runs::set_at(&lens, &sets, t.runs, t.length, pos)
 }
 
 // The bits of the marks that an insertion would get.
@@ -130,7 +158,7 @@ fn set_for_insert(t: Tank, pos: u64) -> u64
     }
     let lens = t.lens;
     let sets = t.sets;
-    runs::scan::common_at(&lens, &sets, t.runs, pos)
+    runs::scan::common_at(&lens, &sets, t.runs, t.length, pos)
 }
 
 // How many positions.
@@ -193,6 +221,22 @@ pub fn style_at(t: Tank, pos: u64, rank: u64) -> Asked
     }
     let table = t.table;
     found(styles::table::ranked(table, t.marks, set_at(t, pos), rank as usize))
+}
+
+// From where to where the marks of a position hold.
+pub fn stretch_at(t: Tank, pos: u64) -> Extent
+    requires { ⌜ Formed t ⌝ }
+    ensures { λ r. ⌜ r ≡ stretchAt pos (view t) ⌝ }
+{
+    if t.length <= pos {
+        return no_extent(4);
+    }
+    let f = place_at(t, pos);
+    Extent {
+        number: 0,
+        first: f.start,
+        last: f.end - 1,
+    }
 }
 
 // The marks that an insertion at a position would get.
@@ -283,13 +327,14 @@ pub fn get_styles_of_range(t: Tank, start: u64, end: u64) -> Shared
     if !t.touched {
         return not_shared(0);
     }
-    let lens = t.lens;
     let sets = t.sets;
     let table = t.table;
-    if !runs::scan::same_in(&lens, &sets, t.runs, start, end) {
+    let f = place_at(t, start);
+    if f.end < end {
         return not_shared(0);
     }
-    let styles = styles::table::styles_of(table, t.marks, set_at(t, start));
+    let i = f.index;
+    let styles = styles::table::styles_of(table, t.marks, sets[i]);
     Shared {
         number: 0,
         agree: true,

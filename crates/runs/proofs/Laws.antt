@@ -267,29 +267,49 @@ module _ (lens sets : List ℕ) where
   copy-holds f base from to k m h =
       omega (arith, total-copy f base from to (runs lens sets k), total-copy f base from to (runs lens sets m), total-mono k m h)
 
--- ---- where a run starts is determined
-found-le : (lens : List ℕ) (n pos i start j start′ : ℕ) → Found lens n pos i start → Found lens n pos j start′ → i < j → ⊥
-found-le lens n pos i start j start′ f g h =
+-- ---- there is one run that holds a position, with one start and one end
+found-le : {lens : List ℕ} {n pos i start end j start′ end′ : ℕ} → Found lens n pos i start end → Found lens n pos j start′ end′ → i < j → ⊥
+found-le {lens} {n} {pos} {i} {start} {end} {j} f g h =
+    let a = f .starts in
+    let b = g .starts in
+    let c = g .reached in
+    let w = g .within in
     let below = f .inside (omega arith) in
-    omega (arith, sum-next (λ k. getD lens k 0) i j h)
+    omega (arith, below .0, below .1, sum-next (λ k. getD lens k 0) i j h)
 
-pub found-index : (lens : List ℕ) (n pos i start j start′ : ℕ) → Found lens n pos i start → Found lens n pos j start′ → i ≡ j
-found-index lens n pos i start j start′ f g =
-    let a : i < j → ⊥ = found-le lens n pos i start j start′ f g in
-    let b : j < i → ⊥ = found-le lens n pos j start′ i start g f in
+found-index : {lens : List ℕ} {n pos i start end j start′ end′ : ℕ} → Found lens n pos i start end → Found lens n pos j start′ end′ → i ≡ j
+found-index {lens} {n} {pos} {i} {start} {end} {j} f g =
+    let a : i < j → ⊥ = found-le f g in
+    let b : j < i → ⊥ = found-le g f in
     omega arith
 
+pub found-one : {lens : List ℕ} {n pos i start end j start′ end′ : ℕ} → Found lens n pos i start end → Found lens n pos j start′ end′
+    → (i ≡ j) × (start ≡ start′) × (end ≡ end′)
+found-one {lens} {n} {pos} {i} {start} {end} {j} {start′} {end′} f g =
+    let e : i ≡ j = found-index f g in
+    let s : start ≡ start′ = f .starts ∙ ap (sums lens) e ∙ sym (g .starts) in
+    let l = ap (λ (x : ℕ). getD lens x 0) e in
+    elim (decLt i n) [
+      | yes h ↦ (e, s, omega (arith, f .inside h .1, g .inside (omega arith) .1))
+      | no h ↦ (e, s, f .past (omega arith) ∙ s ∙ sym (g .past (omega arith)))
+    ]
+
 -- the run that is found has the position's set
-pub found-set : (lens sets : List ℕ) (n pos i start : ℕ) → Found lens n pos i start → i < n → setAt (runs lens sets n) pos ≡ getD sets i 0
+pub found-set : (lens sets : List ℕ) (n pos i start end : ℕ) → Found lens n pos i start end → i < n → setAt (runs lens sets n) pos ≡ getD sets i 0
 unfolding runs
-found-set lens sets zero pos i start f h = absurd (omega arith)
-found-set lens sets (suc n) pos i start f h =
+found-set lens sets zero pos i start end f h = absurd (omega arith)
+found-set lens sets (suc n) pos i start end f h =
     let below = f .inside h in
+    let a = f .starts in
+    let b = f .reached in
+    let c = below .0 in
+    let d = below .1 in
     let s = total-sums lens sets n in
     elim (decLt i n) [
       | yes g ↦
           at-in (run (getD lens n 0) (getD sets n 0)) (runs lens sets n) pos (omega (arith, sum-next (λ k. getD lens k 0) i n g))
-          ∙ found-set lens sets n pos i start (record { within = omega arith; starts = f .starts; reached = f .reached; inside = λ _. below }) g
+          ∙ found-set lens sets n pos i start end
+          (record { within = omega arith; starts = f .starts; reached = f .reached; inside = λ _. below; past = λ z. absurd (omega arith) }) g
       | no g ↦
           let e : i ≡ n = omega arith in
           at-last (run (getD lens n 0) (getD sets n 0)) (runs lens sets n) pos (omega (arith, ap (sums lens) e)) (omega (arith, ap (sums lens) e, ap (λ (x : ℕ). getD lens x 0) e))
@@ -297,7 +317,10 @@ found-set lens sets (suc n) pos i start f h =
     ]
 
 -- past the end there is no set
-pub found-none : (lens sets : List ℕ) (n pos i start : ℕ) → Found lens n pos i start → n ≤ i → setAt (runs lens sets n) pos ≡ 0
-found-none lens sets n pos i start f h =
+pub found-none : (lens sets : List ℕ) (n pos i start end : ℕ) → Found lens n pos i start end → n ≤ i → setAt (runs lens sets n) pos ≡ 0
+found-none lens sets n pos i start end f h =
+    let w = f .within in
+    let a = f .starts in
+    let b = f .reached in
     let e : i ≡ n = omega arith in
     at-past (runs lens sets n) pos (omega (arith, total-sums lens sets n, ap (sums lens) e))

@@ -7,12 +7,12 @@ use native.Mathlib.Omega.{arith}
 use native.Mathlib.Decide.{decLt, decLe}
 use native.Mathlib.Numerals.{sub-one}
 use lib.Dec.{ltb, leb, eqb}
-use lib.Bits.{bitAnd, and-zero-r}
+use lib.Bits.{bitAnd, and-zero-r, and-self}
 use lib.ListN.{length, getD}
 use borrow.Author.Tests.{ltb-true, lt-ltb, le-ltb, le-leb, lt-leb, eq-eqb, ne-eqb, not-false, not-true}
-use Rattle.runs.specs.Runs.{Run, runs, total, setAt, sums}
+use Rattle.runs.specs.Runs.{Run, runs, total, setAt, sums, Found}
 use Rattle.runs.specs.Positions.{anyAt, allAt, stretchTo}
-use Rattle.runs.specs.Scan.{meets, commonAt, CanLook}
+use Rattle.runs.specs.Scan.{meets, commonAt, CanFind}
 use Rattle.runs.proofs.Copies.{clip}
 use Rattle.runs.proofs.Laws.{total-sums, found-set, at-past}
 
@@ -182,7 +182,8 @@ pub at-run : (lens sets : List ℕ) (n k p : ℕ) → k < n → total (runs lens
     → setAt (runs lens sets n) p ≡ getD sets k 0
 at-run lens sets n k p h a b =
     let s = total-sums lens sets k in
-    found-set lens sets n p k (total (runs lens sets k)) (record { within = omega arith; starts = s; reached = a; inside = λ _. b }) h
+    found-set lens sets n p k (total (runs lens sets k)) (total (runs lens sets k) + getD lens k 0)
+    (record { within = omega arith; starts = s; reached = a; inside = λ _. (b, refl); past = λ z. absurd (omega arith) }) h
 
 -- ---- a turn of the walk back
 module _ (lens sets : List ℕ) (n mask last k start : ℕ) (in-turn : k < n) (begun : start ≡ total (runs lens sets k)) where
@@ -221,6 +222,34 @@ module _ (lens sets : List ℕ) (n mask last k start : ℕ) (in-turn : k < n) (b
             so-far ∙ ap (stretchTo test) i
       ]
 
--- ---- what a look at a position asks
-pub can-look : {lens sets : List ℕ} {n : ℕ} → CanLook lens sets n → ((n ≤ length lens) × (n ≤ length sets)) × (sums lens n < 2 ^ 63)
-can-look {lens} {sets} {n} h = ((h .lens-n, h .sets-n), omega (arith, total-sums lens sets n))
+-- ---- what finding a position asks
+pub can-find : {lens sets : List ℕ} {n all : ℕ} → CanFind lens sets n all → (n ≤ length lens) × (all ≡ sums lens n) × (all < 2 ^ 63)
+can-find {lens} {sets} {n} h =
+    let a = h .all-is in
+    let b = h .look .small in
+    (h .look .lens-n, a ∙ total-sums lens sets n, omega arith)
+
+-- ---- what the positions of one run have in common, and what those at a boundary have
+module _ (lens sets : List ℕ) (n pos i start end : ℕ) (f : Found lens n pos i start end) where
+  pub common-past : n ≤ i → commonAt (runs lens sets n) pos ≡ 0
+  common-past h =
+      let w = f .within in
+      let a = f .starts in
+      let b = f .reached in
+      let e : i ≡ n = omega arith in
+      common-end (runs lens sets n) pos (omega (arith, total-sums lens sets n, ap (sums lens) e))
+
+  -- the position before is in the same run
+  pub common-in : i < n → start < pos → commonAt (runs lens sets n) pos ≡ getD sets i 0
+  common-in h l =
+      let r = runs lens sets n in
+      let c = f .inside h in
+      let a = c .0 in
+      let b = c .1 in
+      let here = found-set lens sets n pos i start end f h in
+      let before = found-set lens sets n (pos - 1) i start end
+      (record { within = f .within; starts = f .starts; reached = omega arith; inside = λ _. (omega arith, b); past = f .past }) h in
+      common-inside r pos (λ z. omega arith) ∙ ap₂ bitAnd before here ∙ and-self (getD sets i 0)
+
+  pub common-edge : i < n → (pos ≡ 0 → ⊥) → commonAt (runs lens sets n) pos ≡ bitAnd (setAt (runs lens sets n) (pos - 1)) (getD sets i 0)
+  common-edge h z = common-inside (runs lens sets n) pos z ∙ ap (bitAnd (setAt (runs lens sets n) (pos - 1))) (found-set lens sets n pos i start end f h)

@@ -7,12 +7,12 @@ use native.Mathlib.Omega.{arith}
 use lib.Count.{ones, onesIn}
 use lib.ListN.{getD}
 use Rattle.styles.specs.Bits.{openBit, topIn}
-use Rattle.runs.specs.declared.scan.Test.the-variants.{Meets, Misses, Hides, Differs}
+use Rattle.runs.specs.declared.scan.Test.the-variants.{Meets, Misses, Hides}
 use Rattle.runs.specs.Runs.{Run, run, runs, total, setAt, Other, Canon, changing, sums, Found, SameBehind, Spare}
 use Rattle.runs.specs.Positions.{followedAt, alteredAt, deletedAt, insertedAt}
 use Rattle.runs.proofs.Copies.{joinRun, pushRun, clip, copyRuns, adding, part, altered, deleted, inserted}
 use Rattle.runs.specs.Gather.{gather, Renumbered}
-use Rattle.runs.specs.Positions.{sumBelow, anyAt, allAt, stretchTo, starts, stretchCount, stretch, extended, stretchesAt, asNumbers}
+use Rattle.runs.specs.Positions.{sumBelow, anyAt, allAt, stretchTo, seekFrom, starts, stretchCount, firstOf, lastOf, stretch, extended, stretchesAt, asNumbers}
 use Rattle.runs.specs.Scan.{meets, shows, passes, commonAt}
 use Rattle.runs.specs.Stretches.{alikeIn, marksIn, listed, entry, inFront}
 use Rattle.runs.proofs.Clipped.{clipped}
@@ -57,13 +57,13 @@ unfolding AllSets t
 small-t = (omega arith, (omega arith, tt))
 
 -- position 12 is in run 1, which starts at 10; position 15 is past the end
-found-12 : Found (10 ∷ 5 ∷ []) 2 12 1 10
+found-12 : Found (10 ∷ 5 ∷ []) 2 12 1 10 15
 unfolding sumBelow
-found-12 = record { within = omega arith; starts = refl; reached = omega arith; inside = λ _. omega arith }
+found-12 = record { within = omega arith; starts = refl; reached = omega arith; inside = λ _. (omega arith, refl); past = λ h. absurd (omega arith) }
 
-found-15 : Found (10 ∷ 5 ∷ []) 2 15 2 15
+found-15 : Found (10 ∷ 5 ∷ []) 2 15 2 15 15
 unfolding sumBelow
-found-15 = record { within = omega arith; starts = refl; reached = omega arith; inside = λ h. absurd (omega arith) }
+found-15 = record { within = omega arith; starts = refl; reached = omega arith; inside = λ h. absurd (omega arith); past = λ h. refl }
 
 -- a longer first run leaves place 1 as it was
 behind-1 : SameBehind 1 (4 ∷ 9 ∷ []) (7 ∷ 8 ∷ []) (5 ∷ 9 ∷ []) (7 ∷ 8 ∷ [])
@@ -187,9 +187,9 @@ shown : shows 3 1 5 ≡ true
 unfolding topIn
 shown = refl
 
-passes-each : (passes (Meets 2) 6 ≡ true) × (passes (Misses 2) 6 ≡ false) × (passes (Hides 3 1) 5 ≡ false) × (passes (Differs 6) 5 ≡ true)
+passes-each : (passes (Meets 2) 6 ≡ true) × (passes (Misses 2) 6 ≡ false) × (passes (Hides 3 1) 5 ≡ false)
 unfolding passes topIn
-passes-each = (refl, refl, refl, refl)
+passes-each = (refl, refl, refl)
 
 -- inside a run the new positions get its set, between runs what both have, at the start nothing
 common : (commonAt t 12 ≡ 2) × (commonAt t 10 ≡ 0) × (commonAt t 0 ≡ 0) × (commonAt t 15 ≡ 0)
@@ -200,6 +200,11 @@ common = (refl, refl, refl, refl)
 two-stretches : stretchCount (alikeIn t) 15 ≡ 2
 unfolding sumBelow starts setAt t
 two-stretches = refl
+
+-- position 12 is in the stretch 10 .. 14, position 9 in 0 .. 9; both ends are in it
+extents : (firstOf (alikeIn t) 12 ≡ 10) × (lastOf (alikeIn t) 15 12 ≡ 14) × (firstOf (alikeIn t) 9 ≡ 0) × (lastOf (alikeIn t) 15 9 ≡ 9)
+unfolding stretchTo seekFrom setAt t
+extents = (refl, refl, refl, refl)
 
 -- ---- lists
 clipped-t : clipped 8 12 t ≡ stretch 10 12 1 ∷ stretch 8 10 0 ∷ []

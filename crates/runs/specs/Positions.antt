@@ -1,7 +1,7 @@
 -- A sum over the first n, and what is said of positions alone, with nothing of runs: what an edit makes of them, a test over a range, the longest
 -- stretch that passes one, and maximal stretches.
 use Prim.Native.Nat.{ℕ, zero, suc, _+_, _-_}
-use mathlib.Core.Bool.{Bool, true, false, cond, _&&_, _||_}
+use mathlib.Core.Bool.{Bool, true, false, cond, not, _&&_, _||_}
 use mathlib.Core.List.{List, [], _∷_, _++_}
 use lib.Dec.{ltb, leb}
 
@@ -48,6 +48,11 @@ unfoldable pub stretchTo : (ℕ → Bool) → ℕ → ℕ
 stretchTo test zero = zero
 stretchTo test (suc p) = cond (test p) (stretchTo test p) (suc p)
 
+-- the first of the k positions from `from` on that passes the test; from + k where none does
+unfoldable pub seekFrom : (ℕ → Bool) → ℕ → ℕ → ℕ
+seekFrom test from zero = from
+seekFrom test from (suc k) = cond (test from) from (seekFrom test (suc from) k)
+
 -- ---- Maximal stretches of alike neighbours; `alike p` says that p and p + 1 have one set
 -- 1 where a stretch starts, else 0: at position 0, and where a position differs from the one before
 unfoldable pub starts : (ℕ → Bool) → ℕ → ℕ
@@ -57,6 +62,14 @@ starts alike (suc p) = cond (alike p) 0 1
 -- how many of the first n positions start a stretch
 abbrev pub stretchCount : (ℕ → Bool) → ℕ → ℕ
 stretchCount alike n = sumBelow (starts alike) n
+
+-- the first position of the stretch that p is in: from there to p all neighbours are alike
+abbrev pub firstOf : (ℕ → Bool) → ℕ → ℕ
+firstOf alike p = stretchTo alike p
+
+-- and the last, of n positions: from p to there
+abbrev pub lastOf : (ℕ → Bool) → ℕ → ℕ → ℕ
+lastOf alike n p = seekFrom (λ q. not (alike q)) p (n - suc p)
 
 -- the positions start .. end, and how many marks each of them has
 pub record Stretch : Type 0 where

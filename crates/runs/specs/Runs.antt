@@ -55,12 +55,13 @@ changing bits gone s = lackingBits (bitOr s bits) gone
 abbrev pub sums : List ℕ → ℕ → ℕ
 sums lens k = sumBelow (λ i. getD lens i 0) k
 
--- run i of n starts at `start` and holds `pos`; past the end i is n
-pub record Found (lens : List ℕ) (n pos i start : ℕ) : Type 0 where
+-- run i of n has the positions start .. end and holds `pos`; past the end i is n, and there are no positions
+pub record Found (lens : List ℕ) (n pos i start end : ℕ) : Type 0 where
   pub within : i ≤ n
   pub starts : start ≡ sums lens i
   pub reached : start ≤ pos
-  pub inside : i < n → pos < start + getD lens i 0
+  pub inside : i < n → (pos < end) × (end ≡ start + getD lens i 0)
+  pub past : n ≤ i → end ≡ start
 
 -- ---- Two parallel lists: what is behind the runs
 -- the places from n on are as they were

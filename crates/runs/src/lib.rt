@@ -11,6 +11,7 @@ ghost use lib.ListN.{length};
 ghost use Rattle.runs.specs.Edits.{Joined, CanPush, CanCopy, CanEdit, Appended};
 ghost use Rattle.runs.specs.Positions.{alteredAt, deletedAt, insertedAt};
 ghost use Rattle.runs.specs.Runs.{runs, total, setAt, sums, Found, SameBehind, changing};
+ghost use Rattle.runs.specs.Scan.{CanFind};
 
 // `len` positions more with the set `set`, after the runs of the first `n` entries. Returns how many runs there are then.
 pub fn push(lens: &mut [u64], sets: &mut [u64], n: usize, len: u64, set: u64) -> usize
@@ -93,17 +94,17 @@ pub fn copy(
     at
 }
 
-// A run by its number, and the position that it starts at.
+// A run by its number, and its positions start .. end.
 pub struct Place {
     pub index: usize,
     pub start: u64,
+    pub end: u64,
 }
 
-// The run that holds the position `pos`, and where it starts; past the end, the number of runs and their sum.
-pub fn find(lens: &[u64], n: usize, pos: u64) -> Place
-    requires { ⌜ n ≤ length (now lens) ⌝ }
-    requires { ⌜ sums (now lens) n < 2 ^ 63 ⌝ }
-    ensures { λ r. ⌜ Found (now (lens .entry)) n pos (r .index) (r .start) ⌝ }
+// The run that holds a position, looked for from the first run on.
+fn find_forward(lens: &[u64], n: usize, pos: u64) -> Place
+    requires { ⌜ (n ≤ length (now lens)) × (sums (now lens) n < 2 ^ 63) ⌝ }
+    ensures { λ r. ⌜ Found (now (lens .entry)) n pos (r .index) (r .start) (r .end) ⌝ }
 {
     let mut i = 0;
     let mut start: u64 = 0;
@@ -113,6 +114,7 @@ pub fn find(lens: &[u64], n: usize, pos: u64) -> Place
             return Place {
                 index: i,
                 start: start,
+                end: end,
             };
         }
         start = end;
@@ -121,7 +123,24 @@ pub fn find(lens: &[u64], n: usize, pos: u64) -> Place
     Place {
         index: i,
         start: start,
+        end: start,
     }
+}
+
+// The run that holds the position `pos` of `all`, and the positions that it has; past the end, the number of runs and no positions. Its set is
+// the one at its index: `find` reads the lengths alone, so that who asks for an extent lends nothing else.
+pub fn find(lens: &[u64], n: usize, all: u64, pos: u64) -> Place
+    requires { ⌜ (n ≤ length (now lens)) × (all ≡ sums (now lens) n) × (all < 2 ^ 63) ⌝ }
+    ensures { λ r. ⌜ Found (now (lens .entry)) n pos (r .index) (r .start) (r .end) ⌝ }
+{
+    if all <= pos {
+        return Place {
+            index: n,
+            start: all,
+            end: all,
+        };
+    }
+    find_forward(lens, n, pos)
 }
 
 // Adds `bits` to the sets of the positions a .. b, and takes `gone` away from them.
@@ -187,12 +206,11 @@ pub fn insert(
 }
 
 // The set at a position, and 0 past the end.
-pub fn set_at(lens: &[u64], sets: &[u64], n: usize, pos: u64) -> u64
-    requires { ⌜ (n ≤ length (now lens)) × (n ≤ length (now sets)) ⌝ }
-    requires { ⌜ sums (now lens) n < 2 ^ 63 ⌝ }
+pub fn set_at(lens: &[u64], sets: &[u64], n: usize, all: u64, pos: u64) -> u64
+    requires { ⌜ CanFind (now lens) (now sets) n all ⌝ }
     ensures { λ r. ⌜ r ≡ setAt (runs (now (lens .entry)) (now (sets .entry)) n) pos ⌝ }
 {
-    let f = find(lens, n, pos);
+    let f = find(lens, n, all, pos);
     let i = f.index;
     if i < n { sets[i] } else { 0 }
 }

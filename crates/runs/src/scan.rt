@@ -3,20 +3,20 @@
 ghost use mathlib.Core.Path.{_≡_};
 ghost use mathlib.Core.Bool.{_&&_};
 ghost use Prim.Native.Nat.{_+_};
-ghost use lib.Dec.{ltb, eqb};
+ghost use lib.Dec.{ltb};
 ghost use Rattle.runs.specs.Runs.{runs, setAt};
 ghost use Rattle.runs.specs.Positions.{anyAt, allAt, stretchTo};
-ghost use Rattle.runs.specs.Scan.{meets, shows, passes, commonAt, CanScan, CanLook};
+ghost use Rattle.runs.specs.Scan.{meets, shows, passes, commonAt, CanScan, CanFind};
 use super::clip;
+use super::find;
 use super::set_at;
 use super::sooner;
 
-// What a scan looks for in a set: a bit of a mask; none of it; that the highest bit of a first mask is not in a second; another set.
+// What a scan looks for in a set: a bit of a mask; none of it; that the highest bit of a first mask is not in a second.
 enum Test {
     Meets(u64),
     Misses(u64),
     Hides(u64, u64),
-    Differs(u64),
 }
 
 fn holds(test: Test, set: u64) -> bool
@@ -26,7 +26,6 @@ fn holds(test: Test, set: u64) -> bool
         Test::Meets(mask) => set & mask != 0,
         Test::Misses(mask) => set & mask == 0,
         Test::Hides(first, second) => !styles::bits::top_in(set, first, second),
-        Test::Differs(other) => set != other,
     }
 }
 
@@ -83,15 +82,6 @@ pub fn all_show(
     !some_in(lens, sets, n, from, to, Test::Hides(first, second))
 }
 
-// Whether all positions of from .. to have the set that `from` has.
-pub fn same_in(lens: &[u64], sets: &[u64], n: usize, from: u64, to: u64) -> bool
-    requires { ⌜ CanScan (now lens) (now sets) n to ⌝ }
-    ensures { λ r. ⌜ r ≡ allAt (λ p. eqb (setAt (runs (now (lens .entry)) (now (sets .entry)) n) p) (setAt (runs (now (lens .entry)) (now (sets .entry)) n) from)) from to ⌝ }
-{
-    let first = set_at(lens, sets, n, from);
-    !some_in(lens, sets, n, from, to, Test::Differs(first))
-}
-
 // The first position of the stretch that ends at `last` and has a bit of the mask throughout, or last + 1.
 pub fn back(lens: &[u64], sets: &[u64], n: usize, mask: u64, last: u64) -> u64
     requires { ⌜ CanScan (now lens) (now sets) n (last + 1) ⌝ }
@@ -114,14 +104,21 @@ pub fn back(lens: &[u64], sets: &[u64], n: usize, mask: u64, last: u64) -> u64
 }
 
 // What the positions pos - 1 and pos have in common: what positions put in between them get. Nothing at either end.
-pub fn common_at(lens: &[u64], sets: &[u64], n: usize, pos: u64) -> u64
-    requires { ⌜ CanLook (now lens) (now sets) n ⌝ }
+pub fn common_at(lens: &[u64], sets: &[u64], n: usize, all: u64, pos: u64) -> u64
+    requires { ⌜ CanFind (now lens) (now sets) n all ⌝ }
     ensures { λ r. ⌜ r ≡ commonAt (runs (now (lens .entry)) (now (sets .entry)) n) pos ⌝ }
 {
     if pos == 0 {
         return 0;
     }
-    let before = set_at(lens, sets, n, pos - 1);
-    let after = set_at(lens, sets, n, pos);
-    before & after
+    let f = find(lens, n, all, pos);
+    let i = f.index;
+    if n <= i {
+        return 0;
+    }
+    if f.start < pos {
+        return sets[i];
+    }
+    let before = set_at(lens, sets, n, all, pos - 1);
+    before & sets[i]
 }

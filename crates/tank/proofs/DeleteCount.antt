@@ -20,7 +20,7 @@ use Rattle.runs.proofs.StretchLaws.{stretch-count-ext}
 use Rattle.tank.specs.Rules.{View, afterDelete, alike, runsHeld}
 
 -- ---- sameness of sets passes along a chain
-same-chain : (xs ys zs : List Mark) → sameMarks xs ys ≡ true → sameMarks ys zs ≡ true → sameMarks xs zs ≡ true
+pub same-chain : (xs ys zs : List Mark) → sameMarks xs ys ≡ true → sameMarks ys zs ≡ true → sameMarks xs zs ≡ true
 unfolding sameMarks
 same-chain [] [] zs e f = f
 same-chain [] (y ∷ ys) zs e f = absurd (false≢true e)

@@ -12,7 +12,7 @@ use Rattle.styles.specs.declared.Mark.{Mark}
 use Rattle.runs.specs.Runs.{Run, runs, total, setAt, Canon, Spare}
 use Rattle.runs.specs.Edits.{Joined, CanEdit}
 use Rattle.runs.specs.Gather.{gather}
-use Rattle.runs.specs.Scan.{CanLook}
+use Rattle.runs.specs.Scan.{CanLook, CanFind}
 use Rattle.runs.proofs.Laws.{at-in, at-last, length-runs}
 use Rattle.runs.proofs.EditLaws.{one-joined}
 use Rattle.tank.specs.declared.Tank.{Tank}
@@ -41,6 +41,10 @@ module _ {t : Tank} (f : Laid t) where
       let b = f .sets-514 in
       let m = f .most in
       record { lens-n = omega arith; sets-n = omega arith; small = subst (λ (n : ℕ). n < 2 ^ 63) (f .sum) (f .small) }
+
+  -- and what finding a position in them asks
+  pub can-find : CanFind (t .lens) (t .sets) (t .runs) (t .length)
+  can-find = record { look = can-look; all-is = f .sum }
 
   -- a position within the tank's length is within its runs
   pub reach : {p : ℕ} → p ≤ t .length → p ≤ total (runsOf t)

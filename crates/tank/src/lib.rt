@@ -244,7 +244,7 @@ impl Tank {
         let lens = self.lens;
         let sets = self.sets;
         let table = self.table;
-        let set = runs::scan::common_at(&lens, &sets, self.runs, pos);
+        let set = runs::scan::common_at(&lens, &sets, self.runs, self.length, pos);
         let styles = styles::table::styles_of(table, self.marks, set);
         Inserted {
             number: 0,

@@ -1,12 +1,13 @@
 -- `set_at` meets its contract: the runs' own look, and no set has bits past the table.
-use Rattle.questions.proofs.QuestionLaws.{looks, set-inside}
+use Rattle.questions.proofs.QuestionLaws.{set-inside}
+use Rattle.tank.proofs.Shape.{can-find}
 use borrow.Author.Needs.{needs}
 use native.Mathlib.Omega.{arith}
 use Rattle.questions.proofs.set_at.Statement.{statement}
 use Rattle.questions.proofs.set_at.Tie as tie
 
 set-at-requires : tie.Need-set-at-requires
-set-at-requires c κs = looks (c .before .before .before .before .pre)
+set-at-requires c κs = can-find (c .before .before .before .before .pre .laid)
 
 returns : tie.Need-returns
 returns c =

@@ -1,29 +1,67 @@
--- `scan::common_at` meets its contract: away from the start it is the AND of two looks.
-use mathlib.Core.Path.{sym, ap}
-use borrow.Author.Needs.{needs}
-use Rattle.runs.specs.Runs.{runs}
+-- `scan::common_at` meets its contract: the set of the run that both positions are in, or what two runs have in common.
+use Prim.Native.Nat.{ℕ}
+use mathlib.Core.Path.{sym, ap, _∙_}
+use lib.Bits.{bitAnd}
+use lib.ListN.{getD}
 use Rattle.runs.specs.Scan.{commonAt}
-use Rattle.runs.proofs.ScanLaws.{can-look, common-inside}
+use Rattle.runs.proofs.ScanLaws.{can-find, common-past, common-in, common-edge}
+use borrow.Author.Needs.{needs}
 use Rattle.runs.proofs.scan.common_at.Statement.{statement}
 use Rattle.runs.proofs.scan.common_at.Tie as tie
 
 returns : tie.Need-returns
 unfolding commonAt
-returns c = ap (commonAt _) (sym (c .if1 .taken))
+returns c =
+    ap (commonAt _) (sym (c .if1 .taken))
 
-set-at-requires : tie.Need-set-at-requires
-set-at-requires c κs = can-look (c .before .before .before .pre)
-
-set-at-requires-2 : tie.Need-set-at-requires-2
-set-at-requires-2 c κs = can-look (c .before .before .before .before .pre)
+find-requires : tie.Need-find-requires
+find-requires c κs =
+    can-find (c .before .before .before .pre)
 
 returns-2 : tie.Need-returns-2
 returns-2 c =
-    let e = c .before .set-at .ensures in
-    let g = c .set-at2 .ensures in
-    let s = c .before .before .before .before .before in
-    let i = common-inside (runs (s .args .lens .now) (s .args .sets .now) (s .args .n)) (s .args .pos) (c .before .before .if1 .left) in
-    cc
+    sym (common-past _ _ _ _ _ _ _ (c .before .find .ensures) (c .if2 .taken))
+
+mul-result : tie.Need-mul-result
+mul-result c = search needs
+
+shared-slice-read-result : tie.Need-shared-slice-read-result
+shared-slice-read-result c = search needs
+
+returns-3 : tie.Need-returns-3
+returns-3 c =
+    sym (common-in _ _ _ _ _ _ _ (c .before .before .before .before .find .ensures) (c .before .before .before .if2 .left) (c .before .if3 .taken))
+
+sub-set-at : tie.Need-sub-set-at
+sub-set-at c = search needs
+
+set-at-requires : tie.Need-set-at-requires
+set-at-requires c κs = search needs
+
+mul-result-2 : tie.Need-mul-result-2
+mul-result-2 c = search needs
+
+shared-slice-read-result-2 : tie.Need-shared-slice-read-result-2
+shared-slice-read-result-2 c = search needs
+
+returns-4 : tie.Need-returns-4
+returns-4 c =
+    let s = c .before .before .before .before .before .before .before .before .before in
+    let f = c .before .before .before .before .before .find .ensures in
+    ap (λ (x : ℕ). bitAnd x (getD (s .args .sets .now) (c .before .before .before .before .before .find .result .index) 0)) (c .before .set-at .ensures) ∙ sym (common-edge _ _ _ _ _ _ _ f (c .before .before .before .before .if2 .left) (c .before .before .before .before .before .before .if1 .left))
 
 pub common-at-spec : {M : Type 1} → statement M
-common-at-spec = tie.close (tie.spec returns (λ c. search needs) set-at-requires set-at-requires-2 returns-2)
+common-at-spec =
+    tie.close
+    (tie.spec
+    returns
+    find-requires
+    returns-2
+    mul-result
+    shared-slice-read-result
+    returns-3
+    sub-set-at
+    set-at-requires
+    mul-result-2
+    shared-slice-read-result-2
+    returns-4)

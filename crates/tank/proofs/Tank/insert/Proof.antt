@@ -2,7 +2,7 @@
 use borrow.Author.Needs.{needs}
 use borrow.Author.Tests.{not-true, not-false}
 use Rattle.tank.proofs.InsertLaws.{insert-3, insert-4, insert-untouched, insert-5, set-inside, can-grow, insert-done}
-use Rattle.tank.proofs.Shape.{can-look}
+use Rattle.tank.proofs.Shape.{can-find}
 use Rattle.tank.proofs.Tank.insert.Statement.{statement}
 use Rattle.tank.proofs.Tank.insert.Tie as tie
 
@@ -34,7 +34,7 @@ common-at-requires : tie.Need-common-at-requires
 common-at-requires c κs =
     let h = c .before .before .before .before .before in
     let e = h .before .before .before .before .before .before in
-    can-look (e .before .pre .formed .laid)
+    can-find (e .before .pre .formed .laid)
 
 styles-of-requires : tie.Need-styles-of-requires
 styles-of-requires c κs =
