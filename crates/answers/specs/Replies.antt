@@ -6,6 +6,7 @@ use lib.ListN.{take}
 use Rattle.styles.specs.declared.Styles.{Styles}
 use Rattle.richtext.specs.declared.AnchorType.{AnchorType}
 use Rattle.questions.specs.declared.Asked.{Asked}
+use Rattle.questions.specs.declared.Extent.{Extent}
 use Rattle.questions.specs.declared.SetAsked.{SetAsked}
 use Rattle.questions.specs.declared.Shared.{Shared}
 use Rattle.questions.specs.declared.Shown.{Shown}
@@ -85,6 +86,10 @@ setSays a = orRefused (a .number) (stylesSay (a .styles))
 -- the set that all positions share
 abbrev pub sharedSays : Shared → Pieces
 sharedSays a = orRefused (a .number) (cond (a .agree) (stylesSay (a .styles)) noneSays)
+
+-- from where to where a stretch goes, both ends in it
+abbrev pub extentSays : Extent → Pieces
+extentSays e = orRefused (e .number) (lineSays (bytes "first=") (e .first) ++ lineSays (bytes "last=") (e .last))
 
 -- ---- Lists
 -- how much a list takes

@@ -15,6 +15,7 @@ pub use pieces::say;
 pub use replies::first_or;
 pub use replies::put_asked;
 pub use replies::put_count;
+pub use replies::put_extent;
 pub use replies::put_set_asked;
 pub use replies::put_shared;
 pub use replies::put_shown;

@@ -4,7 +4,7 @@ ghost use mathlib.Core.Path.{_≡_};
 ghost use Prim.Native.Nat.{_≤_};
 ghost use lib.ListN.{length};
 ghost use Rattle.answers.specs.Waiting.{Adds, pieceRoom};
-ghost use Rattle.answers.specs.Replies.{firstSays, countSays, touchedSays, toldSays, shownSays, askedSays, setSays, sharedSays};
+ghost use Rattle.answers.specs.Replies.{firstSays, countSays, touchedSays, toldSays, shownSays, askedSays, setSays, sharedSays, extentSays};
 use super::pieces::none;
 use super::pieces::put_mark;
 use super::pieces::put_value;
@@ -13,6 +13,7 @@ use super::pieces::say;
 use super::sets::put_set;
 use super::sets::set_or;
 use questions::Asked;
+use questions::Extent;
 use questions::SetAsked;
 use questions::Shared;
 use questions::Shown;
@@ -117,4 +118,16 @@ pub fn put_shared(out: &mut [u8], at: usize, a: Shared) -> usize
         return none(out, at);
     }
     refuse(out, at, a.number)
+}
+
+// From where to where a stretch goes, both ends in it.
+pub fn put_extent(out: &mut [u8], at: usize, e: Extent) -> usize
+    requires { ⌜ pieceRoom ≤ length (now out) ⌝ }
+    ensures { λ r. ⌜ Adds (now (out .entry)) at (extentSays e) r (now (out .exit)) ⌝ }
+{
+    if e.number == 0 {
+        let k = say(out, at, b"first=", e.first);
+        return say(out, k, b"last=", e.last);
+    }
+    refuse(out, at, e.number)
 }

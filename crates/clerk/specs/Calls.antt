@@ -12,7 +12,7 @@ use Rattle.tanks.specs.declared.Tanks.{Tanks}
 use Rattle.tanks.specs.House.{House, tankAt, held, openNumber, opening, askNumber, refusalAt, afterAt, insertedSetAt, removedFirstAt}
 use Rattle.tanks.specs.Pool.{meaning, Sound}
 use Rattle.tanks.specs.Contracts.{counts, says}
-use Rattle.ask.specs.Asks.{askAt, valueAsked, marksAsked, markAsked, inheritAsked, inheritedAsked, keyAsked, allValueAsked, sameAsked, rangeNeededAsked, wholeNeededAsked}
+use Rattle.ask.specs.Asks.{askAt, valueAsked, marksAsked, markAsked, stretchAsked, inheritAsked, inheritedAsked, keyAsked, allValueAsked, sameAsked, rangeNeededAsked, wholeNeededAsked}
 use Rattle.script.specs.declared.Call.{Call}
 use Rattle.script.specs.declared.Change.{Change}
 use Rattle.script.specs.declared.Listing.{Listing}
@@ -21,7 +21,7 @@ use Rattle.script.specs.declared.Question.{Question}
 use Rattle.script.specs.Args.{numberAt, keyAt, markOf, identityOf}
 use Rattle.text.specs.Bytes.{bytes}
 use Rattle.answers.specs.Waiting.{Pieces, Adds}
-use Rattle.answers.specs.Replies.{lineSays, refusedSays, orRefused, acceptedSays, stylesSay, firstSays, countSays, touchedSays, toldSays, shownSays, askedSays, setSays, sharedSays, neededSays, listSays, anchorsSay}
+use Rattle.answers.specs.Replies.{lineSays, refusedSays, orRefused, acceptedSays, stylesSay, firstSays, countSays, touchedSays, toldSays, shownSays, askedSays, setSays, sharedSays, extentSays, neededSays, listSays, anchorsSay}
 use Rattle.clerk.specs.declared.Done.{Done}
 
 -- ---- What a call speaks of, by the order of its op's fields
@@ -107,6 +107,7 @@ answerSays Question.Marks h c = setSays (marksAsked h (tankFor c) (numberAt c 1)
 answerSays Question.Inherit h c = setSays (inheritAsked h (tankFor c) (numberAt c 1))
 answerSays Question.Mark h c = askedSays (markAsked h (tankFor c) (numberAt c 1) (numberAt c 2))
 answerSays Question.Inherited h c = askedSays (inheritedAsked h (tankFor c) (numberAt c 1) (numberAt c 2))
+answerSays Question.Find h c = extentSays (stretchAsked h (tankFor c) (numberAt c 1))
 
 -- of one that asks for a list
 abbrev pub listingSays : Listing → House → Call → Pieces

@@ -1,4 +1,4 @@
-// Calls that ask for a number, a yes or no, a value, a mark or a set.
+// Calls that ask for a number, a yes or no, a value, a mark, a set or a stretch.
 ghost use Prim.Native.Nat.{_≤_};
 ghost use lib.ListN.{length};
 ghost use Rattle.script.specs.declared.Question as questions;
@@ -8,6 +8,7 @@ ghost use Rattle.answers.specs.Waiting.{Adds, pieceRoom};
 ghost use Rattle.clerk.specs.Calls.{saysOf};
 use answers::put_asked;
 use answers::put_count;
+use answers::put_extent;
 use answers::put_set_asked;
 use answers::put_shared;
 use answers::put_shown;
@@ -117,4 +118,13 @@ pub fn inherited(s: Tanks, call: Call, out: &mut [u8], at: usize) -> usize
 {
     let n = call.numbers;
     put_asked(out, at, ask::style_for_insert(s, n[0], n[1], n[2]))
+}
+
+pub fn find(s: Tanks, call: Call, out: &mut [u8], at: usize) -> usize
+    requires { ⌜ Sound s ⌝ }
+    requires { ⌜ pieceRoom ≤ length (now out) ⌝ }
+    ensures { λ r. ⌜ Adds (now (out .entry)) at (saysOf (ops.Op.Question questions.Question.Find) (meaning s) call) r (now (out .exit)) ⌝ }
+{
+    let n = call.numbers;
+    put_extent(out, at, ask::stretch_at(s, n[0], n[1]))
 }

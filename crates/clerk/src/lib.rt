@@ -108,6 +108,7 @@ fn answer(s: Tanks, q: Question, call: Call, out: &mut [u8], at: usize) -> usize
         Question::Inherit => asking::inherit(s, call, out, at),
         Question::Mark => asking::mark(s, call, out, at),
         Question::Inherited => asking::inherited(s, call, out, at),
+        Question::Find => asking::find(s, call, out, at),
     }
 }
 

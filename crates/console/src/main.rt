@@ -45,6 +45,7 @@ fn page_4() {
     say(b"  whole                   tank room\n");
     say(b"  whole_needed            tank\n");
     say(b"  anchors                 tank room\n");
+    say(b"  find                    tank at\n");
     say(b"\n");
 }
 
@@ -89,6 +90,9 @@ fn page_7() {
     say(b"    whole_needed\n");
     say(
         b"  anchors                 anchors=N, and for each record at= side=start or side=end, key= lamport= peer=\n",
+    );
+    say(
+        b"  find                    first=N last=N, the ends of the stretch that the position is in\n",
     );
     say(b"\n");
 }

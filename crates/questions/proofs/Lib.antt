@@ -1,3 +1,4 @@
 pub mod QuestionLaws
 pub mod AnswerLaws
+pub mod Extents
 pub mod QuestionTests

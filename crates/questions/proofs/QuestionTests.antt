@@ -11,7 +11,7 @@ use Rattle.styles.specs.declared.Value.the-variants.{Null, Flag, Decimal}
 use Rattle.styles.specs.Answers.{stylesOf, rankOf}
 use Rattle.styles.specs.Marks.{winner, hasKey, member, only, sameMarks, insertMark}
 use Rattle.styles.specs.Order.{numbers, stands}
-use Rattle.runs.specs.Positions.{anyAt, allAt}
+use Rattle.runs.specs.Positions.{anyAt, allAt, stretchTo, seekFrom}
 use Rattle.questions.specs.declared.Asked.the-variants as asked
 use Rattle.questions.specs.declared.Shown.the-variants as shown
 use Rattle.questions.specs.declared.Told.the-variants as told
@@ -26,6 +26,7 @@ use Rattle.questions.specs.Questions.{
   valueAt,
   stylesAt,
   styleAt,
+  stretchAt,
   stylesForInsert,
   styleForInsert,
   rangeContainsKey,
@@ -102,6 +103,25 @@ rank-last = refl
 rank-past : styleAt 3 2 v ≡ asked.Nothing
 unfolding positionRefusal rankOf
 rank-past = refl
+
+-- ---- from where to where the marks of a position hold
+-- 2 and 3 have the same marks, and neither neighbour has them
+stretch-two : stretchAt 3 v ≡ record { number = 0; first = 2; last = 3 }
+unfolding positionRefusal stretchTo seekFrom sameMarks stands numbers
+stretch-two = refl
+
+-- at both ends of the tank
+stretch-front : stretchAt 0 v ≡ record { number = 0; first = 0; last = 0 }
+unfolding positionRefusal stretchTo seekFrom sameMarks
+stretch-front = refl
+
+stretch-back : stretchAt 5 v ≡ record { number = 0; first = 5; last = 5 }
+unfolding positionRefusal stretchTo seekFrom sameMarks
+stretch-back = refl
+
+stretch-past : stretchAt 6 v ≡ record { number = 4; first = 0; last = 0 }
+unfolding positionRefusal
+stretch-past = refl
 
 -- ---- what an insertion would get
 gets-common : stylesForInsert 2 v ≡ record { number = 0; styles = stylesOf (A ∷ []) }

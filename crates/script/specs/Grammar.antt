@@ -141,6 +141,7 @@ ops =
     listing Listing.Whole "whole" (tank ∷ room ∷ []) ∷
     listing Listing.WholeNeeded "whole_needed" (tank ∷ []) ∷
     listing Listing.Anchors "anchors" (tank ∷ room ∷ []) ∷
+    question Question.Find "find" (tank ∷ at ∷ []) ∷
     []
 
 -- between two groups there is no op, and the line that names one is to come

@@ -55,6 +55,7 @@ pub enum Question {
     Inherit,
     Mark,
     Inherited,
+    Find,
 }
 
 // Ops that ask for a list, or for what one takes.

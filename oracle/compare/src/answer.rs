@@ -20,6 +20,7 @@ pub enum Answer {
     Stretches(u64, Vec<Listed>),
     Needed(u64),
     Anchors(Vec<Anchor>),
+    Extent(Extent),
 }
 
 /// A stretch as it is listed: its start, its end and how many marks it carries.
@@ -28,6 +29,13 @@ pub struct Listed {
     pub from: u64,
     pub to: u64,
     pub marks: u64,
+}
+
+/// From where to where a stretch goes, both ends in it.
+#[derive(Clone, Copy, Debug, PartialEq, Eq)]
+pub struct Extent {
+    pub first: u64,
+    pub last: u64,
 }
 
 #[derive(Clone, Copy, Debug, PartialEq, Eq)]
@@ -50,6 +58,7 @@ impl Answer {
             Answer::Yes(true) => "yes".into(),
             Answer::Yes(false) => "no".into(),
             Answer::Stretches(..) | Answer::Anchors(_) => "a list".into(),
+            Answer::Extent(_) => "a stretch".into(),
             _ => "a number".into(),
         }
     }
@@ -84,6 +93,7 @@ impl fmt::Display for Answer {
                 writeln!(f, "anchors={}", list.len())?;
                 list.iter().try_for_each(|anchor| five_lines(f, anchor))
             }
+            Answer::Extent(Extent { first, last }) => writeln!(f, "first={first}\nlast={last}"),
         }
     }
 }

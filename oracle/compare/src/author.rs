@@ -265,7 +265,7 @@ impl Author {
         let at = self.spot(tank);
         let few = self.random.below(3);
         let rank = self.or_wild(few);
-        match self.random.below(18) {
+        match self.random.below(19) {
             0 => Call::Length { tank },
             1 => Call::Touched { tank },
             2 => Call::Runs { tank },
@@ -287,6 +287,7 @@ impl Author {
                 Call::Whole { tank, room: self.room(needed) }
             }
             16 => Call::WholeNeeded { tank },
+            17 => Call::Find { tank, at },
             _ => {
                 let needed = self.state(tank).anchors().len() as u64;
                 Call::Anchors { tank, room: self.room(needed) }
@@ -351,5 +352,8 @@ pub fn identity(number: u64) -> Id {
 /// The content that an identity mostly comes with.
 pub fn usual(id: Id) -> Content {
     let number = id.0 as u64 + 3 * id.1 as u64 + 5 * (id.2 % 1000);
-    Content { flags: FLAGS[number as usize % FLAGS.len()], value: VALUES[number as usize % VALUES.len()] }
+    Content {
+        flags: FLAGS[number as usize % FLAGS.len()],
+        value: VALUES[number as usize % VALUES.len()],
+    }
 }

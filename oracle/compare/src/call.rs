@@ -29,10 +29,11 @@ pub enum Call {
     Whole { tank: u64, room: u64 },
     WholeNeeded { tank: u64 },
     Anchors { tank: u64, room: u64 },
+    Find { tank: u64, at: u64 },
 }
 
 /// Each op and its fields, in the order of their lines.
-pub const SHAPES: [(&str, &[&str]); 21] = [
+pub const SHAPES: [(&str, &[&str]); 22] = [
     ("open", &OPEN),
     ("annotate", &["tank", "start", "end", "key", "lamport", "peer", "flags", "kind", "value"]),
     ("insert", &["tank", "at", "len"]),
@@ -54,6 +55,7 @@ pub const SHAPES: [(&str, &[&str]); 21] = [
     ("whole", &["tank", "room"]),
     ("whole_needed", &["tank"]),
     ("anchors", &["tank", "room"]),
+    ("find", &["tank", "at"]),
 ];
 
 const OPEN: [&str; 16] = [
@@ -93,6 +95,7 @@ impl Call {
             Call::Whole { .. } => 18,
             Call::WholeNeeded { .. } => 19,
             Call::Anchors { .. } => 20,
+            Call::Find { .. } => 21,
         }
     }
 
@@ -146,7 +149,9 @@ impl Call {
             Call::Delete { tank, start, end }
             | Call::Same { tank, start, end }
             | Call::StretchesNeeded { tank, start, end } => numbers(&[tank, start, end]),
-            Call::Marks { tank, at } | Call::Inherit { tank, at } => numbers(&[tank, at]),
+            Call::Marks { tank, at } | Call::Inherit { tank, at } | Call::Find { tank, at } => {
+                numbers(&[tank, at])
+            }
             Call::Mark { tank, at, rank } | Call::Inherited { tank, at, rank } => {
                 numbers(&[tank, at, rank])
             }
@@ -195,7 +200,8 @@ impl Call {
             17 => Call::StretchesNeeded { tank, start: n(start), end: n(end) },
             18 => Call::Whole { tank, room: n(1) },
             19 => Call::WholeNeeded { tank },
-            _ => Call::Anchors { tank, room: n(1) },
+            20 => Call::Anchors { tank, room: n(1) },
+            _ => Call::Find { tank, at: n(1) },
         }
     }
 }

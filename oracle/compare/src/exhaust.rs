@@ -99,7 +99,11 @@ fn questions() -> Vec<Call> {
     let tank = 0;
     let mut list = vec![Call::Touched { tank }, Call::WholeNeeded { tank }];
     for at in 0..=PLACES {
-        list.extend([Call::Marks { tank, at }, Call::Inherit { tank, at }]);
+        list.extend([
+            Call::Marks { tank, at },
+            Call::Inherit { tank, at },
+            Call::Find { tank, at },
+        ]);
         list.extend((1..3).map(|key| Call::Value { tank, at, key }));
         list.extend((0..3).map(|rank| Call::Mark { tank, at, rank }));
         list.extend((0..2).map(|rank| Call::Inherited { tank, at, rank }));

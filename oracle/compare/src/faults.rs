@@ -3,13 +3,13 @@
 
 use std::collections::BTreeMap;
 
-use crate::answer::Answer;
+use crate::answer::{Answer, Extent};
 use crate::call::Call;
 use crate::mark::{listed, Content, Id};
 use crate::tanks::Tanks;
 
 /// The name of a fault, and what it gets wrong.
-pub const FAULTS: [(&str, &str); 43] = [
+pub const FAULTS: [(&str, &str); 46] = [
     ("refusal1", "answers for tank 0 in place of refusal 1"),
     ("refusal2", "accepts settings that break the rule"),
     ("refusal3", "accepts an empty edit"),
@@ -51,6 +51,9 @@ pub const FAULTS: [(&str, &str); 43] = [
     ("whole-unmarked", "the whole-tank list has unmarked stretches in it"),
     ("anchor-order", "starts come before ends"),
     ("anchor-end", "an end stands one past the last position"),
+    ("find-end", "tells one past the last position of a stretch as its last"),
+    ("find-before", "tells the first position of the stretch before"),
+    ("find-joins", "tells a stretch that goes on into the next one"),
     ("run-count", "counts one run too many in a tank of 100 runs or more"),
     ("malformed-line", "names the line after the malformed one"),
 ];
@@ -273,6 +276,16 @@ impl Faulty {
             ("anchor-end", _, Answer::Anchors(mut list)) => {
                 list.iter_mut().for_each(|a| a.at += !a.start as u64);
                 Answer::Anchors(list)
+            }
+            ("find-end", _, Answer::Extent(Extent { first, last })) => {
+                Answer::Extent(Extent { first, last: last + 1 })
+            }
+            ("find-before", _, Answer::Extent(Extent { first, last })) => {
+                Answer::Extent(Extent { first: state.find(first.saturating_sub(1)).first, last })
+            }
+            ("find-joins", _, Answer::Extent(Extent { first, last })) => {
+                let next = (last + 1).min(state.length - 1);
+                Answer::Extent(Extent { first, last: state.find(next).last })
             }
             ("run-count", _, Answer::Runs(runs)) if runs >= 100 => Answer::Runs(runs + 1),
             (_, _, answer) => answer,

@@ -8,7 +8,7 @@ use std::panic::{catch_unwind, set_hook, take_hook, AssertUnwindSafe};
 
 use original::{join_neighbours, LoroValue};
 
-use crate::answer::{Anchor, Answer, Listed};
+use crate::answer::{Anchor, Answer, Extent, Listed};
 use crate::call::Call;
 use crate::mark::{Content, Id, Mark, Value};
 use crate::tank::Tank;
@@ -109,7 +109,8 @@ pub fn inside(tank: &Tank, call: &Call) -> bool {
         | Call::Touched { .. }
         | Call::Runs { .. }
         | Call::Whole { .. }
-        | Call::WholeNeeded { .. } => true,
+        | Call::WholeNeeded { .. }
+        | Call::Find { .. } => true,
         Call::Open { .. } => false,
     }
 }
@@ -204,6 +205,12 @@ fn asked(map: &original::Tank, tank: &Tank, call: &Call) -> Said {
         Call::WholeNeeded { .. } => Answer::Needed(3 * listed(map.iter()).len() as u64),
         Call::Anchors { .. } => {
             Answer::Anchors(map.anchors().into_iter().map(our_anchor).collect())
+        }
+        // The Rust has no such call: among its elements, with equal neighbours joined, the one with the position.
+        Call::Find { at, .. } => {
+            let holds = |(from, to, _): &(u64, u64, Vec<Mark>)| (*from..*to).contains(&at);
+            let (from, to, _) = joined(map.elements()).into_iter().find(holds).expect("a position");
+            Answer::Extent(Extent { first: from, last: to - 1 })
         }
         _ => unreachable!("{tank:?}: {call:?} is no question"),
     })

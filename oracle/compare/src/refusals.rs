@@ -44,6 +44,7 @@ fn every(tank: u64, start: u64, end: u64) -> Vec<Call> {
         Call::Whole { tank, room },
         Call::WholeNeeded { tank },
         Call::Anchors { tank, room },
+        Call::Find { tank, at },
     ]
 }
 
@@ -102,6 +103,7 @@ fn longest() -> Vec<Call> {
         Call::Touched { tank },
         Call::Inherit { tank, at: 0 },
         Call::Marks { tank, at: 0 },
+        Call::Find { tank, at: 0 },
         Call::Anchors { tank, room: 0 },
         annotate(tank, 0, 1, mark(1)),
         Call::Insert { tank, at: 0, len: 1 },

@@ -5,7 +5,7 @@
 use std::collections::BTreeMap;
 use std::rc::Rc;
 
-use crate::answer::{Anchor, Listed};
+use crate::answer::{Anchor, Extent, Listed};
 use crate::mark::{Content, Id, Mark, Set, Value};
 
 /// A fresh tank's length.
@@ -164,6 +164,14 @@ impl Tank {
     pub fn same(&self, start: u64, end: u64) -> Option<Rc<Set>> {
         let list = self.stretches(start, end);
         (self.touched && list.len() == 1).then(|| list[0].set.clone())
+    }
+
+    /// The stretch of equal sets that a position is in.
+    pub fn find(&self, at: u64) -> Extent {
+        let (&first, _) =
+            self.begins.range(..=at).next_back().expect("a position below the length");
+        let next = self.begins.range(at + 1..).next().map_or(self.length, |(&place, _)| place);
+        Extent { first, last: next - 1 }
     }
 
     pub fn runs(&self) -> u64 {

@@ -186,6 +186,10 @@ impl Tanks {
                 refuse_if(list.len() as u64 > room.min(ANCHOR_ROOM), 11)?;
                 Answer::Anchors(list)
             }
+            Call::Find { at, .. } => {
+                position(at)?;
+                Answer::Extent(tank.find(at))
+            }
             Call::Open { .. }
             | Call::Annotate { .. }
             | Call::Insert { .. }

@@ -73,6 +73,13 @@ fn same(tank: &Tank, all: &Positions) {
     }
     let starts = |at: &usize| *at == 0 || all[*at] != all[*at - 1];
     assert_eq!(tank.runs(), (0..all.len()).filter(starts).count() as u64);
+    for at in 0..all.len() {
+        let extent = tank.find(at as u64);
+        let (first, last) = (extent.first as usize, extent.last as usize);
+        assert!(first <= at && at <= last && all[first..=last].iter().all(|set| *set == all[at]));
+        assert!(first == 0 || all[first - 1] != all[at]);
+        assert!(last + 1 == all.len() || all[last + 1] != all[at]);
+    }
     let mut anchors = Vec::new();
     for at in 0..=all.len() {
         let nothing = BTreeSet::new();

@@ -129,5 +129,6 @@ fn wanted() -> Vec<&'static str> {
         "whole: a list",
         "whole_needed: a number",
         "anchors: a list",
+        "find: a stretch",
     ]
 }
