@@ -116,9 +116,10 @@ pub fn common_at(lens: &[u64], sets: &[u64], n: usize, all: u64, pos: u64) -> u6
     if n <= i {
         return 0;
     }
+    let after = sets[i];
     if f.start < pos {
-        return sets[i];
+        return after;
     }
     let before = set_at(lens, sets, n, all, pos - 1);
-    before & sets[i]
+    before & after
 }

@@ -22,15 +22,16 @@ returns-2 : tie.Need-returns-2
 returns-2 c =
     sym (common-past _ _ _ _ _ _ _ (c .before .find .ensures) (c .if2 .taken))
 
-mul-result : tie.Need-mul-result
-mul-result c = search needs
+mul-after : tie.Need-mul-after
+mul-after c = search needs
 
-shared-slice-read-result : tie.Need-shared-slice-read-result
-shared-slice-read-result c = search needs
+shared-slice-read-after : tie.Need-shared-slice-read-after
+shared-slice-read-after c = search needs
 
 returns-3 : tie.Need-returns-3
 returns-3 c =
-    sym (common-in _ _ _ _ _ _ _ (c .before .before .before .before .find .ensures) (c .before .before .before .if2 .left) (c .before .if3 .taken))
+    let e = c .before .before .before in
+    sym (common-in _ _ _ _ _ _ _ (e .before .find .ensures) (e .if2 .left) (c .if3 .taken))
 
 sub-set-at : tie.Need-sub-set-at
 sub-set-at c = search needs
@@ -38,17 +39,13 @@ sub-set-at c = search needs
 set-at-requires : tie.Need-set-at-requires
 set-at-requires c κs = search needs
 
-mul-result-2 : tie.Need-mul-result-2
-mul-result-2 c = search needs
-
-shared-slice-read-result-2 : tie.Need-shared-slice-read-result-2
-shared-slice-read-result-2 c = search needs
-
 returns-4 : tie.Need-returns-4
 returns-4 c =
-    let s = c .before .before .before .before .before .before .before .before .before in
-    let f = c .before .before .before .before .before .find .ensures in
-    ap (λ (x : ℕ). bitAnd x (getD (s .args .sets .now) (c .before .before .before .before .before .find .result .index) 0)) (c .before .set-at .ensures) ∙ sym (common-edge _ _ _ _ _ _ _ f (c .before .before .before .before .if2 .left) (c .before .before .before .before .before .before .if1 .left))
+    let e = c .before .before .before .before in
+    let f = e .before in
+    let s = f .before .before .before .before in
+    ap (λ (x : ℕ). bitAnd x (getD (s .args .sets .now) (f .find .result .index) 0)) (c .set-at .ensures)
+    ∙ sym (common-edge _ _ _ _ _ _ _ (f .find .ensures) (e .if2 .left) (f .before .if1 .left))
 
 pub common-at-spec : {M : Type 1} → statement M
 common-at-spec =
@@ -57,11 +54,9 @@ common-at-spec =
     returns
     find-requires
     returns-2
-    mul-result
-    shared-slice-read-result
+    mul-after
+    shared-slice-read-after
     returns-3
     sub-set-at
     set-at-requires
-    mul-result-2
-    shared-slice-read-result-2
     returns-4)
