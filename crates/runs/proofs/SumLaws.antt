@@ -1,8 +1,8 @@
 -- Sums over the first n: one term more, term by term, a longer sum, and sums compared but for one term. Assumes nothing.
 use mathlib.Core.Path.{_≡_, refl}
 use mathlib.Core.Logic.{_≢_}
-use Prim.Native.Nat.{ℕ, zero, suc, _+_, _*_, _≤_, _<_}
-use native.Mathlib.Numerals.{add-one}
+use Prim.Native.Nat.{ℕ, zero, suc, _+_, _-_, _*_, _≤_, _<_}
+use native.Mathlib.Numerals.{add-one, sub-one}
 use native.Mathlib.Omega.{arith}
 use native.Mathlib.Decide.{decLe, decLt}
 use Rattle.runs.specs.Positions.{sumBelow}
@@ -10,6 +10,18 @@ use Rattle.runs.specs.Positions.{sumBelow}
 pub sum-more : (f : ℕ → ℕ) (n : ℕ) → sumBelow f (n + 1) ≡ sumBelow f n + f n
 unfolding sumBelow
 sum-more f n = rw add-one
+
+-- the last term
+pub sum-last : (f : ℕ → ℕ) (n : ℕ) → 0 < n → sumBelow f n ≡ sumBelow f (n - 1) + f (n - 1)
+unfolding sumBelow
+sum-last f zero h = absurd (omega arith)
+sum-last f (suc n) h = rw sub-one refl
+
+-- a sum that is not 0 has a term
+pub sum-some : (f : ℕ → ℕ) (n : ℕ) → 0 < sumBelow f n → 0 < n
+unfolding sumBelow
+sum-some f zero h = absurd (omega arith)
+sum-some f (suc n) h = omega arith
 
 -- ---- term by term
 pub sum-same : (f g : ℕ → ℕ) (n : ℕ) → ((u : ℕ) → u < n → f u ≡ g u) → sumBelow f n ≡ sumBelow g n

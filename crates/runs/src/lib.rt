@@ -127,8 +127,29 @@ fn find_forward(lens: &[u64], n: usize, pos: u64) -> Place
     }
 }
 
+// The same for a position below `all`, looked for from the last run back.
+fn find_backward(lens: &[u64], n: usize, all: u64, pos: u64) -> Place
+    requires { ⌜ (n ≤ length (now lens)) × (all ≡ sums (now lens) n) × (all < 2 ^ 63) × (pos < all) ⌝ }
+    ensures { λ r. ⌜ Found (now (lens .entry)) n pos (r .index) (r .start) (r .end) ⌝ }
+{
+    let mut k = n;
+    let mut start = all;
+    while pos < start {
+        k -= 1;
+        start -= lens[k];
+    }
+    Place {
+        index: k,
+        start: start,
+        end: start + lens[k],
+    }
+}
+
 // The run that holds the position `pos` of `all`, and the positions that it has; past the end, the number of runs and no positions. Its set is
 // the one at its index: `find` reads the lengths alone, so that who asks for an extent lends nothing else.
+//
+// The walk is from the nearer end of what lies before the last run: of a tank that grew from a fresh one that run is the unmarked rest, far
+// longer than all others, so that half of the length would send every position of the marked part to the front.
 pub fn find(lens: &[u64], n: usize, all: u64, pos: u64) -> Place
     requires { ⌜ (n ≤ length (now lens)) × (all ≡ sums (now lens) n) × (all < 2 ^ 63) ⌝ }
     ensures { λ r. ⌜ Found (now (lens .entry)) n pos (r .index) (r .start) (r .end) ⌝ }
@@ -140,7 +161,10 @@ pub fn find(lens: &[u64], n: usize, all: u64, pos: u64) -> Place
             end: all,
         };
     }
-    find_forward(lens, n, pos)
+    if pos < (all - lens[n - 1]) / 2 {
+        return find_forward(lens, n, pos);
+    }
+    find_backward(lens, n, all, pos)
 }
 
 // Adds `bits` to the sets of the positions a .. b, and takes `gone` away from them.
