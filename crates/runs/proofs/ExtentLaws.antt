@@ -20,7 +20,7 @@ use Rattle.runs.proofs.StretchLaws.{edge}
 
 module _ (lens sets : List ℕ) where
   -- the first runs of joined runs are joined
-  canon-front : (k n : ℕ) → k ≤ n → Canon (runs lens sets n) → Canon (runs lens sets k)
+  pub canon-front : (k n : ℕ) → k ≤ n → Canon (runs lens sets n) → Canon (runs lens sets k)
   unfolding runs Canon
   canon-front k zero h c = let e : k ≡ 0 = omega arith in rw e c
   canon-front k (suc n) h c =
@@ -30,7 +30,7 @@ module _ (lens sets : List ℕ) where
       ]
 
   -- and mean what all of them mean
-  at-front : (k n p : ℕ) → k ≤ n → p < total (runs lens sets k) → setAt (runs lens sets n) p ≡ setAt (runs lens sets k) p
+  pub at-front : (k n p : ℕ) → k ≤ n → p < total (runs lens sets k) → setAt (runs lens sets n) p ≡ setAt (runs lens sets k) p
   unfolding runs
   at-front k zero p h l = let e : k ≡ 0 = omega arith in rw e refl
   at-front k (suc n) p h l =
@@ -49,7 +49,7 @@ module _ (lens sets : List ℕ) where
     some-in k h = let c = canon-front (suc k) n h canon in c .0
 
     -- neighbours at the start of run k differ
-    edge-at : (k q : ℕ) → k < n → sums lens k ≡ suc q → alike q ≡ false
+    pub edge-at : (k q : ℕ) → k < n → sums lens k ≡ suc q → alike q ≡ false
     unfolding runs
     edge-at k q h e =
         let t = total-sums lens sets k in

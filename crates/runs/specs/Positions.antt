@@ -71,6 +71,11 @@ firstOf alike p = stretchTo alike p
 abbrev pub lastOf : (ℕ → Bool) → ℕ → ℕ → ℕ
 lastOf alike n p = seekFrom (λ q. not (alike q)) p (n - suc p)
 
+-- the most of the first n positions that have no more than b stretches: those that lie in the first b of them
+unfoldable pub partOf : (ℕ → Bool) → ℕ → ℕ → ℕ
+partOf alike b zero = zero
+partOf alike b (suc p) = cond (leb (stretchCount alike (suc p)) b) (suc p) (partOf alike b p)
+
 -- the positions start .. end, and how many marks each of them has
 pub record Stretch : Type 0 where
   pub start : ℕ

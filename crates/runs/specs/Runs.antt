@@ -1,5 +1,5 @@
 -- A run-length list, LAST RUN FIRST: the head of the list is the run that ends the tank, so that one run more is one cons more.
-use Prim.Native.Nat.{ℕ, zero, suc, _+_, _≤_, _<_}
+use Prim.Native.Nat.{ℕ, zero, suc, _+_, _≤_, _<_, min}
 use mathlib.Core.Path.{_≡_}
 use mathlib.Core.Bool.{cond}
 use mathlib.Core.List.{List, [], _∷_}
@@ -62,6 +62,15 @@ pub record Found (lens : List ℕ) (n pos i start end : ℕ) : Type 0 where
   pub reached : start ≤ pos
   pub inside : i < n → (pos < end) × (end ≡ start + getD lens i 0)
   pub past : n ≤ i → end ≡ start
+
+-- the first k of n runs are what a budget reaches before a position: no more than the budget, each begins before `before`, and they are all such
+-- runs or as many as the budget; `end` is where they end, clipped at `before`
+pub record BudgetReaches (lens : List ℕ) (n before budget k end : ℕ) : Type 0 where
+  pub within : k ≤ n
+  pub few : k ≤ budget
+  pub begins : (j : ℕ) → k ≡ suc j → sums lens j < before
+  pub full : sums lens k < before → k ≡ budget
+  pub ends : end ≡ min (sums lens k) before
 
 -- ---- Two parallel lists: what is behind the runs
 -- the places from n on are as they were

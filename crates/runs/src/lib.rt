@@ -10,7 +10,7 @@ ghost use Prim.Native.Nat.{_+_, _-_, _<_, _≤_, _^_, min, max};
 ghost use lib.ListN.{length};
 ghost use Rattle.runs.specs.Edits.{Joined, CanPush, CanCopy, CanEdit, Appended};
 ghost use Rattle.runs.specs.Positions.{alteredAt, deletedAt, insertedAt};
-ghost use Rattle.runs.specs.Runs.{runs, total, setAt, sums, Found, SameBehind, changing};
+ghost use Rattle.runs.specs.Runs.{runs, total, setAt, sums, Found, BudgetReaches, SameBehind, changing};
 ghost use Rattle.runs.specs.Scan.{CanFind};
 
 // `len` positions more with the set `set`, after the runs of the first `n` entries. Returns how many runs there are then.
@@ -237,4 +237,45 @@ pub fn set_at(lens: &[u64], sets: &[u64], n: usize, all: u64, pos: u64) -> u64
     let f = find(lens, n, all, pos);
     let i = f.index;
     if i < n { sets[i] } else { 0 }
+}
+
+// The first runs of a list: how many, and where they end.
+pub struct FirstRuns {
+    pub count: usize,
+    pub end: u64,
+}
+
+// The smaller of a number of runs and a budget.
+fn affordable(n: usize, budget: u64) -> usize
+    ensures { λ r. ⌜ r ≡ min n budget ⌝ }
+{
+    if budget < n as u64 {
+        budget as usize
+    } else {
+        n
+    }
+}
+
+// The first runs that begin before the position `before`, no more than `budget`, and where they end, clipped at `before`.
+pub fn first_runs(lens: &[u64], n: usize, before: u64, budget: u64) -> FirstRuns
+    requires { ⌜ (n ≤ length (now lens)) × (before ≤ sums (now lens) n) × (sums (now lens) n < 2 ^ 63) ⌝ }
+    ensures { λ r. ⌜ BudgetReaches (now (lens .entry)) n before budget (r .count) (r .end) ⌝ }
+{
+    let most = affordable(n, budget);
+    let mut i = 0;
+    let mut end: u64 = 0;
+    while i < most {
+        if before <= end {
+            return FirstRuns {
+                count: i,
+                end: before,
+            };
+        }
+        end += lens[i];
+        i += 1;
+    }
+    FirstRuns {
+        count: i,
+        end: sooner(end, before),
+    }
 }
