@@ -50,6 +50,10 @@ acceptedSays number = orRefused number (lineSays (bytes "accepted=") 1)
 abbrev pub firstSays : ℕ → ℕ → Pieces
 firstSays number first = orRefused number (lineSays (bytes "first=") first)
 
+-- how many stretches an ageing dropped, and what remains of `before`, or the refusal
+abbrev pub agedSays : ℕ → ℕ → ℕ → Pieces
+agedSays number dropped remaining = orRefused number (lineSays (bytes "dropped=") dropped ++ lineSays (bytes "remaining=") remaining)
+
 -- ---- Questions
 -- a count under its name
 abbrev pub countSays : List ℕ → Count → Pieces

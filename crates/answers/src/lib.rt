@@ -12,6 +12,7 @@ pub use listing::put_needed;
 pub use pieces::accept;
 pub use pieces::refuse;
 pub use pieces::say;
+pub use replies::aged_or;
 pub use replies::first_or;
 pub use replies::put_asked;
 pub use replies::put_count;

@@ -4,7 +4,7 @@ ghost use mathlib.Core.Path.{_≡_};
 ghost use Prim.Native.Nat.{_≤_};
 ghost use lib.ListN.{length};
 ghost use Rattle.answers.specs.Waiting.{Adds, pieceRoom};
-ghost use Rattle.answers.specs.Replies.{firstSays, countSays, touchedSays, toldSays, shownSays, askedSays, setSays, sharedSays, extentSays};
+ghost use Rattle.answers.specs.Replies.{firstSays, agedSays, countSays, touchedSays, toldSays, shownSays, askedSays, setSays, sharedSays, extentSays};
 use super::pieces::none;
 use super::pieces::put_mark;
 use super::pieces::put_value;
@@ -28,6 +28,18 @@ pub fn first_or(out: &mut [u8], at: usize, number: u64, first: u64) -> usize
 {
     if number == 0 {
         return say(out, at, b"first=", first);
+    }
+    refuse(out, at, number)
+}
+
+// How many stretches an ageing dropped, and what remains of `before`, or a refusal.
+pub fn aged_or(out: &mut [u8], at: usize, number: u64, dropped: u64, remaining: u64) -> usize
+    requires { ⌜ pieceRoom ≤ length (now out) ⌝ }
+    ensures { λ r. ⌜ Adds (now (out .entry)) at (agedSays number dropped remaining) r (now (out .exit)) ⌝ }
+{
+    if number == 0 {
+        let k = say(out, at, b"dropped=", dropped);
+        return say(out, k, b"remaining=", remaining);
     }
     refuse(out, at, number)
 }

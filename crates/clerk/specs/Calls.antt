@@ -12,6 +12,7 @@ use Rattle.tanks.specs.declared.Tanks.{Tanks}
 use Rattle.tanks.specs.House.{House, tankAt, held, openNumber, opening, askNumber, refusalAt, afterAt, insertedSetAt, removedFirstAt}
 use Rattle.tanks.specs.Pool.{meaning, Sound}
 use Rattle.tanks.specs.Contracts.{counts, says}
+use Rattle.night.specs.Ageings.{ageNumber, agedHouse, droppedAt, remainingAt}
 use Rattle.ask.specs.Asks.{askAt, valueAsked, marksAsked, markAsked, stretchAsked, inheritAsked, inheritedAsked, keyAsked, allValueAsked, sameAsked, rangeNeededAsked, wholeNeededAsked}
 use Rattle.script.specs.declared.Call.{Call}
 use Rattle.script.specs.declared.Change.{Change}
@@ -21,7 +22,7 @@ use Rattle.script.specs.declared.Question.{Question}
 use Rattle.script.specs.Args.{numberAt, keyAt, markOf, identityOf}
 use Rattle.text.specs.Bytes.{bytes}
 use Rattle.answers.specs.Waiting.{Pieces, Adds}
-use Rattle.answers.specs.Replies.{lineSays, refusedSays, orRefused, acceptedSays, stylesSay, firstSays, countSays, touchedSays, toldSays, shownSays, askedSays, setSays, sharedSays, extentSays, neededSays, listSays, anchorsSay}
+use Rattle.answers.specs.Replies.{lineSays, refusedSays, orRefused, acceptedSays, stylesSay, firstSays, agedSays, countSays, touchedSays, toldSays, shownSays, askedSays, setSays, sharedSays, extentSays, neededSays, listSays, anchorsSay}
 use Rattle.clerk.specs.declared.Done.{Done}
 
 -- ---- What a call speaks of, by the order of its op's fields
@@ -61,6 +62,14 @@ deletion c = deleting (startIn c) (endIn c)
 abbrev pub removal : Call → Edit
 removal c = removing (identityOf c) (numberAt c 4)
 
+-- up to where an ageing goes
+abbrev pub beforeIn : Call → ℕ
+beforeIn c = numberAt c 1
+
+-- and how many stretches it may drop
+abbrev pub budgetIn : Call → ℕ
+budgetIn c = numberAt c 2
+
 -- ---- The eight tanks after it: a question leaves them as they were
 -- by a call that changes them
 abbrev pub changed : Change → House → Call → House
@@ -69,6 +78,7 @@ changed Change.Annotate h c = afterAt h (tankFor c) (annotation c)
 changed Change.Insert h c = afterAt h (tankFor c) (insertion c)
 changed Change.Delete h c = afterAt h (tankFor c) (deletion c)
 changed Change.Remove h c = afterAt h (tankFor c) (removal c)
+changed Change.Age h c = agedHouse h (tankFor c) (beforeIn c) (budgetIn c)
 
 -- after any call
 unfoldable pub afterOp : Op → House → Call → House
@@ -93,6 +103,8 @@ changeSays Change.Annotate h c = acceptedSays (refusalAt h (tankFor c) (annotati
 changeSays Change.Insert h c = orRefused (refusalAt h (tankFor c) (insertion c)) (stylesSay (stylesOf (insertedSetAt h (tankFor c) (numberAt c 1) (numberAt c 2))))
 changeSays Change.Delete h c = acceptedSays (refusalAt h (tankFor c) (deletion c))
 changeSays Change.Remove h c = firstSays (refusalAt h (tankFor c) (removal c)) (removedFirstAt h (tankFor c) (identityOf c) (numberAt c 4))
+changeSays Change.Age h c =
+    agedSays (ageNumber h (tankFor c) (beforeIn c) (budgetIn c)) (droppedAt h (tankFor c) (beforeIn c) (budgetIn c)) (remainingAt h (tankFor c) (beforeIn c) (budgetIn c))
 
 -- of one that asks
 abbrev pub answerSays : Question → House → Call → Pieces

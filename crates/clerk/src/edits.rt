@@ -9,6 +9,7 @@ ghost use Rattle.tanks.specs.Pool.{Sound};
 ghost use Rattle.clerk.specs.Calls.{Performs, settingsOf};
 use super::Done;
 use answers::accept;
+use answers::aged_or;
 use answers::first_or;
 use answers::set_or;
 use script::Call;
@@ -110,5 +111,17 @@ pub fn removed(s: Tanks, call: Call, out: &mut [u8], at: usize) -> Done
     let e = s.remove_style_scanning_backward(n[0], script::identity_of(call), n[4]);
     let t = e.tanks;
     let k = first_or(out, at, e.number, e.first);
+    Done { tanks: t, at: k }
+}
+
+pub fn aged(s: Tanks, call: Call, out: &mut [u8], at: usize) -> Done
+    requires { ⌜ Sound s ⌝ }
+    requires { ⌜ pieceRoom ≤ length (now out) ⌝ }
+    ensures { λ r. ⌜ Performs (ops.Op.Change changes.Change.Age) s call (now (out .entry)) at r (now (out .exit)) ⌝ }
+{
+    let n = call.numbers;
+    let e = night::age(s, n[0], n[1], n[2]);
+    let t = e.tanks;
+    let k = aged_or(out, at, e.number, e.dropped, e.remaining);
     Done { tanks: t, at: k }
 }

@@ -14,6 +14,7 @@ ghost use Rattle.answers.specs.Waiting.{Adds, pieceRoom};
 ghost use Rattle.clerk.specs.Calls.{saysOf, Performs};
 ghost use Rattle.clerk.specs.Course.{malformedSays, Eats, Closes, Reads, Runs, RunsWhole};
 use answers::say;
+use edits::aged;
 use edits::annotated;
 use edits::deleted;
 use edits::inserted;
@@ -87,6 +88,7 @@ fn change(s: Tanks, e: Change, call: Call, out: &mut [u8], at: usize) -> Done
         Change::Insert => inserted(s, call, out, at),
         Change::Delete => deleted(s, call, out, at),
         Change::Remove => removed(s, call, out, at),
+        Change::Age => aged(s, call, out, at),
     }
 }
 

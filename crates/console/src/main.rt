@@ -46,6 +46,7 @@ fn page_4() {
     say(b"  whole_needed            tank\n");
     say(b"  anchors                 tank room\n");
     say(b"  find                    tank at\n");
+    say(b"  age                     tank before budget\n");
     say(b"\n");
 }
 
@@ -93,6 +94,9 @@ fn page_7() {
     );
     say(
         b"  find                    first=N last=N, the ends of the stretch that the position is in\n",
+    );
+    say(
+        b"  age                     dropped=N remaining=N, the stretches that went and what is left of before\n",
     );
     say(b"\n");
 }

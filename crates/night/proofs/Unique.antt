@@ -1,10 +1,13 @@
--- What a call of ageing hands back is settled by its contract.
-use Prim.Native.Nat.{ℕ}
+-- What a call of ageing hands back is settled by its contract, and beside a refusal it is the very same state.
+use Prim.Native.Nat.{ℕ, _<_}
 use mathlib.Core.Path.{_≡_, sym, _∙_}
+use native.Mathlib.Omega.{arith}
 use Rattle.tanks.specs.declared.Tanks.{Tanks}
+use Rattle.tanks.specs.Pool.{meaning, Sound}
 use Rattle.tanks.proofs.Unique.{unique}
 use Rattle.night.specs.declared.Aged.{Aged}
 use Rattle.night.specs.Ageings.{AgedAt}
+use Rattle.night.proofs.Theorems.{aged-refused}
 
 pub one-age : (s : Tanks) (t before budget : ℕ) (r r′ : Aged) → AgedAt s t before budget r → AgedAt s t before budget r′ → r ≡ r′
 one-age s t before budget r r′ p q =
@@ -13,3 +16,7 @@ one-age s t before budget r r′ p q =
     let c : r .remaining ≡ r′ .remaining = p .remaining-is ∙ sym (q .remaining-is) in
     let d : r .tanks ≡ r′ .tanks = unique (r .tanks) (r′ .tanks) (p .sound) (q .sound) (p .is ∙ sym (q .is)) in
     λ i. record { number = a i; dropped = b i; remaining = c i; tanks = d i }
+
+pub age-refused-same : (s : Tanks) (t before budget : ℕ) (r : Aged) → Sound s → AgedAt s t before budget r → 0 < r .number → r .tanks ≡ s
+age-refused-same s t before budget r ok p h =
+    unique (r .tanks) s (p .sound) ok (p .is ∙ aged-refused (meaning s) t before budget (omega (arith, p .number-is)))

@@ -63,10 +63,11 @@ pub fn age(s: Tanks, tank: u64, before: u64, budget: u64) -> Aged
     let f = first_stretches(x, before, budget);
     let done = s.delete(tank, 0, f.end);
     let tanks = done.tanks;
+    let remaining = before - f.end;
     Aged {
         number: 0,
         dropped: f.count as u64,
-        remaining: before - f.end,
+        remaining: remaining,
         tanks: tanks,
     }
 }

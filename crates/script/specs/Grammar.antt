@@ -88,6 +88,13 @@ rank = number "rank" 64
 abbrev pub room : Field
 room = number "room" 64
 
+-- up to where a tank ages, and how many stretches a call may drop
+abbrev pub before : Field
+before = number "before" 64
+
+abbrev pub budget : Field
+budget = number "budget" 64
+
 -- a share and a limit for each of the eight tanks
 abbrev pub settings : List Field
 settings =
@@ -142,6 +149,7 @@ ops =
     listing Listing.WholeNeeded "whole_needed" (tank ∷ []) ∷
     listing Listing.Anchors "anchors" (tank ∷ room ∷ []) ∷
     question Question.Find "find" (tank ∷ at ∷ []) ∷
+    change Change.Age "age" (tank ∷ before ∷ budget ∷ []) ∷
     []
 
 -- between two groups there is no op, and the line that names one is to come

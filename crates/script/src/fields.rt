@@ -44,6 +44,7 @@ pub fn op_at(row: usize) -> Op
         Op::Listing(Listing::WholeNeeded),
         Op::Listing(Listing::Anchors),
         Op::Question(Question::Find),
+        Op::Change(Change::Age),
         Op::Nothing,
     ];
     all[least(row, OPS)]
@@ -63,7 +64,7 @@ pub fn field_at(row: usize, place: usize) -> u8
 {
     if place < 16 {
         let all =
-            b"O///////////////0123456789:;<=>?TSEKLPFCV///////TAN/////////////TSE/////////////TKLPZ///////////T///////////////T///////////////T///////////////TAK/////////////TSEK////////////TSEKCV//////////TSE/////////////TA//////////////TA//////////////TAR/////////////TAR/////////////TSEM////////////TSE/////////////TM//////////////T///////////////TM//////////////TA//////////////////////////////";
+            b"O///////////////0123456789:;<=>?TSEKLPFCV///////TAN/////////////TSE/////////////TKLPZ///////////T///////////////T///////////////T///////////////TAK/////////////TSEK////////////TSEKCV//////////TSE/////////////TA//////////////TA//////////////TAR/////////////TAR/////////////TSEM////////////TSE/////////////TM//////////////T///////////////TM//////////////TA//////////////TJQ/////////////////////////////";
         return letter_in(all, row, place);
     }
     b'/'
@@ -103,14 +104,14 @@ pub fn field_holds(f: u8) -> Holds
         none,
         none,
         none,
-        none,
+        wide,
         Holds::Number(65535),
         Holds::Number(4294967295),
         wide,
         wide,
         Holds::Op,
         wide,
-        none,
+        wide,
         wide,
         wide,
         wide,

@@ -40,6 +40,7 @@ pub enum Change {
     Insert,
     Delete,
     Remove,
+    Age,
 }
 
 // Ops that ask for a number, a yes or no, a value, a mark or a set.

@@ -21,6 +21,7 @@ pub enum Answer {
     Needed(u64),
     Anchors(Vec<Anchor>),
     Extent(Extent),
+    Aged(Aged),
 }
 
 /// A stretch as it is listed: its start, its end and how many marks it carries.
@@ -36,6 +37,13 @@ pub struct Listed {
 pub struct Extent {
     pub first: u64,
     pub last: u64,
+}
+
+/// How many stretches a call of ageing dropped, and what remains of its `before`.
+#[derive(Clone, Copy, Debug, PartialEq, Eq)]
+pub struct Aged {
+    pub dropped: u64,
+    pub remaining: u64,
 }
 
 #[derive(Clone, Copy, Debug, PartialEq, Eq)]
@@ -94,6 +102,9 @@ impl fmt::Display for Answer {
                 list.iter().try_for_each(|anchor| five_lines(f, anchor))
             }
             Answer::Extent(Extent { first, last }) => writeln!(f, "first={first}\nlast={last}"),
+            Answer::Aged(Aged { dropped, remaining }) => {
+                writeln!(f, "dropped={dropped}\nremaining={remaining}")
+            }
         }
     }
 }

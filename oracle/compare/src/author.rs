@@ -213,7 +213,7 @@ impl Author {
 impl Author {
     pub fn edit(&mut self) -> Call {
         let tank = self.tank();
-        match self.random.below(12) {
+        match self.random.below(13) {
             0..=4 => {
                 let (start, end) = self.range(tank);
                 Call::Annotate { tank, start, end, mark: self.mark() }
@@ -227,6 +227,7 @@ impl Author {
                 let (start, end) = self.range(tank);
                 Call::Delete { tank, start, end }
             }
+            12 => self.ageing(tank),
             _ => self.removal(tank),
         }
     }
@@ -241,6 +242,17 @@ impl Author {
             return 0;
         }
         1 + self.random.below(3)
+    }
+
+    /// Mostly with a budget of a few stretches, sometimes with one for all of them, or with none.
+    fn ageing(&mut self, tank: u64) -> Call {
+        let before = self.spot(tank);
+        let budget = match self.random.below(24) {
+            0 => 0,
+            1..=4 => self.state(tank).runs() + self.random.below(2),
+            _ => 1 + self.random.below(3),
+        };
+        Call::Age { tank, before, budget: self.or_wild(budget) }
     }
 
     /// Mostly of a mark that is carried, from the end of one of its stretches.

@@ -30,10 +30,11 @@ pub enum Call {
     WholeNeeded { tank: u64 },
     Anchors { tank: u64, room: u64 },
     Find { tank: u64, at: u64 },
+    Age { tank: u64, before: u64, budget: u64 },
 }
 
 /// Each op and its fields, in the order of their lines.
-pub const SHAPES: [(&str, &[&str]); 22] = [
+pub const SHAPES: [(&str, &[&str]); 23] = [
     ("open", &OPEN),
     ("annotate", &["tank", "start", "end", "key", "lamport", "peer", "flags", "kind", "value"]),
     ("insert", &["tank", "at", "len"]),
@@ -56,6 +57,7 @@ pub const SHAPES: [(&str, &[&str]); 22] = [
     ("whole_needed", &["tank"]),
     ("anchors", &["tank", "room"]),
     ("find", &["tank", "at"]),
+    ("age", &["tank", "before", "budget"]),
 ];
 
 const OPEN: [&str; 16] = [
@@ -96,6 +98,7 @@ impl Call {
             Call::WholeNeeded { .. } => 19,
             Call::Anchors { .. } => 20,
             Call::Find { .. } => 21,
+            Call::Age { .. } => 22,
         }
     }
 
@@ -146,6 +149,7 @@ impl Call {
             | Call::Touched { tank }
             | Call::Runs { tank }
             | Call::WholeNeeded { tank } => numbers(&[tank]),
+            Call::Age { tank, before, budget } => numbers(&[tank, before, budget]),
             Call::Delete { tank, start, end }
             | Call::Same { tank, start, end }
             | Call::StretchesNeeded { tank, start, end } => numbers(&[tank, start, end]),
@@ -201,7 +205,8 @@ impl Call {
             18 => Call::Whole { tank, room: n(1) },
             19 => Call::WholeNeeded { tank },
             20 => Call::Anchors { tank, room: n(1) },
-            _ => Call::Find { tank, at: n(1) },
+            21 => Call::Find { tank, at: n(1) },
+            _ => Call::Age { tank, before: n(1), budget: n(2) },
         }
     }
 }

@@ -55,6 +55,8 @@ pub fn alphabet(marks: usize) -> Vec<Call> {
         let remove = |number: usize| Call::Remove { tank: 0, id: MARKS[number].0, last };
         list.extend((0..marks).map(remove));
     }
+    let age = |(before, budget)| Call::Age { tank: 0, before, budget };
+    list.extend([(PLACES - 1, 1), (PLACES - 2, 2)].map(age));
     list
 }
 

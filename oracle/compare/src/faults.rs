@@ -3,13 +3,13 @@
 
 use std::collections::BTreeMap;
 
-use crate::answer::{Answer, Extent};
+use crate::answer::{Aged, Answer, Extent};
 use crate::call::Call;
 use crate::mark::{listed, Content, Id};
 use crate::tanks::Tanks;
 
 /// The name of a fault, and what it gets wrong.
-pub const FAULTS: [(&str, &str); 46] = [
+pub const FAULTS: [(&str, &str); 51] = [
     ("refusal1", "answers for tank 0 in place of refusal 1"),
     ("refusal2", "accepts settings that break the rule"),
     ("refusal3", "accepts an empty edit"),
@@ -54,6 +54,11 @@ pub const FAULTS: [(&str, &str); 46] = [
     ("find-end", "tells one past the last position of a stretch as its last"),
     ("find-before", "tells the first position of the stretch before"),
     ("find-joins", "tells a stretch that goes on into the next one"),
+    ("age-clipped", "ageing does not count a stretch of which a rest stays"),
+    ("age-remaining", "ageing does not lessen what remains by what it deleted"),
+    ("age-over", "ageing drops one stretch more than its budget"),
+    ("age-done", "ageing tells 0 remaining after its first call"),
+    ("age-idle", "ageing an untouched tank is done at once, with no refusal"),
     ("run-count", "counts one run too many in a tank of 100 runs or more"),
     ("malformed-line", "names the line after the malformed one"),
 ];
@@ -88,7 +93,7 @@ impl Faulty {
             other => other,
         };
         self.afterwards(call, &before);
-        self.told(call, answer)
+        self.told(call, self.counted(call, &before, answer))
     }
 
     /// Faults that answer without carrying the call out.
@@ -136,6 +141,14 @@ impl Faulty {
                 self.seen.insert(place, mark.content);
                 None
             }
+            ("age-over", Call::Age { tank, before, budget }) if *budget > 0 => {
+                let budget = budget.saturating_add(1);
+                Some(self.tanks.call(&Call::Age { tank: *tank, before: *before, budget }))
+            }
+            ("age-idle", Call::Age { tank, .. }) if *tank < 8 => {
+                let idle = !self.tanks.tanks[*tank as usize].touched;
+                idle.then_some(Answer::Aged(Aged { dropped: 0, remaining: 0 }))
+            }
             (_, Call::Open { .. }) => {
                 self.seen.clear();
                 None
@@ -158,6 +171,7 @@ impl Faulty {
                 Answer::Marks(Vec::new())
             }
             Call::Remove { .. } => Answer::First(0),
+            Call::Age { .. } => Answer::Aged(Aged { dropped: 0, remaining: 0 }),
             Call::HasKey { .. } | Call::AllValue { .. } => Answer::Yes(false),
             Call::Stretches { tank, .. } | Call::Whole { tank, .. } => {
                 Answer::Stretches(*tank, Vec::new())
@@ -201,6 +215,18 @@ impl Faulty {
             }
             ("other-tank", Call::Annotate { tank: 1, .. }) => self.tanks.tanks[2].touched = true,
             _ => {}
+        }
+    }
+
+    /// A fault in what an ageing counts: it needs the tank as it was.
+    fn counted(&self, call: &Call, before: &Tanks, answer: Answer) -> Answer {
+        match (self.fault.as_str(), call, answer) {
+            ("age-clipped", Call::Age { tank, before: to, .. }, Answer::Aged(aged)) => {
+                let clipped = !before.tanks[*tank as usize].boundaries().contains(to);
+                let last = aged.dropped > 0 && aged.remaining == 0 && clipped;
+                Answer::Aged(Aged { dropped: aged.dropped - last as u64, ..aged })
+            }
+            (_, _, answer) => answer,
         }
     }
 
@@ -287,6 +313,10 @@ impl Faulty {
                 let next = (last + 1).min(state.length - 1);
                 Answer::Extent(Extent { first, last: state.find(next).last })
             }
+            ("age-remaining", Call::Age { before, .. }, Answer::Aged(aged)) if aged.dropped > 0 => {
+                Answer::Aged(Aged { remaining: *before, ..aged })
+            }
+            ("age-done", _, Answer::Aged(aged)) => Answer::Aged(Aged { remaining: 0, ..aged }),
             ("run-count", _, Answer::Runs(runs)) if runs >= 100 => Answer::Runs(runs + 1),
             (_, _, answer) => answer,
         }

@@ -8,7 +8,7 @@ use std::panic::{catch_unwind, set_hook, take_hook, AssertUnwindSafe};
 
 use original::{join_neighbours, LoroValue};
 
-use crate::answer::{Anchor, Answer, Extent, Listed};
+use crate::answer::{Aged, Anchor, Answer, Extent, Listed};
 use crate::call::Call;
 use crate::mark::{Content, Id, Mark, Value};
 use crate::tank::Tank;
@@ -96,6 +96,7 @@ pub fn inside(tank: &Tank, call: &Call) -> bool {
         | Call::Stretches { start, end, .. }
         | Call::StretchesNeeded { start, end, .. } => start < end && end < tank.length,
         Call::Insert { len, .. } => len >= 1,
+        Call::Age { before, .. } => before < tank.length,
         Call::Remove { id, last, .. } => {
             let after = last + 1;
             let carries = |at: u64| tank.at(at).contains_key(&id);
@@ -126,6 +127,7 @@ fn changes(tank: &Tank, call: &Call) -> bool {
         Call::Annotate { .. } => true,
         Call::Insert { .. } | Call::Delete { .. } => tank.touched,
         Call::Remove { id, last, .. } => tank.at(last).contains_key(&id),
+        Call::Age { before, .. } => tank.touched && before > 0,
         _ => false,
     }
 }
@@ -164,9 +166,27 @@ impl Original {
                     _ => Said::Done,
                 }
             }
+            Call::Age { before, budget, .. } => Said::Answer(Answer::Aged(aged(map, before, budget))),
             _ => asked(map, tank, call),
         }
     }
+}
+
+/// The Rust has no such call: its first elements, with equal neighbours joined, go as one range.
+fn aged(map: &mut original::Tank, before: u64, budget: u64) -> Aged {
+    let mut done = Aged { dropped: 0, remaining: if map.has_style() { before } else { 0 } };
+    let mut end = 0;
+    for (_, to, _) in joined(map.elements()) {
+        if done.remaining == 0 || done.dropped == budget {
+            break;
+        }
+        end = to.min(before);
+        done = Aged { dropped: done.dropped + 1, remaining: before - end };
+    }
+    if end > 0 {
+        map.delete(0..end as usize);
+    }
+    done
 }
 
 fn asked(map: &original::Tank, tank: &Tank, call: &Call) -> Said {

@@ -45,6 +45,7 @@ fn every(tank: u64, start: u64, end: u64) -> Vec<Call> {
         Call::WholeNeeded { tank },
         Call::Anchors { tank, room },
         Call::Find { tank, at },
+        Call::Age { tank, before: end, budget: len },
     ]
 }
 
@@ -78,6 +79,28 @@ fn ranges() -> Vec<Call> {
     }
     calls.push(Call::HasKey { tank: 0, start: u64::MAX, end: 0, key: 1 });
     calls.push(Call::Stretches { tank: 0, start: u64::MAX, end: T + 1, room: 0 });
+    calls
+}
+
+/// Ageing: 3 before 4, both also where there is nothing to do, and what lies just beside them.
+fn ageings() -> Vec<Call> {
+    let (tank, start, end) = (0, 0, T - 2);
+    let mut calls = vec![Call::Open { settings: ROOMY }];
+    let touch = [annotate(0, 3, 5, mark(1)), annotate(0, 5, 6, mark(2))];
+    for touch in [&touch[..0], &touch] {
+        calls.extend(touch);
+        for (before, budget) in [(T + 1, 0), (0, 0), (T + 1, 1), (u64::MAX, u64::MAX), (0, 1)] {
+            calls.push(Call::Age { tank, before, budget });
+        }
+    }
+    calls.push(Call::Age { tank: 1, before: T, budget: 1 });
+    calls.push(Call::Length { tank: 1 });
+    for (before, budget) in [(6, 1), (3, 3), (1, 1), (T - 6, 1), (1, u64::MAX)] {
+        calls.push(Call::Age { tank, before, budget });
+        calls.push(Call::Stretches { tank, start, end: 4, room: 12 });
+    }
+    calls.push(Call::Age { tank, before: end, budget: 2 });
+    calls.extend([Call::Length { tank }, Call::Runs { tank }, Call::Touched { tank }]);
     calls
 }
 
@@ -218,5 +241,5 @@ fn pool() -> Vec<Call> {
 }
 
 pub fn refusals() -> Vec<Call> {
-    [openings(), ranges(), longest(), contents(), limit(), pool()].concat()
+    [openings(), ranges(), ageings(), longest(), contents(), limit(), pool()].concat()
 }

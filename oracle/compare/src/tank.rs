@@ -5,7 +5,7 @@
 use std::collections::BTreeMap;
 use std::rc::Rc;
 
-use crate::answer::{Anchor, Extent, Listed};
+use crate::answer::{Aged, Anchor, Extent, Listed};
 use crate::mark::{Content, Id, Mark, Set, Value};
 
 /// A fresh tank's length.
@@ -69,6 +69,15 @@ impl Tank {
             self.length -= down;
             self.tidy();
         }
+    }
+
+    /// The first `budget` of the stretches that overlap 0..before go, the last clipped there.
+    pub fn age(&mut self, before: u64, budget: u64) -> Aged {
+        let list = if self.touched { self.stretches(0, before) } else { Vec::new() };
+        let gone = &list[..list.len().min(usize::try_from(budget).unwrap_or(usize::MAX))];
+        let Some(last) = gone.last() else { return Aged { dropped: 0, remaining: 0 } };
+        self.delete(0, last.to);
+        Aged { dropped: gone.len() as u64, remaining: before - last.to }
     }
 
     /// Answers the first position of the stretch that lost the mark, or `last + 1`.

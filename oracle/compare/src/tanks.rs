@@ -65,6 +65,11 @@ impl Tanks {
                 refuse_if(last >= self.tank(tank).length, 4)?;
                 Ok(Answer::First(self.edit(tank, |t| t.remove(id, last))?))
             }
+            Call::Age { before, budget, .. } => {
+                refuse_if(budget == 0, 3)?;
+                refuse_if(before > self.tank(tank).length, 4)?;
+                Ok(Answer::Aged(self.edit(tank, |t| t.age(before, budget))?))
+            }
             _ => self.asked(tank, call),
         }
     }
@@ -194,7 +199,8 @@ impl Tanks {
             | Call::Annotate { .. }
             | Call::Insert { .. }
             | Call::Delete { .. }
-            | Call::Remove { .. } => unreachable!("an edit is no question"),
+            | Call::Remove { .. }
+            | Call::Age { .. } => unreachable!("an edit is no question"),
         })
     }
 }

@@ -25,6 +25,22 @@ fn removed(all: &mut Positions, id: Id, last: usize) -> usize {
     first
 }
 
+/// Drops positions from the front while they lie in the first stretches of 0..before.
+fn aged(all: &mut Positions, before: u64, budget: u64) -> (u64, u64) {
+    let (mut dropped, mut remaining) = (0, before);
+    let mut last: Option<BTreeSet<Id>> = None;
+    while remaining > 0 {
+        let new = last.as_ref() != Some(&all[0]);
+        if new && dropped == budget {
+            break;
+        }
+        dropped += new as u64;
+        last = Some(all.remove(0));
+        remaining -= 1;
+    }
+    (dropped, remaining)
+}
+
 /// A touched tank of a few positions without marks, and its positions.
 fn short(random: &mut Random) -> (Tank, Positions) {
     let mut tank = Tank::default();
@@ -40,7 +56,7 @@ fn edit(random: &mut Random, tank: &mut Tank, all: &mut Positions) {
     let id = identity(random.below(4));
     let start = random.below(length);
     let end = start + 1 + random.below(length - start.min(length));
-    match random.below(5) {
+    match random.below(6) {
         _ if length == 0 => {
             tank.insert(0, 3);
             all.extend([const { BTreeSet::new() }; 3]);
@@ -61,6 +77,11 @@ fn edit(random: &mut Random, tank: &mut Tank, all: &mut Positions) {
         3 => {
             tank.delete(start, end);
             all.drain(start as usize..end as usize);
+        }
+        4 => {
+            let (before, budget) = (random.below(length + 1), 1 + random.below(3));
+            let told = tank.age(before, budget);
+            assert_eq!((told.dropped, told.remaining), aged(all, before, budget));
         }
         _ => assert_eq!(tank.remove(id, start), removed(all, id, start as usize) as u64),
     }

@@ -20,5 +20,8 @@ returns-4 c = as-change (c .before .before .before .before .enum-told4 .given .1
 returns-5 : tie.Need-returns-5
 returns-5 c = as-change (c .before .before .before .before .enum-told5 .given .1) (c .before .before .removed .ensures)
 
+returns-6 : tie.Need-returns-6
+returns-6 c = as-change (c .before .before .before .before .enum-told6 .given .1) (c .before .before .aged .ensures)
+
 pub change-spec : {M : Type 1} → statement M
-change-spec = tie.close (tie.spec (λ c. search needs) (λ c κs. search needs) (λ c. search needs) (λ c κs. search needs) (λ c. search needs) (λ c κs. search needs) (λ c. search needs) (λ c κs. search needs) (λ c. search needs) (λ c κs. search needs) (λ c. search needs) returns (λ c. search needs) returns-2 (λ c. search needs) returns-3 (λ c. search needs) returns-4 (λ c. search needs) returns-5)
+change-spec = tie.close (tie.spec (λ c. search needs) (λ c κs. search needs) (λ c. search needs) (λ c κs. search needs) (λ c. search needs) (λ c κs. search needs) (λ c. search needs) (λ c κs. search needs) (λ c. search needs) (λ c κs. search needs) (λ c. search needs) (λ c κs. search needs) (λ c. search needs) returns (λ c. search needs) returns-2 (λ c. search needs) returns-3 (λ c. search needs) returns-4 (λ c. search needs) returns-5 (λ c. search needs) returns-6)

@@ -32,8 +32,8 @@ returns-5 c =
     age-none (s .args .s) (s .args .tank) (s .args .before) (s .args .budget) (s .pre) (c .before .before .before .before .before .before .before .before .if1 .left) (c .before .before .before .before .before .before .before .if2 .left) _ (c .before .before .before .before .before .before .take .ensures) (c .before .before .before .before .if3 .left)
     (not-false _ (c .before .before .if4 .left)) (c .before .if5 .taken) _ (c .not-aged5 .ensures)
 
-sub-t12 : tie.Need-sub-t12
-sub-t12 c =
+sub-remaining : tie.Need-sub-remaining
+sub-remaining c =
     let s = c .before .before .before .before .before .before .before .before .before .before .before .before in
     age-within (s .args .s) (s .args .tank) (s .args .before) (s .args .budget) (s .pre) (c .before .before .before .before .before .before .before .before .before .before .before .if1 .left) (c .before .before .before .before .before .before .before .before .before .before .if2 .left) _ (c .before .before .before .before .before .before .before .before .before .take .ensures) (c .before .before .before .before .before .before .before .if3 .left)
     (not-false _ (c .before .before .before .before .before .if4 .left)) (c .before .before .before .before .if5 .left) _ _ (c .before .before .before .first-stretches .ensures .0) (c .before .before .before .first-stretches .ensures .1)
@@ -62,5 +62,5 @@ age-spec =
     returns-5
     (λ c κs. search needs)
     (λ c κs. search needs)
-    sub-t12
+    sub-remaining
     returns-6)

@@ -130,5 +130,6 @@ fn wanted() -> Vec<&'static str> {
         "whole_needed: a number",
         "anchors: a list",
         "find: a stretch",
+        "age: a number",
     ]
 }
