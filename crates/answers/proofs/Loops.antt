@@ -9,13 +9,28 @@ use Rattle.styles.specs.declared.Mark.{Mark}
 use Rattle.styles.specs.Marks.{blank}
 use Rattle.text.specs.Bytes.{bytes}
 use Rattle.script.specs.Writing.{markText}
-use Rattle.answers.specs.Replies.{lineSays, stretchesSay}
+use Rattle.tanks.specs.declared.Setting.{Setting}
+use Rattle.tanks.specs.Settings.{noSetting}
+use Rattle.answers.specs.Replies.{lineSays, pairSays, pairsSay, stretchesSay}
 
 -- one mark more
 pub marks-more : (ms : List Mark) (n : ℕ) → n < length ms → map markText (take n ms) ++ (markText (getD ms n blank) ∷ []) ≡ map markText (take (n + 1) ms)
 marks-more ms n h =
     let e : suc n ≡ n + 1 = omega arith in
     sym (map-append markText (take n ms) (getD ms n blank ∷ [])) ∙ sym (ap (map markText) (take-suc ms n blank h)) ∙ ap (λ (k : ℕ). map markText (take k ms)) e
+
+-- one pair more
+pub pair-more : (t : ℕ) (st : List Setting) → t < 8 → pairsSay (8 - t) t st ≡ pairSays t (getD st t noSetting) ++ pairsSay (8 - (t + 1)) (t + 1) st
+unfolding pairsSay
+pair-more t st h =
+    let e : 8 - t ≡ suc (8 - (t + 1)) = omega arith in
+    let f : suc t ≡ t + 1 = omega arith in
+    ap (λ (n : ℕ). pairsSay n t st) e ∙ ap (λ (j : ℕ). pairSays t (getD st t noSetting) ++ pairsSay (8 - (t + 1)) j st) f
+
+-- none is left
+pub pair-none : (t : ℕ) (st : List Setting) → 8 ≤ t → pairsSay (8 - t) t st ≡ []
+unfolding pairsSay
+pair-none t st h = let e : 8 - t ≡ 0 = omega arith in ap (λ (n : ℕ). pairsSay n t st) e
 
 -- ---- three numbers to a stretch
 module _ (list : List ℕ) (i : ℕ) where

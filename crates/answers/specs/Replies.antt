@@ -1,8 +1,8 @@
 -- docs/CONSOLE.md: the lines of each answer, as pieces of text.
 use mathlib.Core.Bool.{cond}
 use mathlib.Core.List.{List, [], _∷_, _++_, map, flatMap}
-use Prim.Native.Nat.{ℕ, min}
-use lib.ListN.{take}
+use Prim.Native.Nat.{ℕ, zero, suc, min}
+use lib.ListN.{getD, take}
 use Rattle.styles.specs.declared.Styles.{Styles}
 use Rattle.richtext.specs.declared.AnchorType.{AnchorType}
 use Rattle.questions.specs.declared.Asked.{Asked}
@@ -14,8 +14,13 @@ use Rattle.questions.specs.declared.Told.{Told}
 use Rattle.lists.specs.declared.Listed.{Listed}
 use Rattle.lists.specs.declared.anchors.Anchor.{Anchor}
 use Rattle.tank.specs.Rules.{whenAccepted}
+use Rattle.settings_text.specs.declared.Asked as sets
+use Rattle.settings_text.specs.declared.Taken.{Taken}
+use Rattle.settings_text.specs.Text.{shareName, limitName}
 use Rattle.tanks.specs.declared.Count.{Count}
+use Rattle.tanks.specs.declared.Setting.{Setting}
 use Rattle.tanks.specs.declared.YesNo.{YesNo}
+use Rattle.tanks.specs.Settings.{noSetting}
 use Rattle.text.specs.Bytes.{bytes}
 use Rattle.script.specs.Writing.{lineText, fieldText, valueText, markText}
 use Rattle.answers.specs.Waiting.{Pieces}
@@ -123,3 +128,22 @@ anchorSays a = lineSays (bytes "at=") (a .at) ++ sideSays (a .side) ++ lineSays 
 -- anchors one after another
 abbrev pub anchorsSay : List Anchor → Pieces
 anchorsSay = flatMap anchorSays
+
+-- ---- Settings
+-- the two lines of a tank's pair
+abbrev pub pairSays : ℕ → Setting → Pieces
+pairSays t s = lineSays (shareName t) (s .share) ++ lineSays (limitName t) (s .limit)
+
+-- those of so many tanks from tank t on
+unfoldable pub pairsSay : ℕ → ℕ → List Setting → Pieces
+pairsSay zero t st = []
+pairsSay (suc n) t st = pairSays t (getD st t noSetting) ++ pairsSay n (suc t) st
+
+-- a set that was asked for: its eight pairs, or none
+unfoldable pub foundSays : sets.Asked → Pieces
+unfolding pairsSay
+foundSays a = cond (a .found) (pairsSay 8 0 (a .settings)) noneSays
+
+-- a text that was taken: the number of its set, or the refusal and the line
+abbrev pub takenSays : Taken → Pieces
+takenSays t = whenAccepted (t .number) (lineSays (bytes "set=") (t .kept .number)) (refusedSays (t .number) ++ lineSays (bytes "line=") (t .line))

@@ -5,11 +5,13 @@ mod pieces; // pieces.rt: a line, a value, a mark
 mod sets; // sets.rt: sets of marks
 mod replies; // replies.rt: what edits and questions answer
 mod listing; // listing.rt: stretches and anchors
+mod settings; // settings.rt: settings
 
 pub use listing::put_anchor;
 pub use listing::put_list;
 pub use listing::put_needed;
 pub use pieces::accept;
+pub use pieces::none;
 pub use pieces::refuse;
 pub use pieces::say;
 pub use replies::aged_or;
@@ -23,3 +25,5 @@ pub use replies::put_shown;
 pub use replies::put_told;
 pub use replies::put_touched;
 pub use sets::set_or;
+pub use settings::put_found;
+pub use settings::put_taken;

@@ -1,33 +1,26 @@
--- A line taken at once is its bytes taken one by one.
+-- A line, or a part of a body, taken at once is its bytes taken one by one.
 use mathlib.Core.Path.{_≡_, refl, sym, ap, ap₂, subst, _∙_}
 use mathlib.Core.Bool.{Bool, true, false, cond}
-use mathlib.Core.List.{List, [], _∷_, _++_, foldl-append}
-use Prim.Native.Nat.{ℕ, suc, _+_, _<_, min}
-use native.Mathlib.Decide.{ℕ-discrete, decLt}
-use native.Mathlib.Omega.{arith}
-use lib.ListN.{length, drop, getD, drop-of-length-le}
-use lib.Seq.{drop-cons, drop-nil, drop-drop}
-use Rattle.text.specs.Bytes.{holds}
+use mathlib.Core.List.{List, [], _∷_, _++_, append-assoc, append-nil, foldl, foldl-append}
+use Prim.Native.Nat.{ℕ, suc, _+_, _<_}
+use lib.ListN.{length, take, drop, getD}
+use lib.Seq.{drop-cons}
 use Rattle.tanks.specs.declared.Tanks.{Tanks}
+use Rattle.tanks.specs.House.{House}
 use Rattle.tanks.specs.Pool.{meaning}
 use Rattle.script.specs.declared.Call.{Call}
 use Rattle.script.specs.declared.Event.{Event}
-use Rattle.script.specs.declared.Fed.{Fed}
-use Rattle.script.specs.declared.Read.{Read}
-use Rattle.script.specs.declared.Reader.{Reader}
-use Rattle.script.specs.Lines.{lineFront, hasEnd, State, stateOf, eventOf, readOf, bringsOf, afterOf, Feeds}
-use Rattle.text.proofs.Finding.{front-here, front-past, held-here, held-past}
-use Rattle.script.proofs.CutAnywhere.{same-line, line-cut}
-use Rattle.script.proofs.Unique.{fed-state}
+use Rattle.script.specs.declared.Inlet.{Inlet}
+use Rattle.script.specs.declared.Taken.{Taken}
+use Rattle.script.specs.Bodies.{Stage, Brought, bringsNothing, broughtBy, behindPart, stageOf, broughtOf, Takes}
+use Rattle.script.specs.Lines.{stateOf}
+use Rattle.script.proofs.Folded.{Cuttable, part-bytes, brought-cuttable, byteOn}
 use Rattle.answers.specs.Waiting.{Pieces, Waiting, waiting, withAll, Short, Adds}
 use Rattle.answers.proofs.Laws.{short-append}
-use Rattle.clerk.specs.declared.Done.{Done}
-use Rattle.clerk.specs.Calls.{saysOf, Performs}
-use Rattle.clerk.specs.Course.{Course, malformedSays, saidOn, onEvent, afterLine, saidLine, afterByte, saidByte, afterBytes, saidBytes}
-
--- what comes behind the first newline
-abbrev behindLine : List ℕ → List ℕ
-behindLine line = drop (length (lineFront line) + 1) line
+use Rattle.clerk.specs.declared.Moved.{Moved}
+use Rattle.clerk.specs.declared.Side.{Side}
+use Rattle.clerk.specs.Desk.{saysOf, Performs}
+use Rattle.clerk.specs.Course.{Course, malformedSays, saidOn, saidBrought, onBrought, afterPart, saidPart, afterByte, saidByte, afterBytes, saidBytes}
 
 -- bytes taken in two parts, with nothing written out in between, lead to the same
 pub cut-anywhere : (x : Course) (a b : List ℕ) → afterBytes x (a ++ b) ≡ afterBytes (afterBytes x a) b
@@ -43,7 +36,7 @@ over-stays x (b ∷ more) e = ap (λ (y : Course). afterBytes y more) (rw e) ∙
 -- a byte more says nothing
 silent-byte : (x : Course) (byte : ℕ) → x .over ≡ true → saidByte x byte ≡ []
 unfolding saidByte
-silent-byte x byte e = ap (λ (b : Bool). cond b [] (saidLine x (byte ∷ []))) e
+silent-byte x byte e = ap (λ (b : Bool). cond b [] (saidPart x (byte ∷ []))) e
 
 -- the run stays over
 over-byte : (x : Course) (byte : ℕ) → x .over ≡ true → afterByte x byte .over ≡ true
@@ -74,94 +67,60 @@ over-heard : (x : Course) (more : List ℕ) → x .over ≡ true → heard x mor
 unfolding afterBytes saidBytes
 over-heard x more e = ap₂ both (over-stays x more e) (silent-bytes x more e)
 
--- ---- What a line brings
--- the course after an event, with the state of the reader and the call that come with it, and what it says
-abbrev led : Course → Event → State → Call → Course × Pieces
-led x v r c = both (onEvent v x r c) (saidOn v (x .house) r c)
+-- ---- A part of some bytes, by the fold of `script`
+abbrev tellsOver : Course × Pieces → Bool
+tellsOver p = p .0 .over
 
--- and then bytes
-abbrev heardOn : Course × Pieces → List ℕ → Course × Pieces
-heardOn p more = saidFirst (p .1) (heard (p .0) more)
+-- where the script stands
+abbrev tellsStage : Course × Pieces → Stage
+tellsStage p = p .0 .stage
 
--- of a line
-abbrev lineLed : Course → List ℕ → Course × Pieces
-lineLed x line = both (afterLine x line) (saidLine x line)
+-- what is brought is performed, and its answer said behind what was said before
+tellsOn : Course × Pieces → Brought → Course × Pieces
+tellsOn p b = both (onBrought (p .0) b) (p .1 ++ saidBrought (p .0) b)
 
--- by what the line makes of the call, and the state after it
-abbrev readLed : Course → Read → State → Course × Pieces
-readLed x q r = led x (eventOf (q .progress)) r (q .call)
+-- another place in the script, and nothing else
+abbrev tellsMoved : Course × Pieces → Stage → Course × Pieces
+tellsMoved p i = both (record { house = p .0 .house; side = p .0 .side; stage = i; waits = p .0 .waits; over = false }) (p .1)
 
-module _ (x : Course) where
-  -- of a byte
-  byteLed : ℕ → Course × Pieces
-  byteLed b = both (afterByte x b) (saidByte x b)
+-- where nothing is brought yet only the place in the script is another
+quiet : (p : Course × Pieces) (i : Stage) (c : Call) → tellsOn p (bringsNothing i c) ≡ tellsMoved p i
+unfolding tellsOn onBrought saidOn withAll
+quiet p i c = ap (both (record { house = p .0 .house; side = p .0 .side; stage = i; waits = p .0 .waits; over = false })) (append-nil (p .1))
 
-  byte-led : (b : ℕ) → x .over ≡ false → byteLed b ≡ lineLed x (b ∷ [])
-  unfolding byteLed afterByte saidByte
-  byte-led b e = ap (λ (v : Bool). both (cond v x (afterLine x (b ∷ []))) (cond v [] (saidLine x (b ∷ [])))) e
+-- what is done with what is brought does not depend on that place
+alike : (p : Course × Pieces) (i : Stage) (b : Brought) → tellsOn (tellsMoved p i) b ≡ tellsOn p b
+unfolding tellsOn onBrought
+alike p i b = refl
 
-  byte-heard : (b : ℕ) (bs : List ℕ) → heard x (b ∷ bs) ≡ heardOn (byteLed b) bs
-  unfolding byteLed afterBytes saidBytes
-  byte-heard b bs = refl
+cuttable : Cuttable tellsOver tellsStage broughtBy tellsOn behindPart
+cuttable = brought-cuttable tellsOver tellsStage tellsOn tellsMoved quiet (λ p i. refl) (λ p i. refl) alike
 
-  -- the run with one byte more of a line that goes on
-  part : ℕ → Course
-  part c = record { house = x .house; reader = afterOf (x .reader) (c ∷ []); waits = x .waits; over = false }
+-- one byte
+tells-by : (over : Bool) (x y : Course) (said more : Pieces) → cond over (both x said) (both y (said ++ more)) ≡ both (cond over x y) (said ++ cond over [] more)
+tells-by true x y said more = ap (both x) (sym (append-nil said))
+tells-by false x y said more = refl
 
-  part-brings : (c : ℕ) → hasEnd (c ∷ []) ≡ false → lineLed x (c ∷ []) ≡ both (part c) []
-  unfolding bringsOf onEvent saidOn part withAll
-  part-brings c e = rw e
+tells-byte : (x : Course) (said : Pieces) (byte : ℕ) → byteOn tellsOver tellsStage broughtBy tellsOn behindPart (both x said) byte ≡ both (afterByte x byte) (said ++ saidByte x byte)
+unfolding tellsOn afterByte saidByte
+tells-byte x said byte = tells-by (x .over) x (afterPart x (byte ∷ [])) said (saidPart x (byte ∷ []))
 
-  part-line : (c : ℕ) (cs : List ℕ) → hasEnd (c ∷ []) ≡ false → lineLed (part c) cs ≡ lineLed x (c ∷ cs)
-  unfolding part onEvent bringsOf
-  part-line c cs e = line-cut (readLed x) (x .reader) (c ∷ []) cs e
+-- bytes
+tells-bytes : (x : Course) (said : Pieces) (input : List ℕ) → foldl (byteOn tellsOver tellsStage broughtBy tellsOn behindPart) (both x said) input ≡ saidFirst said (heard x input)
+unfolding afterBytes saidBytes
+tells-bytes x said [] = ap (both x) (sym (append-nil said))
+tells-bytes x said (byte ∷ more) =
+    ap (λ (p : Course × Pieces). foldl (byteOn tellsOver tellsStage broughtBy tellsOn behindPart) p more) (tells-byte x said byte)
+    ∙ tells-bytes (afterByte x byte) (said ++ saidByte x byte) more
+    ∙ ap (both (afterBytes (afterByte x byte) more)) (append-assoc said (saidByte x byte) (saidBytes (afterByte x byte) more))
 
-none-behind : (c : ℕ) → (c ≡ 10 → ⊥) → hasEnd (c ∷ []) ≡ false
-unfolding holds
-none-behind c n = held-past 10 c [] n
-
-behind-other : (c : ℕ) (cs : List ℕ) → (c ≡ 10 → ⊥) → behindLine (c ∷ cs) ≡ behindLine cs
-behind-other c cs n =
-    let e : length (c ∷ lineFront cs) + 1 ≡ suc (length (lineFront cs) + 1) = omega arith in
-    ap (λ (t : List ℕ). drop (length t + 1) (c ∷ cs)) (front-past 10 c cs n) ∙ ap (λ (k : ℕ). drop k (c ∷ cs)) e
-
-module _ (x : Course) (c : ℕ) (cs : List ℕ) (e : x .over ≡ false) where
-  -- the line ends here
-  ends : c ≡ 10 → heard x (c ∷ cs) ≡ heardOn (lineLed x (c ∷ cs)) (behindLine (c ∷ cs))
-  unfolding bringsOf
-  ends h =
-      byte-heard x c cs
-      ∙ ap (λ (p : Course × Pieces). heardOn p cs) (byte-led x c e ∙ same-line (readLed x) (x .reader) (c ∷ []) (c ∷ cs) (held-here 10 c [] h ∙ sym (held-here 10 c cs h)) (front-here 10 c [] h ∙ sym (front-here 10 c cs h)))
-      ∙ ap (λ (t : List ℕ). heardOn (lineLed x (c ∷ cs)) (drop (length t + 1) (c ∷ cs))) (sym (front-here 10 c cs h))
-
-  -- it goes on
-  goes : (c ≡ 10 → ⊥) → heard (part x c) cs ≡ heardOn (lineLed (part x c) cs) (behindLine cs) → heard x (c ∷ cs) ≡ heardOn (lineLed x (c ∷ cs)) (behindLine (c ∷ cs))
-  goes h more =
-      byte-heard x c cs
-      ∙ ap (λ (p : Course × Pieces). heardOn p cs) (byte-led x c e ∙ part-brings x c (none-behind c h))
-      ∙ more
-      ∙ ap (λ (p : Course × Pieces). heardOn p (behindLine cs)) (part-line x c cs (none-behind c h))
-      ∙ ap (heardOn (lineLed x (c ∷ cs))) (sym (behind-other c cs h))
-
--- the last byte of a read, where the line goes on
-last-byte : (x : Course) (c : ℕ) → x .over ≡ false → (c ≡ 10 → ⊥) → heard x (c ∷ []) ≡ heardOn (lineLed x (c ∷ [])) (behindLine (c ∷ []))
-last-byte x c e h =
-    byte-heard x c []
-    ∙ ap (λ (p : Course × Pieces). heardOn p []) (byte-led x c e)
-    ∙ sym (ap (heardOn (lineLed x (c ∷ []))) (behind-other c [] h ∙ drop-nil (length (lineFront []) + 1)))
-
--- a line, then the bytes behind it
-line-heard : (x : Course) (c : ℕ) (cs : List ℕ) → x .over ≡ false → heard x (c ∷ cs) ≡ heardOn (lineLed x (c ∷ cs)) (behindLine (c ∷ cs))
-unfolding part
-line-heard x c [] e = elim (ℕ-discrete c 10) [ yes h ↦ ends x c [] e h | no h ↦ last-byte x c e h ]
-line-heard x c (d ∷ ds) e = elim (ℕ-discrete c 10) [ yes h ↦ ends x c (d ∷ ds) e h | no h ↦ goes x c (d ∷ ds) e h (line-heard (part x c) d ds refl) ]
-
-pub line-bytes : (x : Course) (c : ℕ) (cs : List ℕ) → x .over ≡ false → afterBytes x (c ∷ cs) ≡ afterBytes (afterLine x (c ∷ cs)) (behindLine (c ∷ cs))
-line-bytes x c cs e = ap (λ (p : Course × Pieces). p .0) (line-heard x c cs e)
-
--- it says what they say
-pub line-said : (x : Course) (c : ℕ) (cs : List ℕ) → x .over ≡ false → saidBytes x (c ∷ cs) ≡ saidLine x (c ∷ cs) ++ saidBytes (afterLine x (c ∷ cs)) (behindLine (c ∷ cs))
-line-said x c cs e = ap (λ (p : Course × Pieces). p .1) (line-heard x c cs e)
+-- the part that some bytes begin with, then the bytes behind it
+part-heard : (x : Course) (c : ℕ) (cs : List ℕ) → x .over ≡ false → heard x (c ∷ cs) ≡ saidFirst (saidPart x (c ∷ cs)) (heard (afterPart x (c ∷ cs)) (behindPart (x .stage) (c ∷ cs)))
+unfolding tellsOn
+part-heard x c cs e =
+    sym (tells-bytes x [] (c ∷ cs))
+    ∙ part-bytes tellsOver tellsStage broughtBy tellsOn behindPart cuttable (both x []) c cs e
+    ∙ tells-bytes (afterPart x (c ∷ cs)) (saidPart x (c ∷ cs)) (behindPart (x .stage) (c ∷ cs))
 
 -- ---- What is left of some bytes
 -- it leads where all of them do; where its pieces are short, those of all are
@@ -185,61 +144,61 @@ left-by x a ts h e =
 
 -- ---- A turn of the loop over the bytes of a read
 -- a run that goes on
-abbrev pub standing : Tanks → Reader → ℕ → List ℕ → Course
-standing s r at out = record { house = meaning s; reader = stateOf r; waits = waiting out at; over = false }
+abbrev pub standing : Tanks → Side → Inlet → List ℕ → ℕ → List ℕ → Course
+standing s side i memory at out = record { house = meaning s; side = side; stage = stageOf i memory; waits = waiting out at; over = false }
 
-drop-least : (n : ℕ) (l : List ℕ) → drop (min (length l) n) l ≡ drop n l
-drop-least n l =
-    elim (decLt n (length l)) [
-      | yes h ↦ let e : min (length l) n ≡ n = omega arith in ap (λ (k : ℕ). drop k l) e
-      | no h ↦ drop-of-length-le l {i = min (length l) n} (omega arith) ∙ sym (drop-of-length-le l {i = n} (omega arith))
-    ]
+-- what is brought, where the event is known
+abbrev broughtAs : Event → Brought → Brought
+broughtAs e b = record { stage = b .stage; event = e; call = b .call; body = b .body }
 
-module _ (s : Tanks) (at : ℕ) (out : List ℕ) {r : Reader} {from : ℕ} {input : List ℕ} {f : Fed} (more : from < length input) (fed : Feeds r input from f) where
-  behind : behindLine (drop from input) ≡ drop (f .at) input
-  behind =
-      drop-drop (length (lineFront (drop from input)) + 1) from input
-      ∙ (let e : from + (length (lineFront (drop from input)) + 1) ≡ from + length (lineFront (drop from input)) + 1 = omega arith in ap (λ (k : ℕ). drop k input) e)
-      ∙ sym (drop-least (from + length (lineFront (drop from input)) + 1) input)
-      ∙ sym (ap (λ (k : ℕ). drop k input) (fed .at))
+module _ (s : Tanks) (side : Side) (at : ℕ) (out : List ℕ) {i : Inlet} {from : ℕ} {input memory after : List ℕ} {t : Taken} (more : from < length input) (taken : Takes i input from memory t after) where
+  -- where the run is before the turn
+  abbrev here : Course
+  here = standing s side i memory at out
 
-  line-taken : heard (standing s r at out) (drop from input) ≡ heardOn (lineLed (standing s r at out) (drop from input)) (drop (f .at) input)
-  line-taken =
-      subst (λ (l : List ℕ). heard (standing s r at out) l ≡ heardOn (lineLed (standing s r at out) l) (behindLine l)) (sym (drop-cons input from 0 more)) (line-heard (standing s r at out) (getD input from 0) (drop (suc from) input) refl)
-      ∙ ap (heardOn (lineLed (standing s r at out) (drop from input))) behind
+  -- what the turn brings, by its event
+  abbrev brought : Event → Brought
+  brought e = broughtAs e (broughtOf t after)
 
-  -- what the line brings, by the event
-  line-is : (e : Event) → f .event ≡ e → lineLed (standing s r at out) (drop from input) ≡ led (standing s r at out) e (stateOf (f .reader)) (readOf (stateOf r) (drop from input) .call)
-  line-is e h =
-      ap (λ (v : Event). led (standing s r at out) v (afterOf (stateOf r) (drop from input)) (readOf (stateOf r) (drop from input) .call)) (sym (fed .event) ∙ h)
-      ∙ ap (λ (t : State). led (standing s r at out) e t (readOf (stateOf r) (drop from input) .call)) (sym (fed-state fed))
+  part-taken : heard here (drop from input) ≡ saidFirst (saidPart here (drop from input)) (heard (afterPart here (drop from input)) (drop (t .at) input))
+  part-taken =
+      subst (λ (l : List ℕ). heard here l ≡ saidFirst (saidPart here l) (heard (afterPart here l) (behindPart (here .stage) l))) (sym (drop-cons input from 0 more)) (part-heard here (getD input from 0) (drop (suc from) input) refl)
+      ∙ ap (λ (l : List ℕ). saidFirst (saidPart here (drop from input)) (heard (afterPart here (drop from input)) l)) (sym (taken .behind))
 
   -- and the bytes behind it
-  turned : (e : Event) → f .event ≡ e → heard (standing s r at out) (drop from input) ≡ heardOn (led (standing s r at out) e (stateOf (f .reader)) (readOf (stateOf r) (drop from input) .call)) (drop (f .at) input)
-  turned e h = line-taken ∙ ap (λ (p : Course × Pieces). heardOn p (drop (f .at) input)) (line-is e h)
+  turned : (e : Event) → t .event ≡ e → heard here (drop from input) ≡ saidFirst (saidBrought here (brought e)) (heard (onBrought here (brought e)) (drop (t .at) input))
+  turned e h =
+      part-taken
+      ∙ ap (λ (b : Brought). saidFirst (saidBrought here b) (heard (onBrought here b) (drop (t .at) input))) (sym (taken .is))
+      ∙ ap (λ (v : Event). saidFirst (saidBrought here (brought v)) (heard (onBrought here (brought v)) (drop (t .at) input))) h
 
-  pub turn-nothing : f .event ≡ Event.Nothing → Left (standing s (f .reader) at out) (drop (f .at) input) (standing s r at out) (drop from input)
-  unfolding onEvent saidOn withAll Short
-  turn-nothing h = left-by (standing s (f .reader) at out) (drop (f .at) input) [] tt (turned Event.Nothing h)
+  pub turn-nothing : t .event ≡ Event.Nothing → Left (standing s side (t .inlet) after at out) (drop (t .at) input) here (drop from input)
+  unfolding onBrought saidOn withAll Short
+  turn-nothing h = left-by (standing s side (t .inlet) after at out) (drop (t .at) input) [] tt (turned Event.Nothing h)
 
-  pub turn-call : {d : Done} {out' : List ℕ} → f .event ≡ Event.Call → Performs (f .call .op) s (f .call) out at d out' → Left (standing (d .tanks) (f .reader) (d .at) out') (drop (f .at) input) (standing s r at out) (drop from input)
-  unfolding onEvent saidOn
+  pub turn-call : {d : Moved} {out' : List ℕ} → t .event ≡ Event.Call → Performs (t .call .op) s side (t .call) (take (t .size) after) out at d out' → Left (standing (d .tanks) (d .side) (t .inlet) after (d .at) out') (drop (t .at) input) here (drop from input)
+  unfolding onBrought saidOn
   turn-call {d} {out'} h p =
-      left-by (standing (d .tanks) (f .reader) (d .at) out') (drop (f .at) input) (saysOf (f .call .op) (meaning s) (f .call)) (p .answer .short)
-      (turned Event.Call h
-      ∙ ap (λ (k : Call). heardOn (led (standing s r at out) Event.Call (stateOf (f .reader)) k) (drop (f .at) input)) (sym (fed .call))
-      ∙ ap (λ (y : Course). heardOn (both y (saysOf (f .call .op) (meaning s) (f .call))) (drop (f .at) input)) (sym performed))
+      left-by (standing (d .tanks) (d .side) (t .inlet) after (d .at) out') (drop (t .at) input) (saysOf (t .call .op) (meaning s) side (t .call) (take (t .size) after)) (p .answer .short)
+      (turned Event.Call h ∙ ap (λ (y : Course). saidFirst (saysOf (t .call .op) (meaning s) side (t .call) (take (t .size) after)) (heard y (drop (t .at) input))) (sym performed))
     where
-      performed : standing (d .tanks) (f .reader) (d .at) out' ≡ onEvent Event.Call (standing s r at out) (stateOf (f .reader)) (f .call)
-      performed = ap₂ (λ (h : _) (w : Waiting). record { house = h; reader = stateOf (f .reader); waits = w; over = false }) (p .is) (p .answer .is)
+      placed : House → Side → Waiting → Course
+      placed h k w = record { house = h; side = k; stage = stageOf (t .inlet) after; waits = w; over = false }
 
-  pub turn-bad : {k : ℕ} {out' : List ℕ} → f .event ≡ Event.Bad → Adds out at (malformedSays (stateOf (f .reader))) k out' → Left (record { house = meaning s; reader = stateOf (f .reader); waits = waiting out' k; over = true }) [] (standing s r at out) (drop from input)
-  unfolding onEvent saidOn
+      performed : standing (d .tanks) (d .side) (t .inlet) after (d .at) out' ≡ onBrought here (brought Event.Call)
+      performed = λ j. record { house = p .is j; side = p .keeps j; stage = stageOf (t .inlet) after; waits = p .answer .is j; over = false }
+
+  pub turn-bad : {k : ℕ} {out' : List ℕ} → t .event ≡ Event.Bad → Adds out at (malformedSays (stateOf (t .inlet .reader))) k out'
+      → Left (record { house = meaning s; side = side; stage = stageOf (t .inlet) after; waits = waiting out' k; over = true }) [] here (drop from input)
+  unfolding onBrought saidOn
   turn-bad {k} {out'} h p =
-      left-by (record { house = meaning s; reader = stateOf (f .reader); waits = waiting out' k; over = true }) [] (malformedSays (stateOf (f .reader))) (p .short)
+      left-by ended [] (malformedSays (stateOf (t .inlet .reader))) (p .short)
       (turned Event.Bad h
-      ∙ ap (λ (y : Course). heardOn (both y (malformedSays (stateOf (f .reader)))) (drop (f .at) input)) (sym said)
-      ∙ ap (saidFirst (malformedSays (stateOf (f .reader)))) (over-heard (record { house = meaning s; reader = stateOf (f .reader); waits = waiting out' k; over = true }) (drop (f .at) input) refl))
+      ∙ ap (λ (y : Course). saidFirst (malformedSays (stateOf (t .inlet .reader))) (heard y (drop (t .at) input))) (sym said)
+      ∙ ap (saidFirst (malformedSays (stateOf (t .inlet .reader)))) (over-heard ended (drop (t .at) input) refl))
     where
-      said : record { house = meaning s; reader = stateOf (f .reader); waits = waiting out' k; over = true } ≡ onEvent Event.Bad (standing s r at out) (stateOf (f .reader)) (readOf (stateOf r) (drop from input) .call)
-      said = ap (λ (w : Waiting). record { house = meaning s; reader = stateOf (f .reader); waits = w; over = true }) (p .is)
+      ended : Course
+      ended = record { house = meaning s; side = side; stage = stageOf (t .inlet) after; waits = waiting out' k; over = true }
+
+      said : ended ≡ onBrought here (brought Event.Bad)
+      said = ap (λ (w : Waiting). record { house = meaning s; side = side; stage = stageOf (t .inlet) after; waits = w; over = true }) (p .is)

@@ -7,10 +7,9 @@ use native.Mathlib.Omega.{arith}
 use lib.Dec.{eqb}
 use lib.ListN.{length}
 use borrow.Author.Tests.{ne-eqb}
-use Rattle.script.specs.Lines.{endingOf}
 use Rattle.answers.specs.Waiting.{Pieces, Waiting, with, withAll}
-use Rattle.clerk.specs.Course.{Course, onEvent, afterLine, afterByte, afterBytes, endedAs, atEnd, afterRead, written, writtenAfter, afterReads}
-use Rattle.clerk.specs.Course.{Whereabouts, whereOf, saidLine, saidByte, saidBy, saidBytes, saidEnding, saidAtEnd, saidRead, saidReads, NoneEmpty}
+use Rattle.clerk.specs.Course.{Course, onBrought, afterPart, afterByte, afterBytes, endedAs, endingAt, atEnd, afterRead, written, writtenAfter, afterReads}
+use Rattle.clerk.specs.Course.{Whereabouts, whereOf, saidPart, saidByte, saidBy, saidBytes, saidEnding, saidAtEnd, saidRead, saidReads, NoneEmpty}
 use Rattle.clerk.proofs.Bytes.{cut-anywhere, over-stays, silent-bytes}
 
 -- ---- What is said is what is put into the output
@@ -22,8 +21,8 @@ waits-by false x y said e = e
 
 -- one byte puts what it says
 waits-byte : (x : Course) (byte : ℕ) → afterByte x byte .waits ≡ withAll (x .waits) (saidByte x byte)
-unfolding afterByte saidByte onEvent
-waits-byte x byte = waits-by (x .over) x (afterLine x (byte ∷ [])) (saidLine x (byte ∷ [])) refl
+unfolding afterByte saidByte onBrought
+waits-byte x byte = waits-by (x .over) x (afterPart x (byte ∷ [])) (saidPart x (byte ∷ [])) refl
 
 -- bytes put into the output what they say
 pub waits-bytes : (x : Course) (input : List ℕ) → afterBytes x input .waits ≡ withAll (x .waits) (saidBytes x input)
@@ -37,7 +36,7 @@ waits-bytes x (byte ∷ more) =
 -- the end of the input puts what it says
 pub waits-end : (x : Course) → atEnd x .waits ≡ withAll (x .waits) (saidAtEnd x)
 unfolding atEnd saidAtEnd
-waits-end x = waits-by (x .over) x (endedAs (endingOf (x .reader)) x) (saidEnding (endingOf (x .reader)) (x .reader)) refl
+waits-end x = waits-by (x .over) x (endedAs (endingAt x) x) (saidEnding (endingAt x) (x .stage .lines)) refl
 
 -- a read that is not empty counts by its bytes
 pub some-by : {A : Type 0} (a b : A) (input : List ℕ) → (length input ≡ 0 → ⊥) → cond (eqb (length input) 0) a b ≡ b
@@ -54,7 +53,7 @@ waits-read x (byte ∷ more) =
 -- ---- What waits makes no difference
 -- a run at a place, with this output waiting
 abbrev placed : Whereabouts → Waiting → Course
-placed p w = record { house = p .house; reader = p .reader; waits = w; over = p .over }
+placed p w = record { house = p .house; side = p .side; stage = p .stage; waits = w; over = p .over }
 
 -- what is the same for all output that waits is the same for all runs at one place
 by-place : {A : Type 0} (f : Course → A) → ((p : Whereabouts) (v w : Waiting) → f (placed p v) ≡ f (placed p w)) → (x y : Course) → whereOf x ≡ whereOf y → f x ≡ f y
@@ -67,10 +66,10 @@ place-by false x y z u e f = f
 
 -- where one byte leads
 place-byte : (byte : ℕ) (x y : Course) → whereOf x ≡ whereOf y → whereOf (afterByte x byte) ≡ whereOf (afterByte y byte)
-unfolding afterByte onEvent
+unfolding afterByte onBrought
 place-byte byte =
     by-place (λ (x : Course). whereOf (afterByte x byte)) λ p v w.
-    place-by (p .over) (placed p v) (placed p w) (afterLine (placed p v) (byte ∷ [])) (afterLine (placed p w) (byte ∷ [])) refl refl
+    place-by (p .over) (placed p v) (placed p w) (afterPart (placed p v) (byte ∷ [])) (afterPart (placed p w) (byte ∷ [])) refl refl
 
 -- what it says
 said-byte : (byte : ℕ) (x y : Course) → whereOf x ≡ whereOf y → saidByte x byte ≡ saidByte y byte
@@ -94,7 +93,7 @@ pub place-end : (x y : Course) → whereOf x ≡ whereOf y → whereOf (atEnd x)
 unfolding atEnd
 place-end =
     by-place (λ (x : Course). whereOf (atEnd x)) λ p v w.
-    place-by (p .over) (placed p v) (placed p w) (endedAs (endingOf (p .reader)) (placed p v)) (endedAs (endingOf (p .reader)) (placed p w)) refl refl
+    place-by (p .over) (placed p v) (placed p w) (endedAs (endingAt (placed p v)) (placed p v)) (endedAs (endingAt (placed p w)) (placed p w)) refl refl
 
 -- and so does what it says
 said-end : (x y : Course) → whereOf x ≡ whereOf y → saidAtEnd x ≡ saidAtEnd y
@@ -154,13 +153,13 @@ cut-run x inputs some =
 -- a read more changes nothing
 pub over-read : (x : Course) (input : List ℕ) → x .over ≡ true → afterRead x input ≡ x
 unfolding atEnd
-over-read x [] e = ap (λ (b : Bool). cond b x (endedAs (endingOf (x .reader)) x)) e
+over-read x [] e = ap (λ (b : Bool). cond b x (endedAs (endingAt x) x)) e
 over-read x (byte ∷ more) e = some-by _ _ (byte ∷ more) (λ n. omega arith) ∙ over-stays x (byte ∷ more) e
 
 -- a read says nothing
 silent-read : (x : Course) (input : List ℕ) → x .over ≡ true → saidRead x input ≡ []
 unfolding saidAtEnd
-silent-read x [] e = ap (λ (b : Bool). cond b [] (saidEnding (endingOf (x .reader)) (x .reader))) e
+silent-read x [] e = ap (λ (b : Bool). cond b [] (saidEnding (endingAt x) (x .stage .lines))) e
 silent-read x (byte ∷ more) e = some-by _ _ (byte ∷ more) (λ n. omega arith) ∙ silent-bytes x (byte ∷ more) e
 
 -- reads that would come when the run is over change nothing and say nothing

@@ -1,47 +1,92 @@
 -- A call is performed as one of its op.
-use mathlib.Core.Path.{_≡_, refl, sym, subst}
+use mathlib.Core.Path.{_≡_, refl, sym, ap, subst, _∙_}
 use mathlib.Core.List.{List}
 use Prim.Native.Nat.{ℕ}
 use Rattle.tanks.specs.declared.Tanks.{Tanks}
 use Rattle.tanks.specs.Pool.{meaning, Sound}
+use Rattle.script.specs.declared.Both.{Both}
 use Rattle.script.specs.declared.Call.{Call}
 use Rattle.script.specs.declared.Change.{Change}
+use Rattle.script.specs.declared.Desk.{Desk}
 use Rattle.script.specs.declared.Listing.{Listing}
 use Rattle.script.specs.declared.Op.{Op}
 use Rattle.script.specs.declared.Question.{Question}
-use Rattle.answers.specs.Waiting.{Adds}
+use Rattle.script.specs.declared.Text.{Text}
+use Rattle.answers.specs.Waiting.{Pieces, Adds}
 use Rattle.answers.proofs.Laws.{no-piece}
 use Rattle.clerk.specs.declared.Done.{Done}
-use Rattle.clerk.specs.Calls.{afterOp, saysOf, Performs}
+use Rattle.clerk.specs.declared.Moved.{Moved}
+use Rattle.clerk.specs.declared.Noted.{Noted}
+use Rattle.clerk.specs.declared.Side.{Side}
+use Rattle.clerk.specs.Calls.{answerSays, listingSays, Changes}
+use Rattle.clerk.specs.Desk.{Settled, textHouse, textSide, textSays, deskSide, deskSays, bothHouse, bothSide, bothSays, afterOp, sideAfter, saysOf, Notes, Moves, Performs}
 
-module _ {s : Tanks} {c : Call} {d out : List ℕ} {at : ℕ} where
-  pub as-op : {r : Done} {op : Op} → c .op ≡ op → Performs op s c d at r out → Performs (c .op) s c d at r out
-  as-op {r} e p = subst (λ (o : Op). Performs o s c d at r out) (sym e) p
+-- ---- The arms of each group
+-- of `change`
+pub as-change : {s : Tanks} {c : Call} {d out : List ℕ} {at : ℕ} {r : Done} {e f : Change} → e ≡ f → Changes f s c d at r out → Changes e s c d at r out
+as-change {s} {c} {d} {out} {at} {r} e p = subst (λ (o : Change). Changes o s c d at r out) (sym e) p
 
-  -- an arm of `change`
-  pub as-change : {r : Done} {e f : Change} → e ≡ f → Performs (Op.Change f) s c d at r out → Performs (Op.Change e) s c d at r out
-  as-change {r} e p = subst (λ (o : Change). Performs (Op.Change o) s c d at r out) (sym e) p
-
--- of `answer`
 module _ (s : Tanks) (c : Call) {d out : List ℕ} {at : ℕ} where
-  pub as-answer : {k : ℕ} {q p : Question} → q ≡ p → Adds d at (saysOf (Op.Question p) (meaning s) c) k out → Adds d at (saysOf (Op.Question q) (meaning s) c) k out
-  as-answer {k} e p = subst (λ (o : Question). Adds d at (saysOf (Op.Question o) (meaning s) c) k out) (sym e) p
+  -- of `answer`
+  pub as-answer : {k : ℕ} {q p : Question} → q ≡ p → Adds d at (answerSays p (meaning s) c) k out → Adds d at (answerSays q (meaning s) c) k out
+  as-answer {k} e p = subst (λ (o : Question). Adds d at (answerSays o (meaning s) c) k out) (sym e) p
 
   -- of `listed`
-  pub as-listed : {k : ℕ} {l m : Listing} → l ≡ m → Adds d at (saysOf (Op.Listing m) (meaning s) c) k out → Adds d at (saysOf (Op.Listing l) (meaning s) c) k out
-  as-listed {k} e p = subst (λ (o : Listing). Adds d at (saysOf (Op.Listing o) (meaning s) c) k out) (sym e) p
+  pub as-listed : {k : ℕ} {l m : Listing} → l ≡ m → Adds d at (listingSays m (meaning s) c) k out → Adds d at (listingSays l (meaning s) c) k out
+  as-listed {k} e p = subst (λ (o : Listing). Adds d at (listingSays o (meaning s) c) k out) (sym e) p
 
--- a question leaves the state as it was
-module _ {s : Tanks} {c : Call} {d out : List ℕ} {at : ℕ} where
-  pub asked : {k : ℕ} {q : Question} → c .op ≡ Op.Question q → Sound s → Adds d at (saysOf (Op.Question q) (meaning s) c) k out → Performs (c .op) s c d at (record { tanks = s; at = k }) out
-  unfolding afterOp
-  asked e ok says = as-op e (record { sound = ok; is = refl; answer = says })
+-- of `take_text`
+pub as-text : (s : Tanks) (side : Side) (c : Call) (body : List ℕ) {d out : List ℕ} {at : ℕ} {r : Moved} {x y : Text} → x ≡ y
+    → Moves (textHouse y (meaning s) side c body) (textSide y (meaning s) side c body) (textSays y (meaning s) side c body) d at r out
+    → Moves (textHouse x (meaning s) side c body) (textSide x (meaning s) side c body) (textSays x (meaning s) side c body) d at r out
+as-text s side c body {d} {out} {at} {r} e p = subst (λ (o : Text). Moves (textHouse o (meaning s) side c body) (textSide o (meaning s) side c body) (textSays o (meaning s) side c body) d at r out) (sym e) p
 
-  pub listed : {k : ℕ} {l : Listing} → c .op ≡ Op.Listing l → Sound s → Adds d at (saysOf (Op.Listing l) (meaning s) c) k out → Performs (c .op) s c d at (record { tanks = s; at = k }) out
-  unfolding afterOp
-  listed e ok says = as-op e (record { sound = ok; is = refl; answer = says })
+-- of `at_desk`
+pub as-desk : (side : Side) (c : Call) {d out : List ℕ} {at : ℕ} {r : Noted} {k j : Desk} → k ≡ j → Notes (deskSide j side c) (deskSays j side c) d at r out → Notes (deskSide k side c) (deskSays k side c) d at r out
+as-desk side c {d} {out} {at} {r} e p = subst (λ (o : Desk). Notes (deskSide o side c) (deskSays o side c) d at r out) (sym e) p
+
+-- of `on_both`
+pub as-both : (s : Tanks) (side : Side) (c : Call) {d out : List ℕ} {at : ℕ} {r : Moved} {b a : Both} → b ≡ a
+    → Moves (bothHouse a (meaning s) side c) (bothSide a (meaning s) side c) (bothSays a (meaning s) side c) d at r out
+    → Moves (bothHouse b (meaning s) side c) (bothSide b (meaning s) side c) (bothSays b (meaning s) side c) d at r out
+as-both s side c {d} {out} {at} {r} e p = subst (λ (o : Both). Moves (bothHouse o (meaning s) side c) (bothSide o (meaning s) side c) (bothSays o (meaning s) side c) d at r out) (sym e) p
+
+-- ---- The groups
+module _ (s : Tanks) (side : Side) (c : Call) (body : List ℕ) {d out : List ℕ} {at : ℕ} where
+  as-op : {r : Moved} {op : Op} → c .op ≡ op → Performs op s side c body d at r out → Performs (c .op) s side c body d at r out
+  as-op {r} e p = subst (λ (o : Op). Performs o s side c body d at r out) (sym e) p
+
+  -- a change leaves what is kept as it was
+  pub changes : {r : Done} {e : Change} → c .op ≡ Op.Change e → Settled side → Changes e s c d at r out → Performs (c .op) s side c body d at (record { tanks = r .tanks; side = side; at = r .at }) out
+  unfolding afterOp sideAfter saysOf
+  changes e kept p = as-op e (record { sound = p .sound; settled = kept; is = p .is; keeps = refl; answer = p .answer })
+
+  -- a question leaves all as it was
+  pub asked : {k : ℕ} {q : Question} → c .op ≡ Op.Question q → Sound s → Settled side → Adds d at (answerSays q (meaning s) c) k out → Performs (c .op) s side c body d at (record { tanks = s; side = side; at = k }) out
+  unfolding afterOp sideAfter saysOf
+  asked e ok kept says = as-op e (record { sound = ok; settled = kept; is = refl; keeps = refl; answer = says })
+
+  -- and so does one for a list
+  pub listed : {k : ℕ} {l : Listing} → c .op ≡ Op.Listing l → Sound s → Settled side → Adds d at (listingSays l (meaning s) c) k out → Performs (c .op) s side c body d at (record { tanks = s; side = side; at = k }) out
+  unfolding afterOp sideAfter saysOf
+  listed e ok kept says = as-op e (record { sound = ok; settled = kept; is = refl; keeps = refl; answer = says })
+
+  -- a text
+  pub texted : {r : Moved} {x : Text} → c .op ≡ Op.Text x → Moves (textHouse x (meaning s) side c body) (textSide x (meaning s) side c body) (textSays x (meaning s) side c body) d at r out → Performs (c .op) s side c body d at r out
+  unfolding afterOp sideAfter saysOf
+  texted e p = as-op e p
+
+  -- what has to do with what is kept alone leaves the tanks as they were
+  pub noted : {r : Noted} {k : Desk} → c .op ≡ Op.Desk k → Sound s → Notes (deskSide k side c) (deskSays k side c) d at r out → Performs (c .op) s side c body d at (record { tanks = s; side = r .side; at = r .at }) out
+  unfolding afterOp sideAfter saysOf
+  noted e ok p = as-op e (record { sound = ok; settled = p .settled; is = refl; keeps = p .is; answer = p .answer })
+
+  -- what has to do with both
+  pub moved : {r : Moved} {b : Both} → c .op ≡ Op.Both b → Moves (bothHouse b (meaning s) side c) (bothSide b (meaning s) side c) (bothSays b (meaning s) side c) d at r out → Performs (c .op) s side c body d at r out
+  unfolding afterOp sideAfter saysOf
+  moved e p = as-op e p
 
 -- where no op is named nothing is done, and nothing said
-pub none : {s : Tanks} {c : Call} (d : List ℕ) (at : ℕ) → c .op ≡ Op.Nothing → Sound s → Performs (c .op) s c d at (record { tanks = s; at = at }) d
-unfolding afterOp saysOf
-none {s} {c} d at e ok = as-op e (record { sound = ok; is = refl; answer = no-piece d at })
+pub none : (s : Tanks) (side : Side) (c : Call) (body d : List ℕ) (at : ℕ) → c .op ≡ Op.Nothing → Sound s → Settled side → Performs (c .op) s side c body d at (record { tanks = s; side = side; at = at }) d
+unfolding afterOp sideAfter saysOf
+none s side c body d at e ok kept = as-op s side c body e (record { sound = ok; settled = kept; is = refl; keeps = refl; answer = no-piece d at })

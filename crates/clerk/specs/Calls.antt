@@ -1,4 +1,4 @@
--- What a call that was read does to the eight tanks, and what it answers: a row for each op.
+-- What a call that has to do with the tanks alone does to them, and what it answers: a row for each op.
 use mathlib.Core.Path.{_≡_}
 use mathlib.Core.List.{List, [], _∷_, _++_}
 use Prim.Native.Nat.{ℕ, _+_}
@@ -17,7 +17,6 @@ use Rattle.ask.specs.Asks.{askAt, valueAsked, marksAsked, markAsked, stretchAsk
 use Rattle.script.specs.declared.Call.{Call}
 use Rattle.script.specs.declared.Change.{Change}
 use Rattle.script.specs.declared.Listing.{Listing}
-use Rattle.script.specs.declared.Op.{Op}
 use Rattle.script.specs.declared.Question.{Question}
 use Rattle.script.specs.Args.{numberAt, keyAt, markOf, identityOf}
 use Rattle.text.specs.Bytes.{bytes}
@@ -70,22 +69,14 @@ beforeIn c = numberAt c 1
 abbrev pub budgetIn : Call → ℕ
 budgetIn c = numberAt c 2
 
--- ---- The eight tanks after it: a question leaves them as they were
--- by a call that changes them
-abbrev pub changed : Change → House → Call → House
+-- ---- The eight tanks after it: a row for each op that changes them; a question leaves them as they were
+unfoldable pub changed : Change → House → Call → House
 changed Change.Open h c = opening (settingsOf c)
 changed Change.Annotate h c = afterAt h (tankFor c) (annotation c)
 changed Change.Insert h c = afterAt h (tankFor c) (insertion c)
 changed Change.Delete h c = afterAt h (tankFor c) (deletion c)
 changed Change.Remove h c = afterAt h (tankFor c) (removal c)
 changed Change.Age h c = agedHouse h (tankFor c) (beforeIn c) (budgetIn c)
-
--- after any call
-unfoldable pub afterOp : Op → House → Call → House
-afterOp Op.Nothing h c = h
-afterOp (Op.Change e) h c = changed e h c
-afterOp (Op.Question q) h c = h
-afterOp (Op.Listing l) h c = h
 
 -- ---- Its answer
 -- the marked stretches of a tank, where there is room for so many numbers
@@ -97,7 +88,7 @@ abbrev pub allAnchorsSay : View → Pieces
 allAnchorsSay v = lineSays (bytes "anchors=") (length (anchors v)) ++ anchorsSay (anchors v)
 
 -- of a call that changes the tanks: a row for each op
-abbrev pub changeSays : Change → House → Call → Pieces
+unfoldable pub changeSays : Change → House → Call → Pieces
 changeSays Change.Open h c = acceptedSays (openNumber (settingsOf c))
 changeSays Change.Annotate h c = acceptedSays (refusalAt h (tankFor c) (annotation c))
 changeSays Change.Insert h c = orRefused (refusalAt h (tankFor c) (insertion c)) (stylesSay (stylesOf (insertedSetAt h (tankFor c) (numberAt c 1) (numberAt c 2))))
@@ -107,7 +98,7 @@ changeSays Change.Age h c =
     agedSays (ageNumber h (tankFor c) (beforeIn c) (budgetIn c)) (droppedAt h (tankFor c) (beforeIn c) (budgetIn c)) (remainingAt h (tankFor c) (beforeIn c) (budgetIn c))
 
 -- of one that asks
-abbrev pub answerSays : Question → House → Call → Pieces
+unfoldable pub answerSays : Question → House → Call → Pieces
 answerSays Question.Length h c = countSays (bytes "length=") (counts (askNumber (tankFor c)) (tankAt h (tankFor c) .length))
 answerSays Question.Touched h c = touchedSays (says (askNumber (tankFor c)) (tankAt h (tankFor c) .touched))
 answerSays Question.Runs h c = countSays (bytes "runs=") (counts (askNumber (tankFor c)) (held h (tankFor c)))
@@ -122,22 +113,15 @@ answerSays Question.Inherited h c = askedSays (inheritedAsked h (tankFor c) (num
 answerSays Question.Find h c = extentSays (stretchAsked h (tankFor c) (numberAt c 1))
 
 -- of one that asks for a list
-abbrev pub listingSays : Listing → House → Call → Pieces
+unfoldable pub listingSays : Listing → House → Call → Pieces
 listingSays Listing.Stretches h c = askAt h (tankFor c) (refusedSays 1) (λ v. orRefused (rangeNumber (startIn c) (endIn c) (numberAt c 3) v) (listSays (tankFor c) (rangeList (startIn c) (endIn c) v)))
 listingSays Listing.StretchesNeeded h c = neededSays (rangeNeededAsked h (tankFor c) (startIn c) (endIn c))
 listingSays Listing.Whole h c = wholeSays h (tankFor c) (numberAt c 1)
 listingSays Listing.WholeNeeded h c = neededSays (wholeNeededAsked h (tankFor c))
 listingSays Listing.Anchors h c = askAt h (tankFor c) (refusedSays 1) (λ v. orRefused (anchorsNumber (numberAt c 1) v) (allAnchorsSay v))
 
--- of any call
-unfoldable pub saysOf : Op → House → Call → Pieces
-saysOf Op.Nothing h c = []
-saysOf (Op.Change e) h c = changeSays e h c
-saysOf (Op.Question q) h c = answerSays q h c
-saysOf (Op.Listing l) h c = listingSays l h c
-
--- a call performed as one of an op: the next state, and its answer behind what waits
-pub record Performs (op : Op) (s : Tanks) (c : Call) (buffer : List ℕ) (at : ℕ) (r : Done) (out : List ℕ) : Type 0 where
+-- a call that changes the tanks: the next state, and its answer behind what waits
+pub record Changes (e : Change) (s : Tanks) (c : Call) (buffer : List ℕ) (at : ℕ) (r : Done) (out : List ℕ) : Type 0 where
   pub sound : Sound (r .tanks)
-  pub is : meaning (r .tanks) ≡ afterOp op (meaning s) c
-  pub answer : Adds buffer at (saysOf op (meaning s) c) (r .at) out
+  pub is : meaning (r .tanks) ≡ changed e (meaning s) c
+  pub answer : Adds buffer at (changeSays e (meaning s) c) (r .at) out

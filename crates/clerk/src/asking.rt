@@ -2,10 +2,9 @@
 ghost use Prim.Native.Nat.{_≤_};
 ghost use lib.ListN.{length};
 ghost use Rattle.script.specs.declared.Question as questions;
-ghost use Rattle.script.specs.declared.Op as ops;
 ghost use Rattle.tanks.specs.Pool.{Sound, meaning};
 ghost use Rattle.answers.specs.Waiting.{Adds, pieceRoom};
-ghost use Rattle.clerk.specs.Calls.{saysOf};
+ghost use Rattle.clerk.specs.Calls.{answerSays};
 use answers::put_asked;
 use answers::put_count;
 use answers::put_extent;
@@ -21,7 +20,7 @@ use tanks::Tanks;
 pub fn length(s: Tanks, call: Call, out: &mut [u8], at: usize) -> usize
     requires { ⌜ Sound s ⌝ }
     requires { ⌜ pieceRoom ≤ length (now out) ⌝ }
-    ensures { λ r. ⌜ Adds (now (out .entry)) at (saysOf (ops.Op.Question questions.Question.Length) (meaning s) call) r (now (out .exit)) ⌝ }
+    ensures { λ r. ⌜ Adds (now (out .entry)) at (answerSays questions.Question.Length (meaning s) call) r (now (out .exit)) ⌝ }
 {
     let n = call.numbers;
     put_count(out, at, b"length=", s.length(n[0]))
@@ -30,7 +29,7 @@ pub fn length(s: Tanks, call: Call, out: &mut [u8], at: usize) -> usize
 pub fn touched(s: Tanks, call: Call, out: &mut [u8], at: usize) -> usize
     requires { ⌜ Sound s ⌝ }
     requires { ⌜ pieceRoom ≤ length (now out) ⌝ }
-    ensures { λ r. ⌜ Adds (now (out .entry)) at (saysOf (ops.Op.Question questions.Question.Touched) (meaning s) call) r (now (out .exit)) ⌝ }
+    ensures { λ r. ⌜ Adds (now (out .entry)) at (answerSays questions.Question.Touched (meaning s) call) r (now (out .exit)) ⌝ }
 {
     let n = call.numbers;
     put_touched(out, at, s.has_style(n[0]))
@@ -39,7 +38,7 @@ pub fn touched(s: Tanks, call: Call, out: &mut [u8], at: usize) -> usize
 pub fn runs(s: Tanks, call: Call, out: &mut [u8], at: usize) -> usize
     requires { ⌜ Sound s ⌝ }
     requires { ⌜ pieceRoom ≤ length (now out) ⌝ }
-    ensures { λ r. ⌜ Adds (now (out .entry)) at (saysOf (ops.Op.Question questions.Question.Runs) (meaning s) call) r (now (out .exit)) ⌝ }
+    ensures { λ r. ⌜ Adds (now (out .entry)) at (answerSays questions.Question.Runs (meaning s) call) r (now (out .exit)) ⌝ }
 {
     let n = call.numbers;
     put_count(out, at, b"runs=", s.runs(n[0]))
@@ -48,7 +47,7 @@ pub fn runs(s: Tanks, call: Call, out: &mut [u8], at: usize) -> usize
 pub fn value(s: Tanks, call: Call, out: &mut [u8], at: usize) -> usize
     requires { ⌜ Sound s ⌝ }
     requires { ⌜ pieceRoom ≤ length (now out) ⌝ }
-    ensures { λ r. ⌜ Adds (now (out .entry)) at (saysOf (ops.Op.Question questions.Question.Value) (meaning s) call) r (now (out .exit)) ⌝ }
+    ensures { λ r. ⌜ Adds (now (out .entry)) at (answerSays questions.Question.Value (meaning s) call) r (now (out .exit)) ⌝ }
 {
     let n = call.numbers;
     put_shown(out, at, ask::value_at(s, n[0], n[1], key_of(n[2])))
@@ -57,7 +56,7 @@ pub fn value(s: Tanks, call: Call, out: &mut [u8], at: usize) -> usize
 pub fn has_key(s: Tanks, call: Call, out: &mut [u8], at: usize) -> usize
     requires { ⌜ Sound s ⌝ }
     requires { ⌜ pieceRoom ≤ length (now out) ⌝ }
-    ensures { λ r. ⌜ Adds (now (out .entry)) at (saysOf (ops.Op.Question questions.Question.HasKey) (meaning s) call) r (now (out .exit)) ⌝ }
+    ensures { λ r. ⌜ Adds (now (out .entry)) at (answerSays questions.Question.HasKey (meaning s) call) r (now (out .exit)) ⌝ }
 {
     let n = call.numbers;
     let t = ask::range_contains_key(s, n[0], n[1], n[2], key_of(n[3]));
@@ -67,7 +66,7 @@ pub fn has_key(s: Tanks, call: Call, out: &mut [u8], at: usize) -> usize
 pub fn all_value(s: Tanks, call: Call, out: &mut [u8], at: usize) -> usize
     requires { ⌜ Sound s ⌝ }
     requires { ⌜ pieceRoom ≤ length (now out) ⌝ }
-    ensures { λ r. ⌜ Adds (now (out .entry)) at (saysOf (ops.Op.Question questions.Question.AllValue) (meaning s) call) r (now (out .exit)) ⌝ }
+    ensures { λ r. ⌜ Adds (now (out .entry)) at (answerSays questions.Question.AllValue (meaning s) call) r (now (out .exit)) ⌝ }
 {
     let n = call.numbers;
     let v = call.value;
@@ -78,7 +77,7 @@ pub fn all_value(s: Tanks, call: Call, out: &mut [u8], at: usize) -> usize
 pub fn same(s: Tanks, call: Call, out: &mut [u8], at: usize) -> usize
     requires { ⌜ Sound s ⌝ }
     requires { ⌜ pieceRoom ≤ length (now out) ⌝ }
-    ensures { λ r. ⌜ Adds (now (out .entry)) at (saysOf (ops.Op.Question questions.Question.Same) (meaning s) call) r (now (out .exit)) ⌝ }
+    ensures { λ r. ⌜ Adds (now (out .entry)) at (answerSays questions.Question.Same (meaning s) call) r (now (out .exit)) ⌝ }
 {
     let n = call.numbers;
     put_shared(out, at, ask::get_styles_of_range(s, n[0], n[1], n[2]))
@@ -87,7 +86,7 @@ pub fn same(s: Tanks, call: Call, out: &mut [u8], at: usize) -> usize
 pub fn marks(s: Tanks, call: Call, out: &mut [u8], at: usize) -> usize
     requires { ⌜ Sound s ⌝ }
     requires { ⌜ pieceRoom ≤ length (now out) ⌝ }
-    ensures { λ r. ⌜ Adds (now (out .entry)) at (saysOf (ops.Op.Question questions.Question.Marks) (meaning s) call) r (now (out .exit)) ⌝ }
+    ensures { λ r. ⌜ Adds (now (out .entry)) at (answerSays questions.Question.Marks (meaning s) call) r (now (out .exit)) ⌝ }
 {
     let n = call.numbers;
     put_set_asked(out, at, ask::styles_at(s, n[0], n[1]))
@@ -96,7 +95,7 @@ pub fn marks(s: Tanks, call: Call, out: &mut [u8], at: usize) -> usize
 pub fn inherit(s: Tanks, call: Call, out: &mut [u8], at: usize) -> usize
     requires { ⌜ Sound s ⌝ }
     requires { ⌜ pieceRoom ≤ length (now out) ⌝ }
-    ensures { λ r. ⌜ Adds (now (out .entry)) at (saysOf (ops.Op.Question questions.Question.Inherit) (meaning s) call) r (now (out .exit)) ⌝ }
+    ensures { λ r. ⌜ Adds (now (out .entry)) at (answerSays questions.Question.Inherit (meaning s) call) r (now (out .exit)) ⌝ }
 {
     let n = call.numbers;
     put_set_asked(out, at, ask::get_styles_for_insert(s, n[0], n[1]))
@@ -105,7 +104,7 @@ pub fn inherit(s: Tanks, call: Call, out: &mut [u8], at: usize) -> usize
 pub fn mark(s: Tanks, call: Call, out: &mut [u8], at: usize) -> usize
     requires { ⌜ Sound s ⌝ }
     requires { ⌜ pieceRoom ≤ length (now out) ⌝ }
-    ensures { λ r. ⌜ Adds (now (out .entry)) at (saysOf (ops.Op.Question questions.Question.Mark) (meaning s) call) r (now (out .exit)) ⌝ }
+    ensures { λ r. ⌜ Adds (now (out .entry)) at (answerSays questions.Question.Mark (meaning s) call) r (now (out .exit)) ⌝ }
 {
     let n = call.numbers;
     put_asked(out, at, ask::style_at(s, n[0], n[1], n[2]))
@@ -114,7 +113,7 @@ pub fn mark(s: Tanks, call: Call, out: &mut [u8], at: usize) -> usize
 pub fn inherited(s: Tanks, call: Call, out: &mut [u8], at: usize) -> usize
     requires { ⌜ Sound s ⌝ }
     requires { ⌜ pieceRoom ≤ length (now out) ⌝ }
-    ensures { λ r. ⌜ Adds (now (out .entry)) at (saysOf (ops.Op.Question questions.Question.Inherited) (meaning s) call) r (now (out .exit)) ⌝ }
+    ensures { λ r. ⌜ Adds (now (out .entry)) at (answerSays questions.Question.Inherited (meaning s) call) r (now (out .exit)) ⌝ }
 {
     let n = call.numbers;
     put_asked(out, at, ask::style_for_insert(s, n[0], n[1], n[2]))
@@ -123,7 +122,7 @@ pub fn inherited(s: Tanks, call: Call, out: &mut [u8], at: usize) -> usize
 pub fn find(s: Tanks, call: Call, out: &mut [u8], at: usize) -> usize
     requires { ⌜ Sound s ⌝ }
     requires { ⌜ pieceRoom ≤ length (now out) ⌝ }
-    ensures { λ r. ⌜ Adds (now (out .entry)) at (saysOf (ops.Op.Question questions.Question.Find) (meaning s) call) r (now (out .exit)) ⌝ }
+    ensures { λ r. ⌜ Adds (now (out .entry)) at (answerSays questions.Question.Find (meaning s) call) r (now (out .exit)) ⌝ }
 {
     let n = call.numbers;
     put_extent(out, at, ask::stretch_at(s, n[0], n[1]))

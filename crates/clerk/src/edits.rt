@@ -3,10 +3,9 @@ ghost use mathlib.Core.Path.{_≡_};
 ghost use Prim.Native.Nat.{_≤_};
 ghost use lib.ListN.{length};
 ghost use Rattle.script.specs.declared.Change as changes;
-ghost use Rattle.script.specs.declared.Op as ops;
 ghost use Rattle.answers.specs.Waiting.{pieceRoom};
 ghost use Rattle.tanks.specs.Pool.{Sound};
-ghost use Rattle.clerk.specs.Calls.{Performs, settingsOf};
+ghost use Rattle.clerk.specs.Calls.{Changes, settingsOf};
 use super::Done;
 use answers::accept;
 use answers::aged_or;
@@ -57,7 +56,7 @@ fn settings(call: Call) -> [Setting; 8]
 
 pub fn opened(s: Tanks, call: Call, out: &mut [u8], at: usize) -> Done
     requires { ⌜ pieceRoom ≤ length (now out) ⌝ }
-    ensures { λ r. ⌜ Performs (ops.Op.Change changes.Change.Open) s call (now (out .entry)) at r (now (out .exit)) ⌝ }
+    ensures { λ r. ⌜ Changes changes.Change.Open s call (now (out .entry)) at r (now (out .exit)) ⌝ }
 {
     let o = tanks::open(settings(call));
     let t = o.tanks;
@@ -68,7 +67,7 @@ pub fn opened(s: Tanks, call: Call, out: &mut [u8], at: usize) -> Done
 pub fn annotated(s: Tanks, call: Call, out: &mut [u8], at: usize) -> Done
     requires { ⌜ Sound s ⌝ }
     requires { ⌜ pieceRoom ≤ length (now out) ⌝ }
-    ensures { λ r. ⌜ Performs (ops.Op.Change changes.Change.Annotate) s call (now (out .entry)) at r (now (out .exit)) ⌝ }
+    ensures { λ r. ⌜ Changes changes.Change.Annotate s call (now (out .entry)) at r (now (out .exit)) ⌝ }
 {
     let n = call.numbers;
     let e = s.annotate(n[0], n[1], n[2], script::mark_of(call));
@@ -80,7 +79,7 @@ pub fn annotated(s: Tanks, call: Call, out: &mut [u8], at: usize) -> Done
 pub fn inserted(s: Tanks, call: Call, out: &mut [u8], at: usize) -> Done
     requires { ⌜ Sound s ⌝ }
     requires { ⌜ pieceRoom ≤ length (now out) ⌝ }
-    ensures { λ r. ⌜ Performs (ops.Op.Change changes.Change.Insert) s call (now (out .entry)) at r (now (out .exit)) ⌝ }
+    ensures { λ r. ⌜ Changes changes.Change.Insert s call (now (out .entry)) at r (now (out .exit)) ⌝ }
 {
     let n = call.numbers;
     let e = s.insert(n[0], n[1], n[2]);
@@ -93,7 +92,7 @@ pub fn inserted(s: Tanks, call: Call, out: &mut [u8], at: usize) -> Done
 pub fn deleted(s: Tanks, call: Call, out: &mut [u8], at: usize) -> Done
     requires { ⌜ Sound s ⌝ }
     requires { ⌜ pieceRoom ≤ length (now out) ⌝ }
-    ensures { λ r. ⌜ Performs (ops.Op.Change changes.Change.Delete) s call (now (out .entry)) at r (now (out .exit)) ⌝ }
+    ensures { λ r. ⌜ Changes changes.Change.Delete s call (now (out .entry)) at r (now (out .exit)) ⌝ }
 {
     let n = call.numbers;
     let e = s.delete(n[0], n[1], n[2]);
@@ -105,7 +104,7 @@ pub fn deleted(s: Tanks, call: Call, out: &mut [u8], at: usize) -> Done
 pub fn removed(s: Tanks, call: Call, out: &mut [u8], at: usize) -> Done
     requires { ⌜ Sound s ⌝ }
     requires { ⌜ pieceRoom ≤ length (now out) ⌝ }
-    ensures { λ r. ⌜ Performs (ops.Op.Change changes.Change.Remove) s call (now (out .entry)) at r (now (out .exit)) ⌝ }
+    ensures { λ r. ⌜ Changes changes.Change.Remove s call (now (out .entry)) at r (now (out .exit)) ⌝ }
 {
     let n = call.numbers;
     let e = s.remove_style_scanning_backward(n[0], script::identity_of(call), n[4]);
@@ -117,7 +116,7 @@ pub fn removed(s: Tanks, call: Call, out: &mut [u8], at: usize) -> Done
 pub fn aged(s: Tanks, call: Call, out: &mut [u8], at: usize) -> Done
     requires { ⌜ Sound s ⌝ }
     requires { ⌜ pieceRoom ≤ length (now out) ⌝ }
-    ensures { λ r. ⌜ Performs (ops.Op.Change changes.Change.Age) s call (now (out .entry)) at r (now (out .exit)) ⌝ }
+    ensures { λ r. ⌜ Changes changes.Change.Age s call (now (out .entry)) at r (now (out .exit)) ⌝ }
 {
     let n = call.numbers;
     let e = night::age(s, n[0], n[1], n[2]);

@@ -2,16 +2,19 @@
 mod edits; // edits.rt: calls that change the state
 mod asking; // asking.rt: calls that ask
 mod listing; // listing.rt: stretches and anchors
+mod desk; // desk.rt: calls that have to do with what is kept beside the tanks
 
 ghost use mathlib.Core.Bool.{false};
 ghost use mathlib.Core.Path.{_≡_};
 ghost use Prim.Native.Nat.{_≤_};
 ghost use lib.ListN.{length};
-ghost use Rattle.script.specs.declared.Op as ops;
+ghost use Rattle.script.specs.Grammar.{mostBody};
 ghost use Rattle.script.specs.Lines.{stateOf};
+ghost use Rattle.script.specs.Bodies.{Fits};
 ghost use Rattle.tanks.specs.Pool.{Sound, meaning};
 ghost use Rattle.answers.specs.Waiting.{Adds, pieceRoom};
-ghost use Rattle.clerk.specs.Calls.{saysOf, Performs};
+ghost use Rattle.clerk.specs.Calls.{answerSays, listingSays, Changes};
+ghost use Rattle.clerk.specs.Desk.{emptySide, Settled, textHouse, textSide, textSays, deskSide, deskSays, bothHouse, bothSide, bothSays, Notes, Moves};
 ghost use Rattle.clerk.specs.Course.{malformedSays, Eats, Closes, Reads, Runs, RunsWhole};
 use answers::say;
 use edits::aged;
@@ -21,14 +24,19 @@ use edits::inserted;
 use edits::opened;
 use edits::removed;
 pub use listing::whole;
+use script::Both;
 use script::Call;
 use script::Change;
+use script::Desk;
 use script::Ending;
 use script::Event;
+use script::Inlet;
 use script::Listing;
 use script::Op;
 use script::Question;
 use script::Reader;
+use script::Text;
+use settings_text::Kept;
 use tanks::Setting;
 use tanks::Tanks;
 
@@ -38,9 +46,29 @@ pub struct Done {
     pub at: usize,
 }
 
-// Where a run stands but for the tanks: the reader, how much of the output waits, and whether it is over.
+// What is kept beside the tanks: the last four sets of settings that were read.
+pub struct Side {
+    pub sets: Kept,
+}
+
+// What is kept after a call, and how much of the output waits.
+pub struct Noted {
+    pub side: Side,
+    pub at: usize,
+}
+
+// The state and what is kept after a call, and how much of the output waits.
+pub struct Moved {
+    pub tanks: Tanks,
+    pub side: Side,
+    pub at: usize,
+}
+
+// Where a run stands but for the tanks: the script, what is kept beside them, how much of the output waits, and whether it
+// is over.
 pub struct Stand {
-    pub reader: Reader,
+    pub inlet: Inlet,
+    pub side: Side,
     pub at: usize,
     pub over: bool,
 }
@@ -52,21 +80,23 @@ pub struct Eaten {
 }
 
 // A stand from which nothing waits.
-fn fresh(reader: Reader) -> Stand
-    ensures { λ r. ⌜ r ≡ record { reader = reader; at = 0; over = false } ⌝ }
+fn fresh(inlet: Inlet, side: Side) -> Stand
+    ensures { λ r. ⌜ r ≡ record { inlet = inlet; side = side; at = 0; over = false } ⌝ }
 {
     Stand {
-        reader: reader,
+        inlet: inlet,
+        side: side,
         at: 0,
         over: false,
     }
 }
 
-fn standing(tanks: Tanks, reader: Reader, at: usize, over: bool) -> Eaten
-    ensures { λ r. ⌜ (r .tanks ≡ tanks) × (r .stand ≡ record { reader = reader; at = at; over = over }) ⌝ }
+fn standing(tanks: Tanks, inlet: Inlet, side: Side, at: usize, over: bool) -> Eaten
+    ensures { λ r. ⌜ (r .tanks ≡ tanks) × (r .stand ≡ record { inlet = inlet; side = side; at = at; over = over }) ⌝ }
 {
     let stand = Stand {
-        reader: reader,
+        inlet: inlet,
+        side: side,
         at: at,
         over: over,
     };
@@ -76,11 +106,19 @@ fn standing(tanks: Tanks, reader: Reader, at: usize, over: bool) -> Eaten
     }
 }
 
+// Nothing kept yet.
+fn empty() -> Side
+    ensures { λ r. ⌜ (r ≡ emptySide) × Settled r ⌝ }
+{
+    let sets = settings_text::none();
+    Side { sets: sets }
+}
+
 // A call that changes the tanks: the state after it, and its answer in the output.
 fn change(s: Tanks, e: Change, call: Call, out: &mut [u8], at: usize) -> Done
     requires { ⌜ Sound s ⌝ }
     requires { ⌜ pieceRoom ≤ length (now out) ⌝ }
-    ensures { λ r. ⌜ Performs (ops.Op.Change e) s call (now (out .entry)) at r (now (out .exit)) ⌝ }
+    ensures { λ r. ⌜ Changes e s call (now (out .entry)) at r (now (out .exit)) ⌝ }
 {
     match e {
         Change::Open => opened(s, call, out, at),
@@ -96,7 +134,7 @@ fn change(s: Tanks, e: Change, call: Call, out: &mut [u8], at: usize) -> Done
 fn answer(s: Tanks, q: Question, call: Call, out: &mut [u8], at: usize) -> usize
     requires { ⌜ Sound s ⌝ }
     requires { ⌜ pieceRoom ≤ length (now out) ⌝ }
-    ensures { λ r. ⌜ Adds (now (out .entry)) at (saysOf (ops.Op.Question q) (meaning s) call) r (now (out .exit)) ⌝ }
+    ensures { λ r. ⌜ Adds (now (out .entry)) at (answerSays q (meaning s) call) r (now (out .exit)) ⌝ }
 {
     match q {
         Question::Length => asking::length(s, call, out, at),
@@ -118,7 +156,7 @@ fn answer(s: Tanks, q: Question, call: Call, out: &mut [u8], at: usize) -> usize
 fn listed(s: Tanks, l: Listing, call: Call, out: &mut [u8], at: usize) -> usize
     requires { ⌜ Sound s ⌝ }
     requires { ⌜ pieceRoom ≤ length (now out) ⌝ }
-    ensures { λ r. ⌜ Adds (now (out .entry)) at (saysOf (ops.Op.Listing l) (meaning s) call) r (now (out .exit)) ⌝ }
+    ensures { λ r. ⌜ Adds (now (out .entry)) at (listingSays l (meaning s) call) r (now (out .exit)) ⌝ }
 {
     let n = call.numbers;
     match l {
@@ -130,6 +168,55 @@ fn listed(s: Tanks, l: Listing, call: Call, out: &mut [u8], at: usize) -> usize
     }
 }
 
+// One that brings a text, which lies in the body lent.
+fn take_text(
+    s: Tanks,
+    side: Side,
+    x: Text,
+    call: Call,
+    body: &[u8],
+    out: &mut [u8],
+    at: usize,
+) -> Moved
+    requires { ⌜ Sound s × Settled side ⌝ }
+    requires { ⌜ pieceRoom ≤ length (now out) ⌝ }
+    ensures { λ r. ⌜ Moves (textHouse x (meaning s) side call (now (body .entry))) (textSide x (meaning s) side call (now (body .entry))) (textSays x (meaning s) side call (now (body .entry))) (now (out .entry)) at r (now (out .exit)) ⌝ }
+{
+    match x {
+        Text::Settings => {
+            let d = desk::settings(side, body, out, at);
+            let next = d.side;
+            Moved {
+                tanks: s,
+                side: next,
+                at: d.at,
+            }
+        }
+    }
+}
+
+// One that has to do with what is kept beside the tanks alone: these are not even lent.
+fn at_desk(side: Side, d: Desk, call: Call, out: &mut [u8], at: usize) -> Noted
+    requires { ⌜ Settled side ⌝ }
+    requires { ⌜ pieceRoom ≤ length (now out) ⌝ }
+    ensures { λ r. ⌜ Notes (deskSide d side call) (deskSays d side call) (now (out .entry)) at r (now (out .exit)) ⌝ }
+{
+    match d {
+        Desk::Set => desk::set(side, call, out, at),
+    }
+}
+
+// One that has to do with both.
+fn on_both(s: Tanks, side: Side, b: Both, call: Call, out: &mut [u8], at: usize) -> Moved
+    requires { ⌜ Sound s × Settled side ⌝ }
+    requires { ⌜ pieceRoom ≤ length (now out) ⌝ }
+    ensures { λ r. ⌜ Moves (bothHouse b (meaning s) side call) (bothSide b (meaning s) side call) (bothSays b (meaning s) side call) (now (out .entry)) at r (now (out .exit)) ⌝ }
+{
+    match b {
+        Both::OpenSet => desk::open_set(s, side, call, out, at),
+    }
+}
+
 // The number of the line at which the run ends.
 fn put_bad(out: &mut [u8], at: usize, r: Reader) -> usize
     requires { ⌜ pieceRoom ≤ length (now out) ⌝ }
@@ -138,36 +225,39 @@ fn put_bad(out: &mut [u8], at: usize, r: Reader) -> usize
     say(out, at, b"malformed=", script::line_number(r))
 }
 
-// The bytes of one read, a line to a turn. The tanks go through a call once a group, and never once a line.
-fn eat(bytes: &[u8], s: Tanks, stand: Stand, out: &mut [u8]) -> Eaten
-    requires { ⌜ (Sound s) × (stand .over ≡ false) ⌝ }
-    requires { ⌜ pieceRoom ≤ length (now out) ⌝ }
-    ensures { λ r. ⌜ Eats s stand (now (out .entry)) (now (bytes .entry)) r (now (out .exit)) ⌝ }
+// The bytes of one read, a line or a part of a body to a turn. The tanks go through a call once a group, and never once a
+// line.
+fn eat(bytes: &[u8], s: Tanks, stand: Stand, body: &mut [u8], out: &mut [u8]) -> Eaten
+    requires { ⌜ (Sound s) × Settled (stand .side) × Fits (stand .inlet) (now body) × (stand .over ≡ false) ⌝ }
+    requires { ⌜ (mostBody ≤ length (now body)) × (pieceRoom ≤ length (now out)) ⌝ }
+    ensures { λ r. ⌜ Eats s stand (now (body .entry)) (now (out .entry)) (now (bytes .entry)) r (now (body .exit)) (now (out .exit)) ⌝ }
 {
     let mut tanks = s;
-    let mut reader = stand.reader;
+    let mut side = stand.side;
+    let mut inlet = stand.inlet;
     let mut at = stand.at;
     let mut from = 0;
     while from < bytes.len() {
-        let f = script::feed(reader, bytes, from);
-        from = f.at;
-        reader = f.reader;
-        let e = f.event;
+        let t = script::take(inlet, bytes, from, body);
+        from = t.at;
+        inlet = t.inlet;
+        let e = t.event;
         match e {
             Event::Nothing => {}
             Event::Bad => {
+                let reader = inlet.reader;
                 let k = put_bad(out, at, reader);
-                return standing(tanks, reader, k, true);
+                return standing(tanks, inlet, side, k, true);
             }
             Event::Call => {
-                let call = f.call;
+                let call = t.call;
                 let op = call.op;
                 match op {
                     Op::Nothing => {}
                     Op::Change(e) => {
                         let d = change(tanks, e, call, out, at);
-                        let next = d.tanks;
-                        tanks = next;
+                        let changed = d.tanks;
+                        tanks = changed;
                         at = d.at;
                     }
                     Op::Question(q) => {
@@ -176,77 +266,113 @@ fn eat(bytes: &[u8], s: Tanks, stand: Stand, out: &mut [u8]) -> Eaten
                     Op::Listing(l) => {
                         at = listed(tanks, l, call, out, at);
                     }
+                    Op::Text(x) => {
+                        let size = t.size;
+                        let d = take_text(tanks, side, x, call, &body[..size], out, at);
+                        let next = d.tanks;
+                        tanks = next;
+                        let kept = d.side;
+                        side = kept;
+                        at = d.at;
+                    }
+                    Op::Desk(k) => {
+                        let d = at_desk(side, k, call, out, at);
+                        let kept = d.side;
+                        side = kept;
+                        at = d.at;
+                    }
+                    Op::Both(b) => {
+                        let d = on_both(tanks, side, b, call, out, at);
+                        let next = d.tanks;
+                        tanks = next;
+                        let kept = d.side;
+                        side = kept;
+                        at = d.at;
+                    }
                 }
             }
         }
     }
-    standing(tanks, reader, at, false)
+    standing(tanks, inlet, side, at, false)
 }
 
-// The end of the input: in the middle of a line or a group it is a bad line.
-fn closed(s: Tanks, stand: Stand, out: &mut [u8]) -> Eaten
-    requires { ⌜ (Sound s) × (stand .over ≡ false) ⌝ }
+// The end of the input: in the middle of a line, a group or a body it is a bad line.
+fn closed(s: Tanks, stand: Stand, body: &[u8], out: &mut [u8]) -> Eaten
+    requires { ⌜ (Sound s) × Settled (stand .side) × Fits (stand .inlet) (now body) × (stand .over ≡ false) ⌝ }
     requires { ⌜ pieceRoom ≤ length (now out) ⌝ }
-    ensures { λ r. ⌜ Closes s stand (now (out .entry)) r (now (out .exit)) ⌝ }
+    ensures { λ r. ⌜ Closes s stand (now (body .entry)) (now (out .entry)) r (now (out .exit)) ⌝ }
 {
-    let r = stand.reader;
-    let e = script::ended(r);
+    let inlet = stand.inlet;
+    let side = stand.side;
+    let e = script::inlet_ended(inlet);
     match e {
-        Ending::Clean => standing(s, r, stand.at, true),
+        Ending::Clean => standing(s, inlet, side, stand.at, true),
         Ending::Cut => {
+            let r = inlet.reader;
             let k = put_bad(out, stand.at, r);
-            standing(s, r, k, true)
+            standing(s, inlet, side, k, true)
         }
     }
 }
 
 // One read from standard input.
-fn turn(s: Tanks, stand: Stand, out: &mut [u8]) -> Eaten
-    requires { ⌜ (Sound s) × (stand .over ≡ false) ⌝ }
-    requires { ⌜ pieceRoom ≤ length (now out) ⌝ }
-    ensures { λ r. ⌜ Reads s stand (now (out .entry)) r (now (out .exit)) ⌝ }
+fn turn(s: Tanks, stand: Stand, body: &mut [u8], out: &mut [u8]) -> Eaten
+    requires { ⌜ (Sound s) × Settled (stand .side) × Fits (stand .inlet) (now body) × (stand .over ≡ false) ⌝ }
+    requires { ⌜ (mostBody ≤ length (now body)) × (pieceRoom ≤ length (now out)) ⌝ }
+    ensures { λ r. ⌜ Reads s stand (now (body .entry)) (now (out .entry)) r (now (body .exit)) (now (out .exit)) ⌝ }
 {
     let mut buf = io::large_buffer();
     let got = libc::read(0, &mut buf);
     let n = io::count(got, &buf);
     if n == 0 {
-        return closed(s, stand, out);
+        return closed(s, stand, body, out);
     }
-    eat(&buf[..n], s, stand, out)
+    eat(&buf[..n], s, stand, body, out)
 }
 
 // All of the input: the count of turns is one that no run uses up. The answers to what was read are written before more is read.
-fn all(s: Tanks, first: Reader, out: &mut [u8]) -> Eaten
-    requires { ⌜ Sound s ⌝ }
-    requires { ⌜ pieceRoom ≤ length (now out) ⌝ }
-    ensures { λ r. ⌜ Runs s first (now (out .entry)) r (now (out .exit)) ⌝ }
+fn all(s: Tanks, first: Inlet, kept: Side, body: &mut [u8], out: &mut [u8]) -> Eaten
+    requires { ⌜ (Sound s) × Settled kept × Fits first (now body) ⌝ }
+    requires { ⌜ (mostBody ≤ length (now body)) × (pieceRoom ≤ length (now out)) ⌝ }
+    ensures { λ r. ⌜ Runs s first kept (now (body .entry)) (now (out .entry)) r (now (body .exit)) (now (out .exit)) ⌝ }
 {
     let mut tanks = s;
-    let mut reader = first;
+    let mut inlet = first;
+    let mut side = kept;
     let mut turns: u64 = 18446744073709551615;
     while turns > 0 {
-        let e = turn(tanks, fresh(reader), out);
+        let e = turn(tanks, fresh(inlet, side), body, out);
         let next = e.tanks;
         tanks = next;
         let after = e.stand;
         script::emit(out, after.at);
-        let more = after.reader;
-        reader = more;
+        let more = after.inlet;
+        inlet = more;
+        let keeps = after.side;
+        side = keeps;
         if after.over {
-            return standing(tanks, reader, 0, true);
+            return standing(tanks, inlet, side, 0, true);
         }
         turns -= 1;
     }
-    standing(tanks, reader, 0, false)
+    standing(tanks, inlet, side, 0, false)
+}
+
+// Room for the body of a call.
+fn body_room() -> [u8; 131072]
+    ensures { λ r. ⌜ mostBody ≡ length r ⌝ }
+{
+    [0; 131072]
 }
 
 // Reads calls from standard input to its end, and writes their answers to standard output; answers where that led. Before
-// the first `open` the state is that of eight pairs (1, 1).
+// the first `open` the state is that of eight pairs (1, 1), and nothing is kept beside it.
 pub fn run() -> Eaten
     ensures { λ r. ⌜ RunsWhole r ⌝ }
 {
+    let mut body = body_room();
     let mut out = io::large_buffer();
     let o = tanks::open([Setting { share: 1, limit: 1 }; 8]);
     let s = o.tanks;
-    all(s, script::begin(), &mut out)
+    all(s, script::begin_inlet(), empty(), &mut body, &mut out)
 }

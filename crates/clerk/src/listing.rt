@@ -3,7 +3,6 @@ ghost use mathlib.Core.Path.{_≡_};
 ghost use Prim.Native.Nat.{_≤_, min};
 ghost use lib.ListN.{length, take};
 ghost use Rattle.script.specs.declared.Listing as listings;
-ghost use Rattle.script.specs.declared.Op as ops;
 ghost use Rattle.script.specs.Args.{numberAt};
 ghost use Rattle.tank.specs.State as state;
 ghost use Rattle.tanks.specs.House.{tankAt};
@@ -11,7 +10,7 @@ ghost use Rattle.tanks.specs.Pool.{Sound, meaning};
 ghost use Rattle.lists.specs.Anchors.{anchors, Stands, rest};
 ghost use Rattle.answers.specs.Waiting.{Adds, pieceRoom};
 ghost use Rattle.answers.specs.Replies.{anchorsSay};
-ghost use Rattle.clerk.specs.Calls.{saysOf, wholeSays, allAnchorsSay};
+ghost use Rattle.clerk.specs.Calls.{listingSays, wholeSays, allAnchorsSay};
 use answers::put_anchor;
 use answers::put_list;
 use answers::put_needed;
@@ -37,7 +36,7 @@ fn places(room: u64) -> usize
 fn range_in(s: Tanks, call: Call, part: &mut [u64], out: &mut [u8], at: usize) -> usize
     requires { ⌜ Sound s ⌝ }
     requires { ⌜ (length (now part) ≡ min (numberAt call 3) 1536) × (pieceRoom ≤ length (now out)) ⌝ }
-    ensures { λ r. ⌜ Adds (now (out .entry)) at (saysOf (ops.Op.Listing listings.Listing.Stretches) (meaning s) call) r (now (out .exit)) ⌝ }
+    ensures { λ r. ⌜ Adds (now (out .entry)) at (listingSays listings.Listing.Stretches (meaning s) call) r (now (out .exit)) ⌝ }
 {
     let n = call.numbers;
     let l = ask::list_range(s, n[0], n[1], n[2], part);
@@ -47,7 +46,7 @@ fn range_in(s: Tanks, call: Call, part: &mut [u64], out: &mut [u8], at: usize) -
 fn range_of(s: Tanks, call: Call, buf: &mut [u64], out: &mut [u8], at: usize) -> usize
     requires { ⌜ Sound s ⌝ }
     requires { ⌜ (1536 ≤ length (now buf)) × (pieceRoom ≤ length (now out)) ⌝ }
-    ensures { λ r. ⌜ Adds (now (out .entry)) at (saysOf (ops.Op.Listing listings.Listing.Stretches) (meaning s) call) r (now (out .exit)) ⌝ }
+    ensures { λ r. ⌜ Adds (now (out .entry)) at (listingSays listings.Listing.Stretches (meaning s) call) r (now (out .exit)) ⌝ }
 {
     let n = call.numbers;
     let k = places(n[3]);
@@ -57,7 +56,7 @@ fn range_of(s: Tanks, call: Call, buf: &mut [u64], out: &mut [u8], at: usize) ->
 pub fn stretches(s: Tanks, call: Call, out: &mut [u8], at: usize) -> usize
     requires { ⌜ Sound s ⌝ }
     requires { ⌜ pieceRoom ≤ length (now out) ⌝ }
-    ensures { λ r. ⌜ Adds (now (out .entry)) at (saysOf (ops.Op.Listing listings.Listing.Stretches) (meaning s) call) r (now (out .exit)) ⌝ }
+    ensures { λ r. ⌜ Adds (now (out .entry)) at (listingSays listings.Listing.Stretches (meaning s) call) r (now (out .exit)) ⌝ }
 {
     let mut buf = [0u64; 1536];
     range_of(s, call, &mut buf, out, at)
@@ -66,7 +65,7 @@ pub fn stretches(s: Tanks, call: Call, out: &mut [u8], at: usize) -> usize
 pub fn stretches_needed(s: Tanks, call: Call, out: &mut [u8], at: usize) -> usize
     requires { ⌜ Sound s ⌝ }
     requires { ⌜ pieceRoom ≤ length (now out) ⌝ }
-    ensures { λ r. ⌜ Adds (now (out .entry)) at (saysOf (ops.Op.Listing listings.Listing.StretchesNeeded) (meaning s) call) r (now (out .exit)) ⌝ }
+    ensures { λ r. ⌜ Adds (now (out .entry)) at (listingSays listings.Listing.StretchesNeeded (meaning s) call) r (now (out .exit)) ⌝ }
 {
     let n = call.numbers;
     put_needed(out, at, ask::stretches_needed(s, n[0], n[1], n[2]))
@@ -104,7 +103,7 @@ pub fn whole(s: Tanks, tank: u64, room: u64, out: &mut [u8], at: usize) -> usize
 pub fn whole_needed(s: Tanks, call: Call, out: &mut [u8], at: usize) -> usize
     requires { ⌜ Sound s ⌝ }
     requires { ⌜ pieceRoom ≤ length (now out) ⌝ }
-    ensures { λ r. ⌜ Adds (now (out .entry)) at (saysOf (ops.Op.Listing listings.Listing.WholeNeeded) (meaning s) call) r (now (out .exit)) ⌝ }
+    ensures { λ r. ⌜ Adds (now (out .entry)) at (listingSays listings.Listing.WholeNeeded (meaning s) call) r (now (out .exit)) ⌝ }
 {
     let n = call.numbers;
     put_needed(out, at, ask::whole_needed(s, n[0]))
@@ -146,7 +145,7 @@ fn all_anchors(s: Tanks, tank: u64, count: usize, out: &mut [u8], at: usize) -> 
 pub fn anchors(s: Tanks, call: Call, out: &mut [u8], at: usize) -> usize
     requires { ⌜ Sound s ⌝ }
     requires { ⌜ pieceRoom ≤ length (now out) ⌝ }
-    ensures { λ r. ⌜ Adds (now (out .entry)) at (saysOf (ops.Op.Listing listings.Listing.Anchors) (meaning s) call) r (now (out .exit)) ⌝ }
+    ensures { λ r. ⌜ Adds (now (out .entry)) at (listingSays listings.Listing.Anchors (meaning s) call) r (now (out .exit)) ⌝ }
 {
     let n = call.numbers;
     let tank = n[0];

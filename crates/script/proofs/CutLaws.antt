@@ -16,7 +16,7 @@ use Rattle.script.specs.declared.Line.{Line}
 use Rattle.script.specs.Lines.{lineFront, heldOf, Keeps, holding, grownOf, pastLine, cutOf}
 
 -- ---- what is kept
-take-min : {A : Type 0} (n m : ℕ) (l : List A) → length l ≤ m → take (min n m) l ≡ take n l
+pub take-min : {A : Type 0} (n m : ℕ) (l : List A) → length l ≤ m → take (min n m) l ≡ take n l
 take-min n m l h =
     elim (decLt n m) [
       | yes k ↦ let e : min n m ≡ n = omega arith in ap (λ (j : ℕ). take j l) e

@@ -5,4 +5,6 @@ pub mod PutLaws
 pub mod Exact
 pub mod CutAnywhere
 pub mod Unique
+pub mod BodyLaws
+pub mod Folded
 pub mod Tests

@@ -3,10 +3,13 @@ use mathlib.Core.List.{List, [], _∷_, _++_}
 use Prim.Native.Nat.{ℕ, _+_, _-_, _^_}
 use Prim.Native.String.{String}
 use lib.ListN.{length, getD, take, replicate}
+use Rattle.script.specs.declared.Both.{Both}
 use Rattle.script.specs.declared.Change.{Change}
+use Rattle.script.specs.declared.Desk.{Desk}
 use Rattle.script.specs.declared.Listing.{Listing}
 use Rattle.script.specs.declared.Op.{Op}
 use Rattle.script.specs.declared.Question.{Question}
+use Rattle.script.specs.declared.Text.{Text}
 use Rattle.script.specs.declared.Progress.{Progress}
 use Rattle.script.specs.declared.Holds.{Holds}
 use Rattle.script.specs.declared.Kind.{Kind}
@@ -95,6 +98,18 @@ before = number "before" 64
 abbrev pub budget : Field
 budget = number "budget" 64
 
+-- the most bytes that the body of a call may have
+abbrev pub mostBody : ℕ
+mostBody = 131072
+
+-- how many bytes of a body follow its line
+abbrev pub bodySize : Field
+bodySize = field "bytes" (Holds.Number mostBody)
+
+-- which of the kept sets of settings is meant
+abbrev pub setNumber : Field
+setNumber = number "number" 64
+
 -- a share and a limit for each of the eight tanks
 abbrev pub settings : List Field
 settings =
@@ -124,6 +139,18 @@ question q = row (Op.Question q)
 abbrev pub listing : Listing → String → List Field → OpRow
 listing l = row (Op.Listing l)
 
+-- of one that brings a text, as the body behind its line
+abbrev pub text : Text → String → List Field → OpRow
+text x = row (Op.Text x)
+
+-- of one that has to do with what is kept beside the tanks alone
+abbrev pub desk : Desk → String → List Field → OpRow
+desk d = row (Op.Desk d)
+
+-- of one that has to do with that and the tanks
+abbrev pub both : Both → String → List Field → OpRow
+both b = row (Op.Both b)
+
 -- the ops that a script can name
 abbrev pub ops : List OpRow
 ops =
@@ -150,6 +177,9 @@ ops =
     listing Listing.Anchors "anchors" (tank ∷ room ∷ []) ∷
     question Question.Find "find" (tank ∷ at ∷ []) ∷
     change Change.Age "age" (tank ∷ before ∷ budget ∷ []) ∷
+    text Text.Settings "settings" (bodySize ∷ []) ∷
+    desk Desk.Set "set" (setNumber ∷ []) ∷
+    both Both.OpenSet "open_set" (setNumber ∷ []) ∷
     []
 
 -- between two groups there is no op, and the line that names one is to come

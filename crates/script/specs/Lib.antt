@@ -3,4 +3,5 @@ pub mod Reading
 pub mod Lines
 pub mod Cells
 pub mod Args
+pub mod Bodies
 pub mod Writing

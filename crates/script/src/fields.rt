@@ -3,12 +3,15 @@ ghost use mathlib.Core.Path.{_≡_};
 ghost use Prim.Native.Nat.{_<_};
 ghost use Rattle.script.specs.Grammar.{rowAt, fieldAt, progressOf};
 ghost use Rattle.script.specs.Cells.{fieldOf, Letters};
+use super::Both;
 use super::Change;
+use super::Desk;
 use super::Holds;
 use super::Listing;
 use super::Op;
 use super::Progress;
 use super::Question;
+use super::Text;
 use super::lines::least;
 use super::names::OPS;
 use super::names::field_spot;
@@ -45,6 +48,9 @@ pub fn op_at(row: usize) -> Op
         Op::Listing(Listing::Anchors),
         Op::Question(Question::Find),
         Op::Change(Change::Age),
+        Op::Text(Text::Settings),
+        Op::Desk(Desk::Set),
+        Op::Both(Both::OpenSet),
         Op::Nothing,
     ];
     all[least(row, OPS)]
@@ -64,7 +70,7 @@ pub fn field_at(row: usize, place: usize) -> u8
 {
     if place < 16 {
         let all =
-            b"O///////////////0123456789:;<=>?TSEKLPFCV///////TAN/////////////TSE/////////////TKLPZ///////////T///////////////T///////////////T///////////////TAK/////////////TSEK////////////TSEKCV//////////TSE/////////////TA//////////////TA//////////////TAR/////////////TAR/////////////TSEM////////////TSE/////////////TM//////////////T///////////////TM//////////////TA//////////////TJQ/////////////////////////////";
+            b"O///////////////0123456789:;<=>?TSEKLPFCV///////TAN/////////////TSE/////////////TKLPZ///////////T///////////////T///////////////T///////////////TAK/////////////TSEK////////////TSEKCV//////////TSE/////////////TA//////////////TA//////////////TAR/////////////TAR/////////////TSEM////////////TSE/////////////TM//////////////T///////////////TM//////////////TA//////////////TJQ/////////////B///////////////U///////////////U///////////////////////////////";
         return letter_in(all, row, place);
     }
     b'/'
@@ -96,7 +102,7 @@ pub fn field_holds(f: u8) -> Holds
         wide,
         none,
         wide,
-        none,
+        Holds::Number(131072),
         Holds::Kind,
         none,
         wide,
@@ -115,7 +121,7 @@ pub fn field_holds(f: u8) -> Holds
         wide,
         wide,
         wide,
-        none,
+        wide,
         Holds::Value,
         none,
         none,

@@ -1,17 +1,22 @@
 // Call scripts: bytes in, calls and answers out.
 //
-// `feed` takes bytes as they come, however they are cut, and answers with a call when a group's last line has ended.
+// `take` takes bytes as they come, however they are cut, and answers with a call when a group's last line has ended, or the body
+// behind it. `feed` does the same for scripts of lines alone.
 mod names; // names.rt: the names of ops, fields and kinds
 mod fields; // fields.rt: which fields an op has
 mod reading; // reading.rt: what a line gives to a call
 mod args; // args.rt: marks and identities of calls
 mod lines; // lines.rt: bytes to lines, lines to calls
+mod bodies; // bodies.rt: bodies between the lines
 mod values; // values.rt: f64s and their bits
 mod writing; // writing.rt: answers
 
 pub use args::identity_of;
 pub use args::key_of;
 pub use args::mark_of;
+pub use bodies::begin_inlet;
+pub use bodies::inlet_ended;
+pub use bodies::take;
 pub use fields::field_at;
 pub use fields::field_holds;
 pub use lines::begin;
@@ -68,12 +73,30 @@ pub enum Listing {
     Anchors,
 }
 
+// Ops that bring a text, as the body behind their line.
+pub enum Text {
+    Settings,
+}
+
+// Ops that have to do with what is kept beside the tanks alone.
+pub enum Desk {
+    Set,
+}
+
+// Ops that have to do with that and with the tanks.
+pub enum Both {
+    OpenSet,
+}
+
 // An op, by what it does; Nothing stands for the time between two groups.
 pub enum Op {
     Nothing,
     Change(Change),
     Question(Question),
     Listing(Listing),
+    Text(Text),
+    Desk(Desk),
+    Both(Both),
 }
 
 // A name of at most 16 bytes.
@@ -179,7 +202,26 @@ pub struct Fed {
     pub at: usize,
 }
 
-// How an input ends: between two groups, or in the middle of a line or a group.
+// Where a script with bodies stands: the reader of its lines, and, within a body, the call that it belongs to, how many of its
+// bytes have come, and how many are left. The bytes themselves lie in memory that is lent.
+pub struct Inlet {
+    pub reader: Reader,
+    pub call: Call,
+    pub have: usize,
+    pub left: usize,
+}
+
+// An inlet that has taken bytes, what they brought, the call where they brought one, how long its body is, and the place
+// behind them.
+pub struct Taken {
+    pub inlet: Inlet,
+    pub event: Event,
+    pub call: Call,
+    pub size: usize,
+    pub at: usize,
+}
+
+// How an input ends: between two groups, or in the middle of a line, a group or a body.
 pub enum Ending {
     Clean,
     Cut,

@@ -80,7 +80,7 @@ fn kept_read(call: Call, line: Line) -> Read
 }
 
 // One line more, as far as 64 bits count.
-fn counted(n: u64) -> u64
+pub fn counted(n: u64) -> u64
     ensures { λ r. ⌜ r ≡ countedOf n ⌝ }
 {
     if n < 18446744073709551615 {

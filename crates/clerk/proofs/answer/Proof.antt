@@ -1,6 +1,5 @@
 -- By the op.
 use borrow.Author.Needs.{needs}
-use Rattle.clerk.specs.Calls.{saysOf}
 use Rattle.clerk.proofs.Performing.{as-answer}
 use Rattle.clerk.proofs.answer.Statement.{statement}
 use Rattle.clerk.proofs.answer.Tie as tie

@@ -1,6 +1,5 @@
 -- By the op.
 use borrow.Author.Needs.{needs}
-use Rattle.clerk.specs.Calls.{saysOf}
 use Rattle.clerk.proofs.Performing.{as-change}
 use Rattle.clerk.proofs.change.Statement.{statement}
 use Rattle.clerk.proofs.change.Tie as tie

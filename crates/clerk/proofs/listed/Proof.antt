@@ -1,6 +1,6 @@
 -- By the op.
 use borrow.Author.Needs.{needs}
-use Rattle.clerk.specs.Calls.{saysOf}
+use Rattle.clerk.specs.Calls.{listingSays}
 use Rattle.clerk.proofs.Performing.{as-listed}
 use Rattle.clerk.proofs.listed.Statement.{statement}
 use Rattle.clerk.proofs.listed.Tie as tie
@@ -12,7 +12,7 @@ returns-2 : tie.Need-returns-2
 returns-2 c = as-listed _ _ (c .before .before .before .before .enum-told2 .given .1) (c .before .before .stretches-needed .ensures)
 
 returns-3 : tie.Need-returns-3
-unfolding saysOf
+unfolding listingSays
 returns-3 c = as-listed _ _ (c .before .before .before .before .enum-told3 .given .1) (c .before .before .whole .ensures)
 
 returns-4 : tie.Need-returns-4

@@ -12,7 +12,7 @@ slice-aggregate-eat : tie.Need-slice-aggregate-eat
 slice-aggregate-eat c = search needs
 
 returns-2 : tie.Need-returns-2
-returns-2 c = reads-some (λ e. c .before .before .before .before .before .if1 .left (slice-aggregate-eat (c .before .before .before .before) ∙ e)) (c .before .before .eat .ensures)
+returns-2 c = reads-some (λ e. c .before .before .before .before .before .before .before .before .if1 .left (slice-aggregate-eat (c .before .before .before .before .before .before .before) ∙ e)) (c .before .before .before .before .eat .ensures)
 
 pub turn-spec : {M : Type 1} → statement M
-turn-spec = tie.close (tie.spec (λ c κs. search needs) (λ c. search needs) (λ c κs. search needs) (λ c. search needs) (λ c κs. search needs) (λ c κs. search needs) (λ c. search needs) returns (λ c. search needs) slice-aggregate-eat (λ c κs. search needs) (λ c. search needs) returns-2)
+turn-spec = tie.close (tie.spec (λ c κs. search needs) (λ c. search needs) (λ c κs. search needs) (λ c. search needs) (λ c κs. search needs) (λ c κs. search needs) (λ c. search needs) (λ c. search needs) returns (λ c. search needs) slice-aggregate-eat (λ c κs. search needs) (λ c. search needs) (λ c. search needs) returns-2)

@@ -5,14 +5,14 @@ use mathlib.Core.Path.{ap, _∙_}
 use Rattle.answers.proofs.Laws.{adds-as}
 use Rattle.answers.specs.Replies.{toldSays}
 use Rattle.ask.specs.Asks.{allValueAsked}
-use Rattle.clerk.specs.Calls.{saysOf}
+use Rattle.clerk.specs.Calls.{answerSays}
 use Rattle.script.specs.Args.{numberAt}
 use Rattle.tanks.specs.Pool.{meaning}
 use Rattle.clerk.proofs.asking.all_value.Statement.{statement}
 use Rattle.clerk.proofs.asking.all_value.Tie as tie
 
 returns : tie.Need-returns
-unfolding saysOf
+unfolding answerSays
 returns c =
     let a = c .before .before .before .before .before .before .before .before .args in
     adds-as (ap toldSays (c .before .before .before .before .range-has-key-value .ensures ∙ ap (λ (k : ℕ). allValueAsked (meaning (a .s)) (numberAt (a .call) 0) (numberAt (a .call) 1) (numberAt (a .call) 2) k (a .call .value)) (c .before .before .before .before .before .key-of .ensures))) (c .before .before .put-told .ensures)

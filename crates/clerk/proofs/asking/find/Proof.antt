@@ -3,12 +3,12 @@ use borrow.Author.Needs.{needs}
 use mathlib.Core.Path.{ap}
 use Rattle.answers.proofs.Laws.{adds-as}
 use Rattle.answers.specs.Replies.{extentSays}
-use Rattle.clerk.specs.Calls.{saysOf}
+use Rattle.clerk.specs.Calls.{answerSays}
 use Rattle.clerk.proofs.asking.find.Statement.{statement}
 use Rattle.clerk.proofs.asking.find.Tie as tie
 
 returns : tie.Need-returns
-unfolding saysOf
+unfolding answerSays
 returns c = adds-as (ap extentSays (c .before .before .before .stretch-at .ensures)) (c .before .before .put-extent .ensures)
 
 pub find-spec : {M : Type 1} → statement M

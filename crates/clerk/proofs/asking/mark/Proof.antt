@@ -3,12 +3,12 @@ use borrow.Author.Needs.{needs}
 use mathlib.Core.Path.{ap}
 use Rattle.answers.proofs.Laws.{adds-as}
 use Rattle.answers.specs.Replies.{askedSays}
-use Rattle.clerk.specs.Calls.{saysOf}
+use Rattle.clerk.specs.Calls.{answerSays}
 use Rattle.clerk.proofs.asking.mark.Statement.{statement}
 use Rattle.clerk.proofs.asking.mark.Tie as tie
 
 returns : tie.Need-returns
-unfolding saysOf
+unfolding answerSays
 returns c = adds-as (ap askedSays (c .before .before .before .style-at .ensures)) (c .before .before .put-asked .ensures)
 
 pub mark-spec : {M : Type 1} → statement M

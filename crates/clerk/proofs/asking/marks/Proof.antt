@@ -3,12 +3,12 @@ use borrow.Author.Needs.{needs}
 use mathlib.Core.Path.{ap}
 use Rattle.answers.proofs.Laws.{adds-as}
 use Rattle.answers.specs.Replies.{setSays}
-use Rattle.clerk.specs.Calls.{saysOf}
+use Rattle.clerk.specs.Calls.{answerSays}
 use Rattle.clerk.proofs.asking.marks.Statement.{statement}
 use Rattle.clerk.proofs.asking.marks.Tie as tie
 
 returns : tie.Need-returns
-unfolding saysOf
+unfolding answerSays
 returns c = adds-as (ap setSays (c .before .before .before .styles-at .ensures)) (c .before .before .put-set-asked .ensures)
 
 pub marks-spec : {M : Type 1} → statement M

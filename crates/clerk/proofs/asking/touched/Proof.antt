@@ -3,12 +3,12 @@ use borrow.Author.Needs.{needs}
 use mathlib.Core.Path.{ap}
 use Rattle.answers.proofs.Laws.{adds-as}
 use Rattle.answers.specs.Replies.{touchedSays}
-use Rattle.clerk.specs.Calls.{saysOf}
+use Rattle.clerk.specs.Calls.{answerSays}
 use Rattle.clerk.proofs.asking.touched.Statement.{statement}
 use Rattle.clerk.proofs.asking.touched.Tie as tie
 
 returns : tie.Need-returns
-unfolding saysOf
+unfolding answerSays
 returns c = adds-as (ap touchedSays (c .before .before .before .has-style .ensures)) (c .before .before .put-touched .ensures)
 
 pub touched-spec : {M : Type 1} → statement M

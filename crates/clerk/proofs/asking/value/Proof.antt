@@ -4,14 +4,14 @@ use mathlib.Core.Path.{ap, _∙_}
 use Rattle.answers.proofs.Laws.{adds-as}
 use Rattle.answers.specs.Replies.{shownSays}
 use Rattle.ask.specs.Asks.{valueAsked}
-use Rattle.clerk.specs.Calls.{saysOf}
+use Rattle.clerk.specs.Calls.{answerSays}
 use Rattle.script.specs.Args.{numberAt}
 use Rattle.tanks.specs.Pool.{meaning}
 use Rattle.clerk.proofs.asking.value.Statement.{statement}
 use Rattle.clerk.proofs.asking.value.Tie as tie
 
 returns : tie.Need-returns
-unfolding saysOf
+unfolding answerSays
 returns c =
     let a = c .before .before .before .before .before .before .before .before .args in
     adds-as (ap shownSays (c .before .before .before .value-at .ensures ∙ ap (valueAsked (meaning (a .s)) (numberAt (a .call) 0) (numberAt (a .call) 1)) (c .before .before .before .before .key-of .ensures))) (c .before .before .put-shown .ensures)

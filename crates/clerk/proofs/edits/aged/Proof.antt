@@ -4,7 +4,7 @@ use mathlib.Core.Path.{_≡_}
 use Prim.Native.Nat.{ℕ}
 use Rattle.answers.proofs.Laws.{adds-as}
 use Rattle.answers.specs.Replies.{agedSays}
-use Rattle.clerk.specs.Calls.{afterOp, saysOf}
+use Rattle.clerk.specs.Calls.{changed, changeSays}
 use Rattle.clerk.proofs.edits.aged.Statement.{statement}
 use Rattle.clerk.proofs.edits.aged.Tie as tie
 
@@ -12,7 +12,7 @@ same-answer : {n n′ d d′ r r′ : ℕ} → n ≡ n′ → d ≡ d′ → r �
 same-answer e f g = λ i. agedSays (e i) (f i) (g i)
 
 returns : tie.Need-returns
-unfolding afterOp saysOf
+unfolding changed changeSays
 returns c =
     let a = c .before .before .before .before .before .age .ensures in
     record { sound = a .sound; is = a .is; answer = adds-as (same-answer (a .number-is) (a .dropped-is) (a .remaining-is)) (c .before .before .aged-or .ensures) }

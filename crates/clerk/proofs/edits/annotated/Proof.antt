@@ -3,7 +3,7 @@ use borrow.Author.Needs.{needs}
 use mathlib.Core.Path.{ap, subst}
 use Rattle.answers.proofs.Laws.{adds-as}
 use Rattle.answers.specs.Replies.{acceptedSays}
-use Rattle.clerk.specs.Calls.{afterOp, saysOf}
+use Rattle.clerk.specs.Calls.{changed, changeSays}
 use Rattle.script.specs.Args.{numberAt}
 use Rattle.styles.specs.declared.Mark.{Mark}
 use Rattle.tank.specs.Rules.{annotating}
@@ -12,7 +12,7 @@ use Rattle.clerk.proofs.edits.annotated.Statement.{statement}
 use Rattle.clerk.proofs.edits.annotated.Tie as tie
 
 returns : tie.Need-returns
-unfolding afterOp saysOf
+unfolding changed changeSays
 returns c =
     let a = c .before .before .before .before .before .before .before .before .before .args in
     let e = c .before .before .before .before .before in

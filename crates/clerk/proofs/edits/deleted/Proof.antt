@@ -3,12 +3,12 @@ use borrow.Author.Needs.{needs}
 use mathlib.Core.Path.{ap}
 use Rattle.answers.proofs.Laws.{adds-as}
 use Rattle.answers.specs.Replies.{acceptedSays}
-use Rattle.clerk.specs.Calls.{afterOp, saysOf}
+use Rattle.clerk.specs.Calls.{changed, changeSays}
 use Rattle.clerk.proofs.edits.deleted.Statement.{statement}
 use Rattle.clerk.proofs.edits.deleted.Tie as tie
 
 returns : tie.Need-returns
-unfolding afterOp saysOf
+unfolding changed changeSays
 returns c =
     let called = c .before .before .before .before .before .delete .ensures in
     record { sound = called .sound; is = called .is; answer = adds-as (ap acceptedSays (called .number-is)) (c .before .before .accept .ensures) }

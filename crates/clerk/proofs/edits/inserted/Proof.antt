@@ -4,13 +4,13 @@ use borrow.Author.Needs.{needs}
 use mathlib.Core.Path.{ap₂}
 use Rattle.answers.proofs.Laws.{adds-as}
 use Rattle.answers.specs.Replies.{orRefused, stylesSay}
-use Rattle.clerk.specs.Calls.{afterOp, saysOf}
+use Rattle.clerk.specs.Calls.{changed, changeSays}
 use Rattle.styles.specs.declared.Styles.{Styles}
 use Rattle.clerk.proofs.edits.inserted.Statement.{statement}
 use Rattle.clerk.proofs.edits.inserted.Tie as tie
 
 returns : tie.Need-returns
-unfolding afterOp saysOf
+unfolding changed changeSays
 returns c =
     let e = c .before .before .before .before .before .before .insert .ensures in
     record { sound = e .0 .sound; is = e .0 .is; answer = adds-as (ap₂ (λ (n : ℕ) (m : Styles). orRefused n (stylesSay m)) (e .0 .number-is) (e .1)) (c .before .before .set-or .ensures) }

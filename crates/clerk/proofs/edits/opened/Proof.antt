@@ -4,14 +4,14 @@ use mathlib.Core.List.{List}
 use mathlib.Core.Path.{ap, subst}
 use Rattle.answers.proofs.Laws.{adds-as}
 use Rattle.answers.specs.Replies.{acceptedSays}
-use Rattle.clerk.specs.Calls.{afterOp, saysOf}
+use Rattle.clerk.specs.Calls.{changed, changeSays}
 use Rattle.tanks.specs.Contracts.{Opens}
 use Rattle.tanks.specs.declared.Setting.{Setting}
 use Rattle.clerk.proofs.edits.opened.Statement.{statement}
 use Rattle.clerk.proofs.edits.opened.Tie as tie
 
 returns : tie.Need-returns
-unfolding afterOp saysOf
+unfolding changed changeSays
 returns c =
     let e = c .before .before .before .before .before in
     let opens = subst (λ (st : List Setting). Opens st (e .«open» .result)) (e .before .settings .ensures) (e .«open» .ensures) in

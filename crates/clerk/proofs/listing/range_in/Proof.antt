@@ -4,7 +4,7 @@ use lib.ListN.{length}
 use mathlib.Core.Path.{refl}
 use Rattle.answers.proofs.Laws.{adds-as}
 use Rattle.clerk.proofs.Lists.{range-room, list-said, list-inside}
-use Rattle.clerk.specs.Calls.{tankFor, startIn, endIn, saysOf}
+use Rattle.clerk.specs.Calls.{tankFor, startIn, endIn, listingSays}
 use Rattle.lists.specs.Lists.{rangeNumber, rangeList}
 use Rattle.script.specs.Args.{numberAt}
 use Rattle.tanks.specs.Pool.{meaning}
@@ -19,7 +19,7 @@ put-list-requires c κs =
     (search needs, list-inside (meaning (a .s)) (tankFor (a .call)) lent lent (rangeList (startIn (a .call)) (endIn (a .call))) (λ k. refl) (a .part .now) _ _ (c .before .before .before .before .list-range .ensures))
 
 returns : tie.Need-returns
-unfolding saysOf
+unfolding listingSays
 returns c =
     let s = c .before .before .before .before .before .before .before .before .before .before .before .before in
     let a = s .args in

@@ -3,12 +3,12 @@ use borrow.Author.Needs.{needs}
 use mathlib.Core.Path.{ap}
 use Rattle.answers.proofs.Laws.{adds-as}
 use Rattle.answers.specs.Replies.{neededSays}
-use Rattle.clerk.specs.Calls.{saysOf}
+use Rattle.clerk.specs.Calls.{listingSays}
 use Rattle.clerk.proofs.listing.whole_needed.Statement.{statement}
 use Rattle.clerk.proofs.listing.whole_needed.Tie as tie
 
 returns : tie.Need-returns
-unfolding saysOf
+unfolding listingSays
 returns c = adds-as (ap neededSays (c .before .before .before .whole-needed .ensures)) (c .before .before .put-needed .ensures)
 
 pub whole-needed-spec : {M : Type 1} → statement M

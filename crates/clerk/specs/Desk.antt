@@ -1,0 +1,131 @@
+-- What the console keeps beside the tanks, and what the calls that have to do with it do and answer: a row for each op. Then any call.
+use mathlib.Core.Path.{_≡_}
+use mathlib.Core.Bool.{cond}
+use mathlib.Core.List.{List, [], _∷_, _++_}
+use Prim.Native.Nat.{ℕ}
+use Rattle.settings_text.specs.declared.Asked.{Asked}
+use Rattle.settings_text.specs.declared.Kept.{Kept}
+use Rattle.settings_text.specs.declared.Taken.{Taken}
+use Rattle.settings_text.specs.Kept as keeping
+use Rattle.settings_text.specs.Text as reading
+use Rattle.tanks.specs.declared.Tanks.{Tanks}
+use Rattle.tanks.specs.House.{House, openNumber, opening}
+use Rattle.tanks.specs.Pool.{meaning, Sound}
+use Rattle.script.specs.declared.Both.{Both}
+use Rattle.script.specs.declared.Call.{Call}
+use Rattle.script.specs.declared.Desk.{Desk}
+use Rattle.script.specs.declared.Op.{Op}
+use Rattle.script.specs.declared.Text.{Text}
+use Rattle.script.specs.Args.{numberAt}
+use Rattle.answers.specs.Waiting.{Pieces, Adds}
+use Rattle.answers.specs.Replies.{noneSays, acceptedSays, foundSays, takenSays}
+use Rattle.clerk.specs.declared.Moved.{Moved}
+use Rattle.clerk.specs.declared.Noted.{Noted}
+use Rattle.clerk.specs.declared.Side.{Side}
+use Rattle.clerk.specs.Calls.{changed, changeSays, answerSays, listingSays}
+
+-- ---- What is kept
+-- nothing yet
+abbrev pub emptySide : Side
+emptySide = record { sets = keeping.keptNone }
+
+-- other sets of settings
+abbrev pub withSets : Side → Kept → Side
+withSets side kept = record { sets = kept }
+
+-- it is in form
+pub record Settled (side : Side) : Type 0 where
+  pub sets : keeping.Sound (side .sets)
+
+-- ---- Calls that bring a text
+-- settings: what taking the text hands back
+abbrev pub takenFrom : Side → List ℕ → Taken
+takenFrom side body = keeping.takenOf (side .sets) (reading.settingsOf body)
+
+-- the tanks after it
+unfoldable pub textHouse : Text → House → Side → Call → List ℕ → House
+textHouse Text.Settings h side c body = h
+
+-- what is kept after it
+unfoldable pub textSide : Text → House → Side → Call → List ℕ → Side
+textSide Text.Settings h side c body = withSets side (takenFrom side body .kept)
+
+-- its answer
+unfoldable pub textSays : Text → House → Side → Call → List ℕ → Pieces
+textSays Text.Settings h side c body = takenSays (takenFrom side body)
+
+-- ---- Calls that have to do with what is kept alone
+-- the set that a call asks for
+abbrev pub setFor : Side → Call → Asked
+setFor side c = keeping.askedOf (side .sets) (numberAt c 0)
+
+-- what is kept after it
+unfoldable pub deskSide : Desk → Side → Call → Side
+deskSide Desk.Set side c = side
+
+-- its answer
+unfoldable pub deskSays : Desk → Side → Call → Pieces
+deskSays Desk.Set side c = foundSays (setFor side c)
+
+-- ---- Calls that have to do with that and with the tanks
+-- the tanks after it: those that opening with a kept set hands back, refused or not; without one they stay
+unfoldable pub bothHouse : Both → House → Side → Call → House
+bothHouse Both.OpenSet h side c = cond (setFor side c .found) (opening (setFor side c .settings)) h
+
+-- what is kept after it
+unfoldable pub bothSide : Both → House → Side → Call → Side
+bothSide Both.OpenSet h side c = side
+
+-- its answer
+unfoldable pub bothSays : Both → House → Side → Call → Pieces
+bothSays Both.OpenSet h side c = cond (setFor side c .found) (acceptedSays (openNumber (setFor side c .settings))) noneSays
+
+-- ---- Any call, with the body behind it where it has one
+-- the eight tanks after it
+unfoldable pub afterOp : Op → House → Side → Call → List ℕ → House
+afterOp Op.Nothing h side c body = h
+afterOp (Op.Change e) h side c body = changed e h c
+afterOp (Op.Question q) h side c body = h
+afterOp (Op.Listing l) h side c body = h
+afterOp (Op.Text x) h side c body = textHouse x h side c body
+afterOp (Op.Desk d) h side c body = h
+afterOp (Op.Both b) h side c body = bothHouse b h side c
+
+-- what is kept after it
+unfoldable pub sideAfter : Op → House → Side → Call → List ℕ → Side
+sideAfter Op.Nothing h side c body = side
+sideAfter (Op.Change e) h side c body = side
+sideAfter (Op.Question q) h side c body = side
+sideAfter (Op.Listing l) h side c body = side
+sideAfter (Op.Text x) h side c body = textSide x h side c body
+sideAfter (Op.Desk d) h side c body = deskSide d side c
+sideAfter (Op.Both b) h side c body = bothSide b h side c
+
+-- its answer
+unfoldable pub saysOf : Op → House → Side → Call → List ℕ → Pieces
+saysOf Op.Nothing h side c body = []
+saysOf (Op.Change e) h side c body = changeSays e h c
+saysOf (Op.Question q) h side c body = answerSays q h c
+saysOf (Op.Listing l) h side c body = listingSays l h c
+saysOf (Op.Text x) h side c body = textSays x h side c body
+saysOf (Op.Desk d) h side c body = deskSays d side c
+saysOf (Op.Both b) h side c body = bothSays b h side c
+
+-- ---- What the code hands back
+-- what is kept then, in form, and an answer behind what waits
+pub record Notes (side : Side) (says : Pieces) (buffer : List ℕ) (at : ℕ) (r : Noted) (out : List ℕ) : Type 0 where
+  pub settled : Settled (r .side)
+  pub is : r .side ≡ side
+  pub answer : Adds buffer at says (r .at) out
+
+-- the tanks too
+pub record Moves (house : House) (side : Side) (says : Pieces) (buffer : List ℕ) (at : ℕ) (r : Moved) (out : List ℕ) : Type 0 where
+  pub sound : Sound (r .tanks)
+  pub settled : Settled (r .side)
+  pub is : meaning (r .tanks) ≡ house
+  pub keeps : r .side ≡ side
+  pub answer : Adds buffer at says (r .at) out
+
+-- a call performed as one of an op
+abbrev pub Performs : Op → Tanks → Side → Call → List ℕ → List ℕ → ℕ → Moved → List ℕ → Type 0
+Performs op s side c body buffer at r out = Moves (afterOp op (meaning s) side c body) (sideAfter op (meaning s) side c body) (saysOf op (meaning s) side c body) buffer at r out

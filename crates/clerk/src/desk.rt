@@ -1,0 +1,80 @@
+// Calls that have to do with what is kept beside the tanks.
+ghost use mathlib.Core.Path.{_≡_};
+ghost use Prim.Native.Nat.{_≤_};
+ghost use lib.ListN.{length};
+ghost use Rattle.script.specs.declared.Both as boths;
+ghost use Rattle.script.specs.declared.Desk as desks;
+ghost use Rattle.tanks.specs.Pool.{Sound, meaning};
+ghost use Rattle.answers.specs.Waiting.{pieceRoom};
+ghost use Rattle.answers.specs.Replies.{takenSays};
+ghost use Rattle.clerk.specs.Desk.{Settled, withSets, takenFrom, deskSide, deskSays, bothHouse, bothSide, bothSays, Notes, Moves};
+use super::Moved;
+use super::Noted;
+use super::Side;
+use answers::accept;
+use answers::none;
+use answers::put_found;
+use answers::put_taken;
+use script::Call;
+use tanks::Tanks;
+
+// Other sets, and all else as it was: the one place where what is kept is made anew for them.
+fn with_sets(side: Side, sets: settings_text::Kept) -> Side
+    ensures { λ r. ⌜ r ≡ withSets side sets ⌝ }
+{
+    Side { sets: sets }
+}
+
+// A text of settings: it is kept where it is good.
+pub fn settings(side: Side, body: &[u8], out: &mut [u8], at: usize) -> Noted
+    requires { ⌜ Settled side ⌝ }
+    requires { ⌜ pieceRoom ≤ length (now out) ⌝ }
+    ensures { λ r. ⌜ Notes (withSets side (takenFrom side (now (body .entry)) .kept)) (takenSays (takenFrom side (now (body .entry)))) (now (out .entry)) at r (now (out .exit)) ⌝ }
+{
+    let sets = side.sets;
+    let t = sets.take(body);
+    let kept = t.kept;
+    let k = put_taken(out, at, t);
+    let next = with_sets(side, kept);
+    Noted { side: next, at: k }
+}
+
+// A set by its number.
+pub fn set(side: Side, call: Call, out: &mut [u8], at: usize) -> Noted
+    requires { ⌜ Settled side ⌝ }
+    requires { ⌜ pieceRoom ≤ length (now out) ⌝ }
+    ensures { λ r. ⌜ Notes (deskSide desks.Desk.Set side call) (deskSays desks.Desk.Set side call) (now (out .entry)) at r (now (out .exit)) ⌝ }
+{
+    let n = call.numbers;
+    let sets = side.sets;
+    let k = put_found(out, at, sets.ask(n[0]));
+    Noted { side: side, at: k }
+}
+
+// The tanks opened anew with a kept set; where it is not kept they stay as they were.
+pub fn open_set(s: Tanks, side: Side, call: Call, out: &mut [u8], at: usize) -> Moved
+    requires { ⌜ Sound s × Settled side ⌝ }
+    requires { ⌜ pieceRoom ≤ length (now out) ⌝ }
+    ensures { λ r. ⌜ Moves (bothHouse boths.Both.OpenSet (meaning s) side call) (bothSide boths.Both.OpenSet (meaning s) side call) (bothSays boths.Both.OpenSet (meaning s) side call) (now (out .entry)) at r (now (out .exit)) ⌝ }
+{
+    let n = call.numbers;
+    let sets = side.sets;
+    let a = sets.ask(n[0]);
+    if a.found {
+        let settings = a.settings;
+        let o = tanks::open(settings);
+        let t = o.tanks;
+        let k = accept(out, at, o.number);
+        return Moved {
+            tanks: t,
+            side: side,
+            at: k,
+        };
+    }
+    let k = none(out, at);
+    Moved {
+        tanks: s,
+        side: side,
+        at: k,
+    }
+}

@@ -1,0 +1,31 @@
+-- What stands behind the name is read and measured; a line that does not begin with it is wrong.
+use mathlib.Core.Path.{_≡_, sym, ap, _∙_}
+use lib.ListN.{length}
+use borrow.Author.Needs.{needs}
+use Rattle.text.specs.Number.{hexOf}
+use Rattle.text.proofs.Prefix.{starts-length, rest-part}
+use Rattle.text.specs.declared.Parsed.{Parsed}
+use Rattle.text_lines.specs.Lines.{within, at, hexFrom}
+use Rattle.text_lines.proofs.Laws.{named-here}
+use Rattle.text_lines.proofs.hex_after.Statement.{statement}
+use Rattle.text_lines.proofs.hex_after.Tie as tie
+
+sub : tie.Need-sub-hex
+sub c = starts-length _ _ (sym (c .before .starts .ensures) ∙ c .if1 .taken)
+
+part-start : tie.Need-part-hex-start
+part-start c = starts-length _ _ (sym (c .before .starts .ensures) ∙ c .if1 .taken)
+
+returns : tie.Need-returns
+returns c =
+    let a = c .before .before .before .before .before .before .before .args in
+    let t = c .before .before .before in
+    c .bounded .ensures
+    ∙ ap (λ (p : Parsed). at (a .place) (within (a .least) (a .most) p)) (c .before .hex .ensures ∙ ap hexOf (rest-part (length (a .name .now)) (a .line .now)))
+    ∙ ap (at (a .place)) (sym (named-here (a .name .now) (hexFrom (a .least) (a .most)) (a .line .now) (sym (t .before .starts .ensures) ∙ t .if1 .taken)))
+
+returns-2 : tie.Need-returns-2
+returns-2 c = rw (sym (c .before .starts .ensures) ∙ c .if1 .left)
+
+pub hex-after-spec : {M : Type 1} → statement M
+hex-after-spec = tie.close (tie.spec (λ c κs. search needs) sub part-start (λ c. search needs) (λ c κs. search needs) (λ c κs. search needs) returns returns-2)
