@@ -1,7 +1,7 @@
 // Call scripts on standard input, answers on standard output; with the argument --help the page of use.
 
 fn say(text: &[u8]) {
-    io::write_all(1, text);
+    script::emit(text, text.len());
 }
 
 fn page_1() {

@@ -45,7 +45,7 @@ pub fn kind_of(v: Value) -> Kind
 }
 
 // Puts a name.
-fn put_name(out: &mut [u8], at: usize, n: Name) -> usize
+pub fn put_name(out: &mut [u8], at: usize, n: Name) -> usize
     requires { ⌜ (n .len ≤ length (n .text)) × (at + n .len ≤ length (now out)) ⌝ }
     ensures { λ r. ⌜ Puts (now (out .entry)) at (spelledOf n) (n .len) r (now (out .exit)) ⌝ }
 {
@@ -113,13 +113,25 @@ pub fn put_mark(out: &mut [u8], at: usize, m: Mark) -> usize
     put_value(out, d, v)
 }
 
+// Hands bytes to standard output. Where they can't be written, as on a full device or a pipe that nobody reads, there is no use in going
+// on: standard input is closed, so that the next read gives nothing and the run ends, and a word stands on standard error. A later
+// write that fails finds standard input closed, and is silent.
+fn write_out(bytes: &[u8]) {
+    if io::write_all(1, bytes) {
+        return;
+    }
+    if libc::close(0) == 0 {
+        io::write_all(2, b"standard output can't be written: the run ends here\n");
+    }
+}
+
 // Writes the front of a buffer out, up to a place, or up to its end where the place is past it; answers how many bytes
-// that were.
+// that were. Nothing of them waits then, whether or not they could be written: what could not is lost, and the run ends.
 pub fn emit(out: &[u8], at: usize) -> usize
     ensures { λ r. ⌜ r ≡ min at (length (now (out .entry))) ⌝ }
 {
     let n = least(at, out.len());
-    io::write_all(1, &out[..n]);
+    write_out(&out[..n]);
     n
 }
 

@@ -6,7 +6,7 @@ use borrow.Author.Needs.{needs}
 use Rattle.script.proofs.writing.emit.Statement.{statement}
 use Rattle.script.proofs.writing.emit.Tie as tie
 
-slice-aggregate : tie.Need-slice-aggregate-write-all
+slice-aggregate : tie.Need-slice-aggregate-write-out
 slice-aggregate c = sym (length-take-le _ _ (omega (arith, c .before .least .ensures)))
 
 pub emit-spec : {M : Type 1} → statement M
