@@ -1,0 +1,34 @@
+-- The refusals in words, by their numbers.
+use mathlib.Core.List.{List, [], _∷_}
+use Prim.Native.Nat.{ℕ}
+use lib.ListN.{getD}
+use Rattle.text.specs.Bytes.{bytes}
+
+-- what each number says, from 0 on; 0 is no refusal, and 12, 13, 15, 16 and 17 are no number of any call so far
+abbrev pub refusals : List (List ℕ)
+refusals =
+    [] ∷
+    bytes "no such tank" ∷  -- 1
+    bytes "shares and limits that break the rule" ∷  -- 2
+    bytes "an empty range, or nothing to insert" ∷  -- 3
+    bytes "past the end of the tank" ∷  -- 4
+    bytes "longer than 2^63 - 1 positions" ∷  -- 5
+    bytes "a value that is no number" ∷  -- 6
+    bytes "its identity has another value or flags here" ∷  -- 7
+    bytes "a 65th mark in its tank" ∷  -- 8
+    bytes "more runs than its limit" ∷  -- 9
+    bytes "more runs than the tanks can share" ∷  -- 10
+    bytes "less room than the answer takes" ∷  -- 11
+    [] ∷  -- 12
+    [] ∷  -- 13
+    bytes "flags that no type makes" ∷  -- 14
+    [] ∷  -- 15
+    [] ∷  -- 16
+    [] ∷  -- 17
+    bytes "a type that is retired" ∷  -- 18
+    bytes "a name that can't be kept" ∷  -- 19
+    []
+
+-- what a number says: nothing where no refusal has it
+abbrev pub wordsOf : ℕ → List ℕ
+wordsOf number = getD refusals number []
