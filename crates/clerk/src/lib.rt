@@ -80,7 +80,7 @@ pub struct Eaten {
 }
 
 // A stand from which nothing waits.
-fn fresh(inlet: Inlet, side: Side) -> Stand
+pub fn fresh(inlet: Inlet, side: Side) -> Stand
     ensures { λ r. ⌜ r ≡ record { inlet = inlet; side = side; at = 0; over = false } ⌝ }
 {
     Stand {
@@ -91,7 +91,7 @@ fn fresh(inlet: Inlet, side: Side) -> Stand
     }
 }
 
-fn standing(tanks: Tanks, inlet: Inlet, side: Side, at: usize, over: bool) -> Eaten
+pub fn standing(tanks: Tanks, inlet: Inlet, side: Side, at: usize, over: bool) -> Eaten
     ensures { λ r. ⌜ (r .tanks ≡ tanks) × (r .stand ≡ record { inlet = inlet; side = side; at = at; over = over }) ⌝ }
 {
     let stand = Stand {
@@ -107,7 +107,7 @@ fn standing(tanks: Tanks, inlet: Inlet, side: Side, at: usize, over: bool) -> Ea
 }
 
 // Nothing kept yet.
-fn empty() -> Side
+pub fn empty() -> Side
     ensures { λ r. ⌜ (r ≡ emptySide) × Settled r ⌝ }
 {
     let sets = settings_text::none();
@@ -227,7 +227,7 @@ fn put_bad(out: &mut [u8], at: usize, r: Reader) -> usize
 
 // The bytes of one read, a line or a part of a body to a turn. The tanks go through a call once a group, and never once a
 // line.
-fn eat(bytes: &[u8], s: Tanks, stand: Stand, body: &mut [u8], out: &mut [u8]) -> Eaten
+pub fn eat(bytes: &[u8], s: Tanks, stand: Stand, body: &mut [u8], out: &mut [u8]) -> Eaten
     requires { ⌜ (Sound s) × Settled (stand .side) × Fits (stand .inlet) (now body) × (stand .over ≡ false) ⌝ }
     requires { ⌜ (mostBody ≤ length (now body)) × (pieceRoom ≤ length (now out)) ⌝ }
     ensures { λ r. ⌜ Eats s stand (now (body .entry)) (now (out .entry)) (now (bytes .entry)) r (now (body .exit)) (now (out .exit)) ⌝ }
@@ -297,7 +297,7 @@ fn eat(bytes: &[u8], s: Tanks, stand: Stand, body: &mut [u8], out: &mut [u8]) ->
 }
 
 // The end of the input: in the middle of a line, a group or a body it is a bad line.
-fn closed(s: Tanks, stand: Stand, body: &[u8], out: &mut [u8]) -> Eaten
+pub fn closed(s: Tanks, stand: Stand, body: &[u8], out: &mut [u8]) -> Eaten
     requires { ⌜ (Sound s) × Settled (stand .side) × Fits (stand .inlet) (now body) × (stand .over ≡ false) ⌝ }
     requires { ⌜ pieceRoom ≤ length (now out) ⌝ }
     ensures { λ r. ⌜ Closes s stand (now (body .entry)) (now (out .entry)) r (now (out .exit)) ⌝ }
@@ -359,7 +359,7 @@ fn all(s: Tanks, first: Inlet, kept: Side, body: &mut [u8], out: &mut [u8]) -> E
 }
 
 // Room for the body of a call.
-fn body_room() -> [u8; 131072]
+pub fn body_room() -> [u8; 131072]
     ensures { λ r. ⌜ mostBody ≡ length r ⌝ }
 {
     [0; 131072]

@@ -1,4 +1,7 @@
-// Call scripts on standard input, answers on standard output; with the argument --help the page of use.
+// Call scripts on standard input, answers on standard output; with the argument --explain, beside them on standard error why a call was refused
+// and what is wrong with a line; with --help the page of use.
+ghost use Prim.Native.Nat.{_≤_};
+ghost use lib.ListN.{length};
 
 fn say(text: &[u8]) {
     script::emit(text, text.len());
@@ -10,8 +13,11 @@ fn page_1() {
 }
 
 fn page_2() {
-    say(b"  console < SCRIPT      answers the calls of a script\n");
-    say(b"  console --help        prints this page\n");
+    say(b"  console < SCRIPT            answers the calls of a script\n");
+    say(
+        b"  console --explain < SCRIPT  does so, and says on standard error why a call is refused and what is wrong with a line\n",
+    );
+    say(b"  console --help              prints this page\n");
     say(b"\n");
 }
 
@@ -109,12 +115,52 @@ fn page_8() {
     say(b"\n");
 }
 
+// Writes a refusal's number and its words, with a blank more in front of a number of one digit.
+fn put_row(row: &mut [u8], lead: &[u8], number: u64)
+    requires { ⌜ (80 ≤ length (now row)) × (length (now lead) ≤ 3) ⌝ }
+{
+    let a = text::put(row, 0, lead);
+    let b = text::put_decimal(row, a, number);
+    let c = text::put(row, b, b"  ");
+    let d = refusals::put_words(row, c, number);
+    let e = text::put(row, d, b"\n");
+    script::emit(row, e);
+}
+
+fn say_refusal(lead: &[u8], number: u64)
+    requires { ⌜ length (now lead) ≤ 3 ⌝ }
+{
+    let mut row = [0u8; 80];
+    put_row(&mut row, lead, number);
+}
+
 fn page_9() {
+    say(b"A refusal is a number, the same for all calls:\n");
+    say_refusal(b"   ", 1);
+    say_refusal(b"   ", 2);
+    say_refusal(b"   ", 3);
+    say_refusal(b"   ", 4);
+    say_refusal(b"   ", 5);
+    say_refusal(b"   ", 6);
+    say_refusal(b"   ", 7);
+}
+
+fn page_10() {
+    say_refusal(b"   ", 8);
+    say_refusal(b"   ", 9);
+    say_refusal(b"  ", 10);
+    say_refusal(b"  ", 11);
+    say_refusal(b"  ", 14);
+    say_refusal(b"  ", 18);
+    say(b"\n");
+}
+
+fn page_11() {
     say(b"Example: a script on the left, its answers on the right\n");
     say(b"\n");
 }
 
-fn page_10() {
+fn page_12() {
     say(b"  op=insert               marks=0\n");
     say(b"  tank=0\n");
     say(b"  at=0\n");
@@ -134,18 +180,24 @@ fn page() {
     page_8();
     page_9();
     page_10();
+    page_11();
+    page_12();
 }
 
-// Is the first argument --help?
-fn asks_for_help() -> bool {
-    let mut word = io::buffer();
-    let n = os::arg(1, &mut word);
-    text::same(&word[..n], b"--help")
+// Is the first argument this word?
+fn asks_for(word: &[u8]) -> bool {
+    let mut first = io::buffer();
+    let n = os::arg(1, &mut first);
+    text::same(&first[..n], word)
 }
 
 fn main() {
-    if asks_for_help() {
+    if asks_for(b"--help") {
         page();
+        return;
+    }
+    if asks_for(b"--explain") {
+        explain::run();
         return;
     }
     clerk::run();

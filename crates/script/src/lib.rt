@@ -24,18 +24,23 @@ pub use lines::cut_line;
 pub use lines::empty_line;
 pub use lines::ended;
 pub use lines::feed;
+pub use lines::kept;
+pub use lines::kept_read;
 pub use lines::line_number;
 pub use names::field_name;
+pub use names::is_name;
 pub use names::kind_name;
 pub use names::op_name;
 pub use reading::idle;
 pub use reading::read_line;
+pub use reading::value_start;
 use styles::Value;
 pub use writing::emit;
 pub use writing::flushed;
 pub use writing::put_field;
 pub use writing::put_line;
 pub use writing::put_mark;
+pub use writing::put_name;
 pub use writing::put_value;
 
 // Ops that change the tanks.

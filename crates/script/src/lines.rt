@@ -35,7 +35,7 @@ pub fn empty_line() -> Line
 }
 
 // How many bytes are kept of a line.
-fn kept(line: Line) -> usize
+pub fn kept(line: Line) -> usize
     ensures { λ r. ⌜ Keeps line r ⌝ }
 {
     least(line.count, 65)
@@ -71,7 +71,7 @@ pub fn cut_line(bytes: &[u8], from: usize, line: Line) -> Cut
 }
 
 // What a kept line makes of a call.
-fn kept_read(call: Call, line: Line) -> Read
+pub fn kept_read(call: Call, line: Line) -> Read
     ensures { λ r. ⌜ r ≡ lineOf call (heldOf line) ⌝ }
 {
     let n = kept(line);

@@ -27,7 +27,7 @@ use super::values::of_bits;
 use styles::Value;
 
 // Where the value starts in a field's line.
-fn value_start(f: u8, line: &[u8]) -> Start
+pub fn value_start(f: u8, line: &[u8]) -> Start
     ensures { λ r. ⌜ r ≡ startOf (fieldOf f) (now (line .entry)) ⌝ }
 {
     let n = field_name(f);

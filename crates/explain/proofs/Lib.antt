@@ -1,0 +1,4 @@
+pub mod Short
+pub mod Figures
+pub mod Choices
+pub mod Telling

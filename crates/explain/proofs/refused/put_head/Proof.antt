@@ -1,0 +1,12 @@
+-- Three texts, one behind the other.
+use native.Mathlib.Omega.{arith}
+use Rattle.script.proofs.PutLaws.{puts-then, puts-all, puts-few, puts-more}
+use borrow.Author.Needs.{needs}
+use Rattle.explain.proofs.refused.put_head.Statement.{statement}
+use Rattle.explain.proofs.refused.put_head.Tie as tie
+
+returns : tie.Need-returns
+returns c = puts-more (omega arith) (puts-then (omega arith) (puts-then (omega arith) (puts-all (c .before .before .before .before .before .before .before .before .before .before .before .put .ensures)) (puts-few (c .before .before .before .before .before .before .before .put-decimal .ensures))) (puts-all (c .before .before .put2 .ensures)))
+
+pub put-head-spec : {M : Type 1} → statement M
+put-head-spec = tie.close (tie.spec (λ c. search needs) (λ c κs. search needs) (λ c κs. search needs) (λ c. search needs) (λ c κs. search needs) (λ c. search needs) returns)
