@@ -2,3 +2,4 @@ pub mod Short
 pub mod Figures
 pub mod Choices
 pub mod Telling
+pub mod Exactly
