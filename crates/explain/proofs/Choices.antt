@@ -1,7 +1,7 @@
 -- What is told, by the tests that the code makes: one law for each way.
 use mathlib.Core.Path.{_≡_, refl, sym, ap, _∙_}
 use mathlib.Core.Bool.{Bool, true, false, cond}
-use mathlib.Core.List.{List, [], _∷_, _++_}
+use mathlib.Core.List.{List, [], _∷_, _++_, map}
 use Prim.Native.Nat.{ℕ, _-_, _≤_, _<_}
 use native.Mathlib.Omega.{arith}
 use lib.Dec.{eqb, ltb}
@@ -17,7 +17,7 @@ use Rattle.script.specs.Reading.{afterName}
 use Rattle.script.specs.Writing.{Puts}
 use Rattle.script.proofs.PutLaws.{puts-as}
 use Rattle.explain.specs.declared.Came.{Came}
-use Rattle.explain.specs.Told.{tankText, figuresOf, wrongNumber, wrongText, cameOf, endOf, lineShown}
+use Rattle.explain.specs.Told.{tankText, figuresOf, wrongNumber, wrongText, cameOf, endOf, byteShown, lineShown}
 
 -- ---- A tank, where the first field is one
 module _ {d o : List ℕ} {at m r : ℕ} (call : Call) (name : List ℕ) (e : name ≡ fieldAt (call .row) 0 .name) where
@@ -70,10 +70,10 @@ module _ (f : Field) (line : List ℕ) where
       ∙ sym (ap (λ (b : Bool). cond b Came.Empty (cond (eqb (getD line (length line - 1) 0) 13) Came.Return (afterName f Came.Other (wrongText (f .holds)) line))) (ne-eqb (length line) 0 e))
       ∙ sym (ap (λ (b : Bool). cond b Came.Long (cond (eqb (length line) 0) Came.Empty (cond (eqb (getD line (length line - 1) 0) 13) Came.Return (afterName f Came.Other (wrongText (f .holds)) line)))) (le-ltb 64 (length line) few))
 
--- ---- The line as it came
+-- ---- The line that came
 module _ {d o : List ℕ} {at m r : ℕ} (line : List ℕ) where
   pub none-shown : length line ≡ 0 → Puts d at [] m r o → Puts d at (lineShown line) m r o
-  none-shown h p = puts-as (sym (ap (λ (b : Bool). cond b [] (bytes ": " ++ line)) (eq-eqb (length line) 0 h))) p
+  none-shown h p = puts-as (sym (ap (λ (b : Bool). cond b [] (bytes ": " ++ map byteShown line)) (eq-eqb (length line) 0 h))) p
 
-  pub line-shown : (length line ≡ 0 → ⊥) → Puts d at (bytes ": " ++ line) m r o → Puts d at (lineShown line) m r o
-  line-shown h p = puts-as (sym (ap (λ (b : Bool). cond b [] (bytes ": " ++ line)) (ne-eqb (length line) 0 h))) p
+  pub line-shown : (length line ≡ 0 → ⊥) → Puts d at (bytes ": " ++ map byteShown line) m r o → Puts d at (lineShown line) m r o
+  line-shown h p = puts-as (sym (ap (λ (b : Bool). cond b [] (bytes ": " ++ map byteShown line)) (ne-eqb (length line) 0 h))) p

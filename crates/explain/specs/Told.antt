@@ -1,6 +1,6 @@
 -- What is told of a line beside its answer: of a refused call the refusal in words, of a line at which the run ends what was expected and what came.
 use mathlib.Core.Bool.{Bool, true, false, cond, _&&_}
-use mathlib.Core.List.{List, [], _∷_, _++_}
+use mathlib.Core.List.{List, [], _∷_, _++_, map}
 use Prim.Native.Nat.{ℕ, _-_}
 use lib.Dec.{ltb, leb, eqb}
 use lib.ListN.{length, getD, drop}
@@ -102,9 +102,13 @@ cameText Came.NoValue = bytes "no such value"
 cameText Came.Ended = bytes "the end of the input"
 cameText Came.Cut = bytes "no newline at the input's end"
 
--- the line as it came, of a long one the first 65 bytes
+-- a byte as it is shown: a question mark for one that does not print
+abbrev pub byteShown : ℕ → ℕ
+byteShown b = cond (ltb b 32) 63 (cond (ltb 126 b) 63 b)
+
+-- the line that came, of a long one the first 65 bytes
 abbrev pub lineShown : List ℕ → List ℕ
-lineShown line = cond (eqb (length line) 0) [] (bytes ": " ++ line)
+lineShown line = cond (eqb (length line) 0) [] (bytes ": " ++ map byteShown line)
 
 -- all of it
 unfoldable pub badText : ℕ → Call → Came → List ℕ → List ℕ

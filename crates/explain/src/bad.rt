@@ -1,11 +1,13 @@
 // A line at which the run ends, in words.
+ghost use mathlib.Core.List.{map};
 ghost use mathlib.Core.Path.{_≡_};
 ghost use Prim.Native.Nat.{_+_, _≤_};
 ghost use lib.ListN.{length};
+ghost use Rattle.text.specs.Number.{put};
 ghost use Rattle.script.specs.Cells.{fieldOf};
 ghost use Rattle.script.specs.Reading.{afterName};
 ghost use Rattle.script.specs.Writing.{Puts};
-ghost use Rattle.explain.specs.Told.{valueHint, mostHint, hintText, expectedText, figuresOf, wrongNumber, wrongText, cameOf, endOf, cameText, lineShown, badText};
+ghost use Rattle.explain.specs.Told.{valueHint, mostHint, hintText, expectedText, figuresOf, wrongNumber, wrongText, cameOf, endOf, cameText, byteShown, lineShown, badText};
 use super::Came;
 use super::refused::put_head;
 use script::Call;
@@ -158,6 +160,32 @@ fn put_came(out: &mut [u8], at: usize, c: Came) -> usize
     }
 }
 
+// A byte that does not print is a question mark, so that a terminal is told nothing else by it.
+fn byte_shown(b: u8) -> u8
+    ensures { λ r. ⌜ r ≡ byteShown b ⌝ }
+{
+    if b < 32 {
+        return 63;
+    }
+    if b > 126 {
+        return 63;
+    }
+    b
+}
+
+// Puts the bytes of a line as they are shown, and answers the place after them.
+fn put_bytes(out: &mut [u8], at: usize, line: &[u8]) -> usize
+    requires { ⌜ at + length (now line) ≤ length (now out) ⌝ }
+    ensures { λ r. ⌜ (r ≡ at + length (map byteShown (now (line .entry)))) × (now (out .exit) ≡ put (now (out .entry)) at (map byteShown (now (line .entry)))) ⌝ }
+{
+    let mut i = 0;
+    while i < line.len() {
+        out[at + i] = byte_shown(line[i]);
+        i += 1;
+    }
+    at + i
+}
+
 fn put_shown(out: &mut [u8], at: usize, line: &[u8]) -> usize
     requires { ⌜ (length (now line) ≤ 65) × (at + 67 ≤ length (now out)) ⌝ }
     ensures { λ r. ⌜ Puts (now (out .entry)) at (lineShown (now (line .entry))) 67 r (now (out .exit)) ⌝ }
@@ -166,7 +194,7 @@ fn put_shown(out: &mut [u8], at: usize, line: &[u8]) -> usize
         return text::put(out, at, b"");
     }
     let a = text::put(out, at, b": ");
-    text::put(out, a, line)
+    put_bytes(out, a, line)
 }
 
 // Puts what is said of a line at which the run ends.
