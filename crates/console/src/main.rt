@@ -53,6 +53,8 @@ fn page_4() {
     say(b"  anchors                 tank room\n");
     say(b"  find                    tank at\n");
     say(b"  age                     tank before budget\n");
+    say(b"  settings                bytes, and behind that line so many bytes\n");
+    say(b"  set, open_set           number\n");
     say(b"\n");
 }
 
@@ -74,13 +76,18 @@ fn page_6() {
     say(
         b"Before the first open, each of the eight tanks has share 1 and limit 1. An open replaces them, refused or not.\n",
     );
+    say(
+        b"The bytes behind settings are a text of 17 lines, version=1, share0=N, limit0=N and on to limit7=N, at most 131072 in all. The\n",
+    );
+    say(b"last four that were good are kept; open_set opens with one of them.\n");
     say(b"\n");
 }
 
 fn page_7() {
     say(b"  answer to               lines\n");
     say(b"  a call that is refused  refused=N\n");
-    say(b"  open, annotate, delete  accepted=1\n");
+    say(b"  open, annotate, delete, accepted=1\n");
+    say(b"    open_set\n");
     say(
         b"  insert, same, marks,    marks=N, and for each mark key= lamport= peer= flags= kind= value=\n",
     );
@@ -88,7 +95,7 @@ fn page_7() {
     say(b"  mark, inherited         key= lamport= peer= flags= kind= value=\n");
     say(b"  value                   kind= value=\n");
     say(b"  same, mark, inherited,  none=1, where there is none\n");
-    say(b"    value\n");
+    say(b"    value, set, open_set\n");
     say(b"  has_key, all_value      yes=1 or yes=0\n");
     say(b"  remove                  first=N\n");
     say(b"  length, touched, runs   length=N; touched=0 or touched=1; runs=N\n");
@@ -104,14 +111,22 @@ fn page_7() {
     say(
         b"  age                     dropped=N remaining=N, the stretches that went and what is left of before\n",
     );
+    page_settings();
     say(b"\n");
+}
+
+fn page_settings() {
+    say(
+        b"  settings                set=N, its number from 1 on; refused=12 and line=L, its first bad line\n",
+    );
+    say(b"  set                     share0= limit0= and on to limit7=\n");
 }
 
 fn page_8() {
     say(
         b"Each of these is a line of its own. A line that is none of the above ends the run with malformed=LINE, counted from 1; so\n",
     );
-    say(b"does a script that ends inside a line or a group.\n");
+    say(b"does a script that ends inside a line, a group or the bytes behind one.\n");
     say(b"\n");
 }
 
@@ -150,6 +165,7 @@ fn page_10() {
     say_refusal(b"   ", 9);
     say_refusal(b"  ", 10);
     say_refusal(b"  ", 11);
+    say_refusal(b"  ", 12);
     say_refusal(b"  ", 14);
     say_refusal(b"  ", 18);
     say(b"\n");

@@ -13,7 +13,9 @@ use Rattle.script.specs.declared.Kind.{Kind}
 use Rattle.script.specs.Args.{numberAt}
 use Rattle.script.specs.Grammar.{Field, rowAt, fieldAt}
 use Rattle.script.specs.Reading.{afterName, lineOf}
-use Rattle.script.specs.Lines.{State, countedOf, grownOf}
+use Rattle.script.specs.Lines.{State, countedOf, grownOf, emptyLine}
+use Rattle.script.specs.declared.Inlet.{Inlet}
+use Rattle.script.specs.declared.Reader.{Reader}
 use Rattle.refusals.specs.Words.{wordsOf}
 use Rattle.explain.specs.declared.Came.{Came}
 
@@ -45,9 +47,9 @@ valueHint Kind.Decimal = bytes " and sixteen hexadecimal digits"
 abbrev pub mostHint : ℕ → List ℕ
 mostHint most = bytes " and a number up to " ++ decimalText most
 
--- of what a field holds
+-- of what a field holds; where no field is to come, a body is
 abbrev pub hintText : Holds → Kind → List ℕ
-hintText Holds.Nothing k = []
+hintText Holds.Nothing k = bytes "the rest of its body"
 hintText Holds.Op k = bytes " and the name of an op"
 hintText (Holds.Number most) k = mostHint most
 hintText Holds.Kind k = bytes " and null, bool, whole or decimal"
@@ -143,3 +145,7 @@ badTold s input = badAt (countedOf (s .newlines)) (s .call) (ltb 0 (length input
 -- of any answer; of one that is neither, nothing
 unfoldable pub toldOf : State → List ℕ → List ℕ → List ℕ
 toldOf s input answer = cond (startsOf answer (bytes "refused=")) (refusalTold s input answer) (cond (startsOf answer (bytes "malformed=")) (badTold s input) [])
+
+-- where a script stands, as a reader that is told of: within a body it has the call that the body belongs to, of which no line is to come
+unfoldable pub tellsFrom : Inlet → Reader
+tellsFrom i = cond (ltb 0 (i .left)) (record { line = emptyLine; call = i .call; newlines = i .reader .newlines }) (i .reader)

@@ -41,7 +41,7 @@ fn put_hint(out: &mut [u8], at: usize, h: Holds, kind: Kind) -> usize
     ensures { λ r. ⌜ Puts (now (out .entry)) at (hintText h kind) 40 r (now (out .exit)) ⌝ }
 {
     match h {
-        Holds::Nothing => text::put(out, at, b""),
+        Holds::Nothing => text::put(out, at, b"the rest of its body"),
         Holds::Op => text::put(out, at, b" and the name of an op"),
         Holds::Number(most) => put_most(out, at, most),
         Holds::Kind => text::put(out, at, b" and null, bool, whole or decimal"),

@@ -10,9 +10,16 @@ ghost use Prim.Native.Nat.{_≤_};
 ghost use lib.ListN.{length};
 ghost use Rattle.tanks.specs.Pool.{Sound};
 ghost use Rattle.answers.specs.Waiting.{pieceRoom};
+ghost use Rattle.script.specs.Grammar.{mostBody};
+ghost use Rattle.script.specs.Lines.{emptyLine};
+ghost use Rattle.script.specs.Bodies.{Fits};
+ghost use Rattle.clerk.specs.Desk.{Settled};
 ghost use Rattle.clerk.specs.Course.{Reads, Runs, RunsWhole};
+ghost use Rattle.explain.specs.Told.{tellsFrom};
 use clerk::Eaten;
+use clerk::Side;
 use clerk::Stand;
+use script::Inlet;
 use script::Reader;
 use tanks::Setting;
 use tanks::Tanks;
@@ -60,11 +67,14 @@ fn filled(buf: &mut [u8], from: usize, to: usize) -> Rest
     Rest { from: 0, to: n }
 }
 
-// The place behind the first newline, or behind all bytes.
-fn line_end(buf: &[u8], rest: Rest) -> usize
+// The place behind the first newline, or behind all bytes; within a body, of which so many bytes are left, behind these.
+fn part_end(buf: &[u8], rest: Rest, left: usize) -> usize
     requires { ⌜ (rest .from ≤ rest .to) × (rest .to ≤ length (now buf)) ⌝ }
     ensures { λ r. ⌜ (rest .from ≤ r) × (r ≤ rest .to) ⌝ }
 {
+    if left > 0 {
+        return body_end(rest, left);
+    }
     let end = text::find(buf, rest.from, b'\n');
     if end < rest.to {
         return end + 1;
@@ -72,18 +82,54 @@ fn line_end(buf: &[u8], rest: Rest) -> usize
     rest.to
 }
 
-// The next line, as far as it has been read; none at the end of the input.
-fn next_line(buf: &mut [u8], from: usize, to: usize) -> Spot
+// The place behind so many bytes, or behind all of them.
+fn body_end(rest: Rest, left: usize) -> usize
+    requires { ⌜ rest .from ≤ rest .to ⌝ }
+    ensures { λ r. ⌜ (rest .from ≤ r) × (r ≤ rest .to) ⌝ }
+{
+    if left < rest.to - rest.from {
+        return rest.from + left;
+    }
+    rest.to
+}
+
+// The next line, or what is left of a body, as far as it has been read; none at the end of the input.
+fn next_part(buf: &mut [u8], from: usize, to: usize, left: usize) -> Spot
     requires { ⌜ to ≤ length (now buf) ⌝ }
     ensures { λ r. ⌜ (r .from ≤ r .end) × (r .end ≤ r .to) × (r .to ≤ length (now (buf .exit))) ⌝ }
 {
     let rest = filled(buf, from, to);
-    let end = line_end(buf, rest);
+    let end = part_end(buf, rest, left);
     Spot {
         from: rest.from,
         end: end,
         to: rest.to,
     }
+}
+
+// Within a body a line is told of as one of the call that the body belongs to, of which no line is to come.
+fn in_body(i: Inlet) -> Reader
+    ensures { λ r. ⌜ r ≡ record { line = emptyLine; call = i .call; newlines = i .reader .newlines } ⌝ }
+{
+    let line = script::empty_line();
+    let call = i.call;
+    let reader = i.reader;
+    let newlines = reader.newlines;
+    Reader {
+        line: line,
+        call: call,
+        newlines: newlines,
+    }
+}
+
+// The reader that a line is told of.
+fn told_from(i: Inlet) -> Reader
+    ensures { λ r. ⌜ r ≡ tellsFrom i ⌝ }
+{
+    if i.left > 0 {
+        return in_body(i);
+    }
+    i.reader
 }
 
 // Puts what is told into a buffer, and writes it to standard error.
@@ -101,67 +147,71 @@ fn hand_out(before: Reader, bytes: &[u8], out: &[u8], at: usize) {
     tell(&mut said, before, bytes, &out[..n]);
 }
 
-// The bytes of at most one line, or the end of the input where there are none.
-fn taken(bytes: &[u8], s: Tanks, stand: Stand, out: &mut [u8]) -> Eaten
-    requires { ⌜ (Sound s) × (stand .over ≡ false) ⌝ }
-    requires { ⌜ pieceRoom ≤ length (now out) ⌝ }
-    ensures { λ r. ⌜ Reads s stand (now (out .entry)) r (now (out .exit)) ⌝ }
+// The bytes of at most one line or body, or the end of the input where there are none.
+fn taken(bytes: &[u8], s: Tanks, stand: Stand, body: &mut [u8], out: &mut [u8]) -> Eaten
+    requires { ⌜ (Sound s) × Settled (stand .side) × Fits (stand .inlet) (now body) × (stand .over ≡ false) ⌝ }
+    requires { ⌜ (mostBody ≤ length (now body)) × (pieceRoom ≤ length (now out)) ⌝ }
+    ensures { λ r. ⌜ Reads s stand (now (body .entry)) (now (out .entry)) r (now (body .exit)) (now (out .exit)) ⌝ }
 {
     if bytes.len() == 0 {
-        return clerk::closed(s, stand, out);
+        return clerk::closed(s, stand, body, out);
     }
-    clerk::eat(bytes, s, stand, out)
+    clerk::eat(bytes, s, stand, body, out)
 }
 
-fn turn(bytes: &[u8], s: Tanks, stand: Stand, out: &mut [u8]) -> Eaten
-    requires { ⌜ (Sound s) × (stand .over ≡ false) ⌝ }
-    requires { ⌜ pieceRoom ≤ length (now out) ⌝ }
-    ensures { λ r. ⌜ Reads s stand (now (out .entry)) r (now (out .exit)) ⌝ }
+fn turn(bytes: &[u8], s: Tanks, stand: Stand, body: &mut [u8], out: &mut [u8]) -> Eaten
+    requires { ⌜ (Sound s) × Settled (stand .side) × Fits (stand .inlet) (now body) × (stand .over ≡ false) ⌝ }
+    requires { ⌜ (mostBody ≤ length (now body)) × (pieceRoom ≤ length (now out)) ⌝ }
+    ensures { λ r. ⌜ Reads s stand (now (body .entry)) (now (out .entry)) r (now (body .exit)) (now (out .exit)) ⌝ }
 {
-    let before = stand.reader;
-    let e = taken(bytes, s, stand, out);
+    let inlet = stand.inlet;
+    let before = told_from(inlet);
+    let e = taken(bytes, s, stand, body, out);
     let after = e.stand;
     hand_out(before, bytes, out, after.at);
     e
 }
 
-fn turn_at(buf: &[u8], spot: Spot, s: Tanks, stand: Stand, out: &mut [u8]) -> Eaten
-    requires { ⌜ (Sound s) × (stand .over ≡ false) ⌝ }
-    requires { ⌜ (spot .from ≤ spot .end) × (spot .end ≤ length (now buf)) × (pieceRoom ≤ length (now out)) ⌝ }
-    ensures { λ r. ⌜ Reads s stand (now (out .entry)) r (now (out .exit)) ⌝ }
+fn turn_at(buf: &[u8], spot: Spot, s: Tanks, stand: Stand, body: &mut [u8], out: &mut [u8]) -> Eaten
+    requires { ⌜ (Sound s) × Settled (stand .side) × Fits (stand .inlet) (now body) × (stand .over ≡ false) ⌝ }
+    requires { ⌜ (mostBody ≤ length (now body)) × (pieceRoom ≤ length (now out)) × (spot .from ≤ spot .end) × (spot .end ≤ length (now buf)) ⌝ }
+    ensures { λ r. ⌜ Reads s stand (now (body .entry)) (now (out .entry)) r (now (body .exit)) (now (out .exit)) ⌝ }
 {
     let start = spot.from;
     let end = spot.end;
-    turn(&buf[start..end], s, stand, out)
+    turn(&buf[start..end], s, stand, body, out)
 }
 
-// All of the input, a line to a turn: the clerk's run, with its reads cut at the ends of lines.
-fn all(s: Tanks, first: Reader, buf: &mut [u8], out: &mut [u8]) -> Eaten
-    requires { ⌜ Sound s ⌝ }
-    requires { ⌜ pieceRoom ≤ length (now out) ⌝ }
-    ensures { λ r. ⌜ Runs s first (now (out .entry)) r (now (out .exit)) ⌝ }
+// All of the input, a line or a body to a turn: the clerk's run, with its reads cut at the ends of lines and bodies.
+fn all(s: Tanks, first: Inlet, kept: Side, buf: &mut [u8], body: &mut [u8], out: &mut [u8]) -> Eaten
+    requires { ⌜ (Sound s) × Settled kept × Fits first (now body) ⌝ }
+    requires { ⌜ (mostBody ≤ length (now body)) × (pieceRoom ≤ length (now out)) ⌝ }
+    ensures { λ r. ⌜ Runs s first kept (now (body .entry)) (now (out .entry)) r (now (body .exit)) (now (out .exit)) ⌝ }
 {
     let mut tanks = s;
-    let mut reader = first;
+    let mut inlet = first;
+    let mut side = kept;
     let mut from = 0;
     let mut to = 0;
     let mut turns: u64 = 18446744073709551615;
     while turns > 0 {
-        let spot = next_line(buf, from, to);
-        let e = turn_at(buf, spot, tanks, clerk::fresh(reader), out);
+        let spot = next_part(buf, from, to, inlet.left);
+        let e = turn_at(buf, spot, tanks, clerk::fresh(inlet, side), body, out);
         let next = e.tanks;
         tanks = next;
         let after = e.stand;
-        let more = after.reader;
-        reader = more;
+        let more = after.inlet;
+        inlet = more;
+        let keeps = after.side;
+        side = keeps;
         if after.over {
-            return clerk::standing(tanks, reader, 0, true);
+            return clerk::standing(tanks, inlet, side, 0, true);
         }
         from = spot.end;
         to = spot.to;
         turns -= 1;
     }
-    clerk::standing(tanks, reader, 0, false)
+    clerk::standing(tanks, inlet, side, 0, false)
 }
 
 // Reads calls from standard input to its end, and writes their answers to standard output, as the clerk does; beside them it tells on standard
@@ -169,9 +219,17 @@ fn all(s: Tanks, first: Reader, buf: &mut [u8], out: &mut [u8]) -> Eaten
 pub fn run() -> Eaten
     ensures { λ r. ⌜ RunsWhole r ⌝ }
 {
+    let mut body = clerk::body_room();
     let mut out = io::large_buffer();
     let mut buf = io::large_buffer();
     let o = tanks::open([Setting { share: 1, limit: 1 }; 8]);
     let s = o.tanks;
-    all(s, script::begin(), &mut buf, &mut out)
+    all(
+        s,
+        script::begin_inlet(),
+        clerk::empty(),
+        &mut buf,
+        &mut body,
+        &mut out,
+    )
 }

@@ -2,6 +2,7 @@
 
 use std::fmt;
 
+use crate::call::Settings;
 use crate::mark::{Id, Mark, Value};
 
 #[derive(Clone, Debug, PartialEq)]
@@ -22,6 +23,11 @@ pub enum Answer {
     Anchors(Vec<Anchor>),
     Extent(Extent),
     Aged(Aged),
+    /// The number of a settings text that was read.
+    Set(u64),
+    /// Refusal 12, with the first bad line.
+    BadLine(u64),
+    Pairs(Settings),
 }
 
 /// A stretch as it is listed: its start, its end and how many marks it carries.
@@ -67,6 +73,8 @@ impl Answer {
             Answer::Yes(false) => "no".into(),
             Answer::Stretches(..) | Answer::Anchors(_) => "a list".into(),
             Answer::Extent(_) => "a stretch".into(),
+            Answer::BadLine(_) => "refused 12".into(),
+            Answer::Pairs(_) => "pairs".into(),
             _ => "a number".into(),
         }
     }
@@ -104,6 +112,14 @@ impl fmt::Display for Answer {
             Answer::Extent(Extent { first, last }) => writeln!(f, "first={first}\nlast={last}"),
             Answer::Aged(Aged { dropped, remaining }) => {
                 writeln!(f, "dropped={dropped}\nremaining={remaining}")
+            }
+            Answer::Set(number) => writeln!(f, "set={number}"),
+            Answer::BadLine(line) => writeln!(f, "refused=12\nline={line}"),
+            Answer::Pairs(settings) => {
+                let mut pairs = settings.iter().enumerate();
+                pairs.try_for_each(|(tank, (share, limit))| {
+                    writeln!(f, "share{tank}={share}\nlimit{tank}={limit}")
+                })
             }
         }
     }

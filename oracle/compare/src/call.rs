@@ -6,7 +6,7 @@ use crate::mark::{Content, Id, Mark, Value};
 
 pub type Settings = [(u64, u64); 8];
 
-#[derive(Clone, Copy, Debug, PartialEq)]
+#[derive(Clone, Debug, PartialEq)]
 pub enum Call {
     Open { settings: Settings },
     Annotate { tank: u64, start: u64, end: u64, mark: Mark },
@@ -31,10 +31,13 @@ pub enum Call {
     Anchors { tank: u64, room: u64 },
     Find { tank: u64, at: u64 },
     Age { tank: u64, before: u64, budget: u64 },
+    Settings { body: Vec<u8> },
+    Set { number: u64 },
+    OpenSet { number: u64 },
 }
 
 /// Each op and its fields, in the order of their lines.
-pub const SHAPES: [(&str, &[&str]); 23] = [
+pub const SHAPES: [(&str, &[&str]); 26] = [
     ("open", &OPEN),
     ("annotate", &["tank", "start", "end", "key", "lamport", "peer", "flags", "kind", "value"]),
     ("insert", &["tank", "at", "len"]),
@@ -58,7 +61,13 @@ pub const SHAPES: [(&str, &[&str]); 23] = [
     ("anchors", &["tank", "room"]),
     ("find", &["tank", "at"]),
     ("age", &["tank", "before", "budget"]),
+    ("settings", &["bytes"]),
+    ("set", &["number"]),
+    ("open_set", &["number"]),
 ];
+
+/// A body has so many bytes at most.
+pub const LONGEST_BODY: u64 = 131_072;
 
 const OPEN: [&str; 16] = [
     "share0", "limit0", "share1", "limit1", "share2", "limit2", "share3", "limit3", "share4",
@@ -99,6 +108,9 @@ impl Call {
             Call::Anchors { .. } => 20,
             Call::Find { .. } => 21,
             Call::Age { .. } => 22,
+            Call::Settings { .. } => 23,
+            Call::Set { .. } => 24,
+            Call::OpenSet { .. } => 25,
         }
     }
 
@@ -107,15 +119,30 @@ impl Call {
     }
 
     pub fn tank(&self) -> Option<u64> {
+        let names = SHAPES[self.shape()].1;
         match self.fields()[0] {
-            Field::Number(tank) if self.shape() > 0 => Some(tank),
+            Field::Number(tank) if names[0] == "tank" => Some(tank),
             _ => None,
         }
     }
 
-    /// How many lines the call's group has.
+    /// How many newlines the call's group has, those in its body among them.
     pub fn lines(&self) -> u64 {
-        1 + SHAPES[self.shape()].1.len() as u64
+        let in_body = self.body().iter().filter(|&&byte| byte == b'\n').count();
+        (1 + SHAPES[self.shape()].1.len() + in_body) as u64
+    }
+
+    /// The bytes behind the call's lines.
+    pub fn body(&self) -> &[u8] {
+        match self {
+            Call::Settings { body } => body,
+            _ => &[],
+        }
+    }
+
+    /// The whole group: its lines and its body.
+    pub fn text(&self) -> Vec<u8> {
+        [self.to_string().as_bytes(), self.body()].concat()
     }
 
     /// The fields in the order of `SHAPES`; a value stands for its two lines.
@@ -150,6 +177,8 @@ impl Call {
             | Call::Runs { tank }
             | Call::WholeNeeded { tank } => numbers(&[tank]),
             Call::Age { tank, before, budget } => numbers(&[tank, before, budget]),
+            Call::Settings { ref body } => numbers(&[body.len() as u64]),
+            Call::Set { number } | Call::OpenSet { number } => numbers(&[number]),
             Call::Delete { tank, start, end }
             | Call::Same { tank, start, end }
             | Call::StretchesNeeded { tank, start, end } => numbers(&[tank, start, end]),
@@ -164,8 +193,8 @@ impl Call {
         }
     }
 
-    /// The call of an op from its fields: the inverse of `shape` and `fields`.
-    pub fn of(shape: usize, fields: &[Field]) -> Call {
+    /// The call of an op from its fields and its body: the inverse of `shape`, `fields` and `body`.
+    pub fn of(shape: usize, fields: &[Field], body: &[u8]) -> Call {
         let n = |place: usize| match fields[place] {
             Field::Number(number) => number,
             Field::Value(_) => unreachable!("a number stands here"),
@@ -206,11 +235,15 @@ impl Call {
             19 => Call::WholeNeeded { tank },
             20 => Call::Anchors { tank, room: n(1) },
             21 => Call::Find { tank, at: n(1) },
-            _ => Call::Age { tank, before: n(1), budget: n(2) },
+            22 => Call::Age { tank, before: n(1), budget: n(2) },
+            23 => Call::Settings { body: body.to_vec() },
+            24 => Call::Set { number: n(0) },
+            _ => Call::OpenSet { number: n(0) },
         }
     }
 }
 
+/// The group's lines, without the body.
 impl fmt::Display for Call {
     fn fmt(&self, f: &mut fmt::Formatter<'_>) -> fmt::Result {
         let (name, names) = SHAPES[self.shape()];

@@ -8,6 +8,9 @@ const A: Mark = Mark { id: (1, 5, 1), content: Content { flags: 0x84, value: Val
 const B: Mark = Mark { id: (1, 5, 2), content: Content { flags: 0x84, value: Value::Bool(false) } };
 const C: Mark = Mark { id: (2, 3, 1), content: Content { flags: 0x80, value: Value::Whole(7) } };
 
+/// The annotate with which most cases begin.
+const MARKED: Call = Call::Annotate { tank: 0, start: 10, end: 20, mark: A };
+
 fn annotate(start: u64, end: u64, mark: Mark) -> Call {
     Call::Annotate { tank: 0, start, end, mark }
 }
@@ -49,28 +52,27 @@ fn on_fresh(edits: &[Call]) -> Vec<Call> {
 }
 
 pub fn cases() -> Vec<Call> {
-    let a = annotate(10, 20, A);
     let value = Call::Value { tank: 0, at: 15, key: 1 };
     let asked = [has_key(20, 30), has_key(19, 20), has_key(5, 5)];
     let mut calls = Vec::new();
     calls.extend(on_fresh(&[insert(5, 3)]));
-    calls.extend(on_fresh(&[a]));
-    calls.extend(on_fresh(&[a, insert(15, 4)]));
-    calls.extend(on_fresh(&[a, insert(10, 4)]));
-    calls.extend(on_fresh(&[a, annotate(15, 25, C)]));
+    calls.extend(on_fresh(&[MARKED]));
+    calls.extend(on_fresh(&[MARKED, insert(15, 4)]));
+    calls.extend(on_fresh(&[MARKED, insert(10, 4)]));
+    calls.extend(on_fresh(&[MARKED, annotate(15, 25, C)]));
     calls.push(insert(15, 2));
     calls.extend(state());
-    calls.extend(on_fresh(&[a, annotate(20, 30, C)]));
+    calls.extend(on_fresh(&[MARKED, annotate(20, 30, C)]));
     calls.push(insert(20, 1));
     calls.extend(state());
-    calls.extend(on_fresh(&[a, annotate(10, 20, B), value]));
-    calls.extend(on_fresh(&[a, delete(10, 20)]));
+    calls.extend(on_fresh(&[MARKED, annotate(10, 20, B), value]));
+    calls.extend(on_fresh(&[MARKED, delete(10, 20)]));
     calls.push(insert(0, 10));
     calls.extend(state());
-    calls.extend(on_fresh(&[a, remove(19)]));
-    calls.extend(on_fresh(&[a, remove(14)]));
-    calls.extend(on_fresh(&[a, remove(5)]));
-    calls.extend(on_fresh(&[a]));
+    calls.extend(on_fresh(&[MARKED, remove(19)]));
+    calls.extend(on_fresh(&[MARKED, remove(14)]));
+    calls.extend(on_fresh(&[MARKED, remove(5)]));
+    calls.extend(on_fresh(&[MARKED]));
     calls.extend(asked);
     calls.extend(shared());
     calls
@@ -125,8 +127,7 @@ mod tests {
 
     #[test]
     fn removal_answers_the_first_position() {
-        let a = annotate(10, 20, A);
-        let first = |last| answers(&on_fresh(&[a, remove(last)]))[2].clone();
+        let first = |last| answers(&on_fresh(&[MARKED, remove(last)]))[2].clone();
         assert_eq!(first(19), Answer::First(10));
         assert_eq!(first(14), Answer::First(10));
         assert_eq!(first(5), Answer::First(6));

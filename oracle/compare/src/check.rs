@@ -165,7 +165,7 @@ fn due(tanks: &Tanks, call: &Call, number: usize) -> bool {
 
 fn kind(call: &Call, answer: &Answer) -> String {
     match answer {
-        Answer::Refused(_) => answer.kind(),
+        Answer::Refused(_) | Answer::BadLine(_) => answer.kind(),
         _ => format!("{}: {}", call.name(), answer.kind()),
     }
 }

@@ -5,6 +5,7 @@ use crate::author::{identity, usual, Author, Habit};
 use crate::call::{Call, Settings};
 use crate::mark::Mark;
 use crate::script::Script;
+use crate::sets;
 use crate::tank::{LONGEST, T};
 
 pub struct Class {
@@ -14,7 +15,7 @@ pub struct Class {
     write: fn(seed: u64, calls: usize) -> Author,
 }
 
-pub const CLASSES: [Class; 10] = [
+pub const CLASSES: [Class; 11] = [
     Class { name: "inside", about: "one tank with room, the oracle domain", write: inside },
     Class { name: "dense", about: "small positions, many collisions", write: dense },
     Class { name: "short", about: "tanks of few positions, down to none", write: short },
@@ -25,6 +26,7 @@ pub const CLASSES: [Class; 10] = [
     Class { name: "many", about: "hundreds of runs, the oracle domain", write: many },
     Class { name: "wild", about: "any number anywhere", write: wild },
     Class { name: "fresh", about: "no opening, or a refused one", write: fresh },
+    Class { name: "sets", about: "settings texts and the sets that are kept", write: kept_sets },
 ];
 
 impl Class {
@@ -211,5 +213,14 @@ fn fresh(seed: u64, calls: usize) -> Author {
     let mark = author.mark();
     author.say(Call::Annotate { tank: 3, start: 0, end: T, mark });
     author.go_on(calls);
+    author
+}
+
+/// Texts that are read and refused, and openings with the sets that are kept or no longer are.
+fn kept_sets(seed: u64, calls: usize) -> Author {
+    let mut author = Author::new(seed, Habit { tanks: 8, marks: 5, wild: 30, ..HABIT });
+    while author.calls.len() < calls {
+        sets::go_on(&mut author);
+    }
     author
 }

@@ -77,7 +77,7 @@ pub fn scripts(
         }
         let mut rest = number;
         for _ in 0..depth {
-            calls.push(letters[(rest % letters.len() as u64) as usize]);
+            calls.push(letters[(rest % letters.len() as u64) as usize].clone());
             rest /= letters.len() as u64;
         }
         calls.extend(state());

@@ -6,10 +6,11 @@ use std::collections::BTreeMap;
 use crate::answer::{Aged, Answer, Extent};
 use crate::call::Call;
 use crate::mark::{listed, Content, Id};
+use crate::settings::{pairs_of, Kept};
 use crate::tanks::Tanks;
 
 /// The name of a fault, and what it gets wrong.
-pub const FAULTS: [(&str, &str); 51] = [
+pub const FAULTS: [(&str, &str); 80] = [
     ("refusal1", "answers for tank 0 in place of refusal 1"),
     ("refusal2", "accepts settings that break the rule"),
     ("refusal3", "accepts an empty edit"),
@@ -59,6 +60,35 @@ pub const FAULTS: [(&str, &str); 51] = [
     ("age-over", "ageing drops one stretch more than its budget"),
     ("age-done", "ageing tells 0 remaining after its first call"),
     ("age-idle", "ageing an untouched tank is done at once, with no refusal"),
+    ("refusal12", "reads a settings text with a bad line"),
+    ("settings-line", "names the line after the bad one"),
+    ("settings-zeros", "reads a number with leading zeros"),
+    ("settings-plus", "reads a number with a plus"),
+    ("settings-zero", "reads a 0"),
+    ("settings-513", "reads a 513"),
+    ("settings-return", "reads a line that ends with a carriage return"),
+    ("settings-name", "reads a name whose first letter is a capital"),
+    ("settings-version", "reads a text of version 2"),
+    ("settings-newline", "reads a text without its last newline"),
+    ("settings-left", "reads a text with something left over"),
+    ("settings-first", "looks for text left over before the lines"),
+    ("settings-rule", "refuses pairs that the opening would refuse"),
+    ("settings-same", "gives a text that says the same as the last one no new number"),
+    ("settings-count", "gives a refused text a number"),
+    ("kept-three", "keeps three sets"),
+    ("kept-five", "keeps five sets"),
+    ("kept-open", "forgets the kept sets at an opening"),
+    ("kept-open-set", "forgets the kept sets at an opening with one of them"),
+    ("set-zero", "takes set 0 for the newest one"),
+    ("set-newest", "answers the newest set for any that is kept"),
+    ("set-swapped", "tells each limit as the share and each share as the limit"),
+    ("set-narrow", "takes a set's number in 32 bits"),
+    ("open-set-newest", "opens with the newest set in place of another"),
+    ("open-set-none", "opens anew where the set is not kept"),
+    ("open-set-refused", "accepts an opening with pairs that break the rule"),
+    ("open-set-stays", "leaves the tanks as they were where it refuses the pairs"),
+    ("open-set-idle", "accepts an opening with a set and changes nothing"),
+    ("body-lines", "does not count the newlines of bodies"),
     ("run-count", "counts one run too many in a tank of 100 runs or more"),
     ("malformed-line", "names the line after the malformed one"),
 ];
@@ -78,18 +108,30 @@ impl Faulty {
         Self { tanks: Tanks::default(), fault: fault.into(), turn: 0, seen: BTreeMap::new() }
     }
 
-    pub fn malformed(&self, line: u64) -> u64 {
-        line + (self.fault == "malformed-line") as u64
+    /// The line that it calls malformed after these calls.
+    pub fn malformed(&self, line: u64, calls: &[Call]) -> u64 {
+        match self.fault.as_str() {
+            "malformed-line" => line + 1,
+            "body-lines" => {
+                let bodies = calls.iter().flat_map(Call::body);
+                line - bodies.filter(|&&byte| byte == b'\n').count() as u64
+            }
+            _ => line,
+        }
     }
 
     pub fn call(&mut self, call: &Call) -> Answer {
         let before = self.tanks.clone();
-        if let Some(answer) = self.instead(call) {
+        if let Some(answer) = self.instead(call).or_else(|| self.kept_instead(call)) {
             return answer;
         }
         let answer = self.tanks.call(call);
         let answer = match answer {
-            Answer::Refused(number) => return self.refused(number, call, &before),
+            Answer::Refused(number) => {
+                self.unopened(call, &before);
+                return self.refused(number, call, &before);
+            }
+            Answer::BadLine(line) => return self.bad_line(line, call),
             other => other,
         };
         self.afterwards(call, &before);
@@ -149,11 +191,91 @@ impl Faulty {
                 let idle = !self.tanks.tanks[*tank as usize].touched;
                 idle.then_some(Answer::Aged(Aged { dropped: 0, remaining: 0 }))
             }
-            (_, Call::Open { .. }) => {
+            (_, Call::Open { .. } | Call::OpenSet { .. }) => {
                 self.seen.clear();
                 None
             }
             _ => None,
+        }
+    }
+
+    /// The same of settings texts and of the sets that are kept.
+    fn kept_instead(&mut self, call: &Call) -> Option<Answer> {
+        match (self.fault.as_str(), call) {
+            ("settings-rule", Call::Settings { body }) => {
+                let settings = pairs_of(body).ok()?;
+                let refused = Tanks::default().call(&Call::Open { settings });
+                (refused != Answer::Accepted).then_some(Answer::BadLine(3))
+            }
+            ("settings-same", Call::Settings { body }) => {
+                let kept = &self.tanks.kept;
+                let same = pairs_of(body).ok().as_ref() == kept.sets.first();
+                (same && kept.number > 0).then_some(Answer::Set(kept.number))
+            }
+            ("set-zero", Call::Set { number: 0 }) => {
+                self.tanks.kept.sets.first().copied().map(Answer::Pairs)
+            }
+            ("set-narrow", Call::Set { number }) => {
+                Some(self.tanks.call(&Call::Set { number: *number as u32 as u64 }))
+            }
+            ("set-newest", Call::Set { number }) => {
+                let kept = &self.tanks.kept;
+                kept.set(*number).and(kept.sets.first().copied()).map(Answer::Pairs)
+            }
+            ("open-set-newest", Call::OpenSet { number }) => {
+                let kept = &self.tanks.kept;
+                let settings = kept.set(*number).and(kept.sets.first().copied())?;
+                Some(self.tanks.call(&Call::Open { settings }))
+            }
+            ("open-set-none", Call::OpenSet { number }) => {
+                if self.tanks.kept.set(*number).is_none() {
+                    self.tanks.call(&Call::Open { settings: [(1, 1); 8] });
+                    return Some(Answer::None);
+                }
+                None
+            }
+            ("open-set-idle", Call::OpenSet { .. }) => {
+                let accepted = self.tanks.clone().call(call) == Answer::Accepted;
+                accepted.then_some(Answer::Accepted)
+            }
+            _ => None,
+        }
+    }
+
+    /// Faults in what a refused opening leaves.
+    fn unopened(&mut self, call: &Call, before: &Tanks) {
+        if let ("open-set-stays", Call::OpenSet { .. }) = (self.fault.as_str(), call) {
+            self.tanks = before.clone();
+        }
+    }
+
+    /// Faults with a settings text that has a bad line: they read it as if it were another.
+    fn bad_line(&mut self, line: u64, call: &Call) -> Answer {
+        let text = String::from_utf8_lossy(call.body());
+        let mended = match self.fault.as_str() {
+            "refusal12" => return self.tanks.kept.take(Ok([(1, 1); 8])),
+            "settings-line" => return Answer::BadLine(line + 1),
+            "settings-count" => {
+                self.tanks.kept.number += 1;
+                return Answer::BadLine(line);
+            }
+            "settings-first" if text.lines().count() > 17 => return Answer::BadLine(18),
+            "settings-zeros" => text.replace("=00", "=").replace("=0", "="),
+            "settings-plus" => text.replace("=+", "="),
+            "settings-zero" => text.replace("=0\n", "=1\n"),
+            "settings-513" => text.replace("=513\n", "=512\n"),
+            "settings-return" => text.replace("\r\n", "\n"),
+            "settings-name" => text.replace("Share", "share"),
+            "settings-version" => text.replace("version=2\n", "version=1\n"),
+            "settings-newline" => format!("{text}\n"),
+            "settings-left" if line == 18 => {
+                text.lines().take(17).flat_map(|l| [l, "\n"]).collect()
+            }
+            _ => return Answer::BadLine(line),
+        };
+        match pairs_of(mended.as_bytes()) {
+            Ok(settings) => self.tanks.kept.take(Ok(settings)),
+            Err(_) => Answer::BadLine(line),
         }
     }
 
@@ -163,7 +285,8 @@ impl Faulty {
         if nine && before.pooled() >= 511 {
             return Answer::Refused(10);
         }
-        if self.fault != format!("refusal{number}") {
+        let opens = self.fault == "open-set-refused" && matches!(call, Call::OpenSet { .. });
+        if self.fault != format!("refusal{number}") && !opens {
             return Answer::Refused(number);
         }
         match call {
@@ -177,15 +300,18 @@ impl Faulty {
                 Answer::Stretches(*tank, Vec::new())
             }
             Call::Anchors { .. } => Answer::Anchors(Vec::new()),
-            Call::Open { .. } | Call::Annotate { .. } | Call::Delete { .. } => Answer::Accepted,
+            Call::Open { .. }
+            | Call::OpenSet { .. }
+            | Call::Annotate { .. }
+            | Call::Delete { .. } => Answer::Accepted,
             _ => Answer::None,
         }
     }
 
     /// Faults in what an accepted edit leaves.
     fn afterwards(&mut self, call: &Call, before: &Tanks) {
-        match (self.fault.as_str(), *call) {
-            ("left-inherit", Call::Insert { tank, at, len }) => {
+        match (self.fault.as_str(), call) {
+            ("left-inherit", &Call::Insert { tank, at, len }) => {
                 let old = &before.tanks[tank as usize];
                 if old.touched && 0 < at && at < old.length {
                     for mark in listed(old.at(at - 1)) {
@@ -193,7 +319,7 @@ impl Faulty {
                     }
                 }
             }
-            ("past-last", Call::Remove { tank, id, last }) => {
+            ("past-last", &Call::Remove { tank, id, last }) => {
                 let old = &before.tanks[tank as usize];
                 let carried = old.at(last).contains_key(&id);
                 let ends = old.anchors().into_iter();
@@ -203,17 +329,25 @@ impl Faulty {
                     self.tanks.call(&Call::Remove { tank, id, last });
                 }
             }
-            ("untouched-again", Call::Delete { tank, .. }) => {
+            ("untouched-again", &Call::Delete { tank, .. }) => {
                 let tank = &mut self.tanks.tanks[tank as usize];
                 tank.touched &= tank.length > 0;
             }
-            ("untouched-insert", Call::Insert { tank, len, .. }) => {
+            ("untouched-insert", &Call::Insert { tank, len, .. }) => {
                 let tank = &mut self.tanks.tanks[tank as usize];
                 if !tank.touched {
                     tank.length = tank.length.saturating_add(len);
                 }
             }
             ("other-tank", Call::Annotate { tank: 1, .. }) => self.tanks.tanks[2].touched = true,
+            ("kept-three", Call::Settings { .. }) => self.tanks.kept.sets.truncate(3),
+            ("kept-five", Call::Settings { .. }) => {
+                let fifth = before.kept.sets.get(3);
+                self.tanks.kept.sets.extend(fifth);
+            }
+            ("kept-open", Call::Open { .. }) | ("kept-open-set", Call::OpenSet { .. }) => {
+                self.tanks.kept = Kept::default();
+            }
             _ => {}
         }
     }
@@ -315,6 +449,9 @@ impl Faulty {
             }
             ("age-remaining", Call::Age { before, .. }, Answer::Aged(aged)) if aged.dropped > 0 => {
                 Answer::Aged(Aged { remaining: *before, ..aged })
+            }
+            ("set-swapped", _, Answer::Pairs(settings)) => {
+                Answer::Pairs(settings.map(|(share, limit)| (limit, share)))
             }
             ("age-done", _, Answer::Aged(aged)) => Answer::Aged(Aged { remaining: 0, ..aged }),
             ("run-count", _, Answer::Runs(runs)) if runs >= 100 => Answer::Runs(runs + 1),

@@ -2,8 +2,9 @@
 //!
 //! - `mark`, `call`, `answer`, `reader`: the console's protocol, lines in and lines out.
 //! - `tank`, `tanks`: the rules, as a model of positions.
+//! - `settings`: settings texts and the sets that are kept.
 //! - `mirror`: the Rust beside the model, and the oracle domain.
-//! - `random`, `author`, `classes`, `exhaust`, `text`: scripts.
+//! - `random`, `author`, `classes`, `exhaust`, `sets`, `text`: scripts.
 //! - `console`, `check`, `shrink`, `tally`: running a console, comparing, making a finding small.
 //! - `faults`: wrong answers on purpose, to see that the comparison notices them.
 //! - `cases`: document 01's checked examples as calls.
@@ -25,6 +26,8 @@ pub mod random;
 pub mod reader;
 pub mod refusals;
 pub mod script;
+pub mod sets;
+pub mod settings;
 pub mod shrink;
 pub mod tally;
 pub mod tank;

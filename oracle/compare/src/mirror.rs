@@ -44,14 +44,20 @@ impl Mirror {
 
     /// Follows a call that the model answers with `answer`, from the state `before` it.
     pub fn call(&mut self, before: &Tanks, call: &Call, answer: &Answer) -> Said {
-        if let Call::Open { .. } = call {
-            self.tanks = fresh(self.joined);
-            return Said::Nothing;
+        match call {
+            Call::OpenSet { .. } if *answer == Answer::None => return Said::Nothing,
+            Call::Open { .. } | Call::OpenSet { .. } => {
+                self.tanks = fresh(self.joined);
+                return Said::Nothing;
+            }
+            // The Rust has no settings.
+            Call::Settings { .. } | Call::Set { .. } => return Said::Nothing,
+            _ => {}
         }
         if matches!(answer, Answer::Refused(_)) {
             return Said::Nothing;
         }
-        let place = call.tank().expect("every call but open names a tank") as usize;
+        let place = call.tank().expect("an edit and a question name a tank") as usize;
         let Some(original) = &mut self.tanks[place] else { return Said::Nothing };
         let tank = &before.tanks[place];
         if !inside(tank, call) || !original.one_content(call) {
@@ -112,7 +118,9 @@ pub fn inside(tank: &Tank, call: &Call) -> bool {
         | Call::Whole { .. }
         | Call::WholeNeeded { .. }
         | Call::Find { .. } => true,
-        Call::Open { .. } => false,
+        Call::Open { .. } | Call::Settings { .. } | Call::Set { .. } | Call::OpenSet { .. } => {
+            false
+        }
     }
 }
 
@@ -166,7 +174,9 @@ impl Original {
                     _ => Said::Done,
                 }
             }
-            Call::Age { before, budget, .. } => Said::Answer(Answer::Aged(aged(map, before, budget))),
+            Call::Age { before, budget, .. } => {
+                Said::Answer(Answer::Aged(aged(map, before, budget)))
+            }
             _ => asked(map, tank, call),
         }
     }

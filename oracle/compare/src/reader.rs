@@ -1,6 +1,6 @@
 //! The console's input: bytes to calls, or the number of the first malformed line.
 
-use crate::call::{Call, Field, SHAPES};
+use crate::call::{Call, Field, LONGEST_BODY, SHAPES};
 use crate::mark::Value;
 
 /// A line's bytes before its newline, at most.
@@ -28,8 +28,14 @@ pub fn read(input: &[u8]) -> Read {
         newlines += 1;
         match step {
             Step::Within(more) => group = Some(more),
-            Step::Whole(call) => {
-                read.calls.push(call);
+            Step::Whole(whole) => {
+                let Some(body) = input[at..].get(..whole.body()) else {
+                    read.malformed = Some(newlines + in_body(&input[at..]) + 1);
+                    return read;
+                };
+                at += body.len();
+                newlines += in_body(body);
+                read.calls.push(Call::of(whole.shape, &whole.fields, body));
                 read.whole = at;
             }
         }
@@ -50,7 +56,21 @@ struct Group {
 
 enum Step {
     Within(Group),
-    Whole(Call),
+    Whole(Group),
+}
+
+impl Group {
+    /// How many bytes come behind its lines.
+    fn body(&self) -> usize {
+        match (SHAPES[self.shape].1.last(), self.fields.last()) {
+            (Some(&"bytes"), Some(Field::Number(size))) => *size as usize,
+            _ => 0,
+        }
+    }
+}
+
+fn in_body(bytes: &[u8]) -> u64 {
+    bytes.iter().filter(|&&byte| byte == b'\n').count() as u64
 }
 
 /// One more line; nothing where it is malformed.
@@ -78,7 +98,7 @@ fn taken(group: Option<Group>, line: &[u8]) -> Option<Step> {
     }
     group.lines += 1;
     if group.lines == names.len() {
-        return Some(Step::Whole(Call::of(group.shape, &group.fields)));
+        return Some(Step::Whole(group));
     }
     Some(Step::Within(group))
 }
@@ -88,6 +108,7 @@ fn largest(name: &str) -> u64 {
         "key" => u16::MAX as u64,
         "lamport" => u32::MAX as u64,
         "flags" => u8::MAX as u64,
+        "bytes" => LONGEST_BODY,
         _ => u64::MAX,
     }
 }

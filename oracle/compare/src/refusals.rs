@@ -3,6 +3,7 @@
 use crate::call::{Call, Settings};
 use crate::classes::ROOMY;
 use crate::mark::{Content, Id, Mark, Value};
+use crate::sets;
 use crate::tank::{LONGEST, T};
 
 const ID: Id = (1, 5, 1);
@@ -88,7 +89,7 @@ fn ageings() -> Vec<Call> {
     let mut calls = vec![Call::Open { settings: ROOMY }];
     let touch = [annotate(0, 3, 5, mark(1)), annotate(0, 5, 6, mark(2))];
     for touch in [&touch[..0], &touch] {
-        calls.extend(touch);
+        calls.extend_from_slice(touch);
         for (before, budget) in [(T + 1, 0), (0, 0), (T + 1, 1), (u64::MAX, u64::MAX), (0, 1)] {
             calls.push(Call::Age { tank, before, budget });
         }
@@ -241,5 +242,6 @@ fn pool() -> Vec<Call> {
 }
 
 pub fn refusals() -> Vec<Call> {
-    [openings(), ranges(), ageings(), longest(), contents(), limit(), pool()].concat()
+    let tanks = [openings(), ranges(), ageings(), longest(), contents(), limit(), pool()];
+    [tanks.concat(), sets::refused()].concat()
 }

@@ -20,8 +20,7 @@ impl Script {
     }
 
     pub fn text(&self) -> Vec<u8> {
-        let mut text: Vec<u8> =
-            self.calls.iter().flat_map(|c| c.to_string().into_bytes()).collect();
+        let mut text: Vec<u8> = self.calls.iter().flat_map(Call::text).collect();
         text.extend(&self.tail);
         text
     }
@@ -36,7 +35,12 @@ impl Script {
     }
 
     /// Whether it may follow another script in one input: it starts anew and ends between groups.
+    /// An opening leaves the kept sets, so a script that has to do with them goes alone.
     pub fn joins(&self) -> bool {
-        self.tail.is_empty() && matches!(self.calls.first(), Some(Call::Open { .. }))
+        let keeps = |call: &Call| {
+            matches!(call, Call::Settings { .. } | Call::Set { .. } | Call::OpenSet { .. })
+        };
+        let anew = matches!(self.calls.first(), Some(Call::Open { .. }));
+        anew && self.tail.is_empty() && !self.calls.iter().any(keeps)
     }
 }

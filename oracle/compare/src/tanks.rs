@@ -4,6 +4,7 @@
 use crate::answer::Answer;
 use crate::call::{Call, Settings};
 use crate::mark::{listed, Mark, Set};
+use crate::settings::{self, Kept};
 use crate::tank::{self, Tank, LONGEST};
 
 /// Runs in all.
@@ -22,11 +23,12 @@ const ANCHOR_ROOM: u64 = 32768;
 pub struct Tanks {
     pub settings: Settings,
     pub tanks: [Tank; 8],
+    pub kept: Kept,
 }
 
 impl Default for Tanks {
     fn default() -> Self {
-        Self { settings: [(1, 1); 8], tanks: Default::default() }
+        Self { settings: [(1, 1); 8], tanks: Default::default(), kept: Kept::default() }
     }
 }
 
@@ -48,10 +50,18 @@ impl Tanks {
     }
 
     fn judged(&mut self, call: &Call) -> Judged<Answer> {
-        if let Call::Open { settings } = *call {
-            return self.open(settings);
+        match call {
+            Call::Open { settings } => return self.open(*settings),
+            Call::Settings { body } => return Ok(self.kept.take(settings::pairs_of(body))),
+            Call::Set { number } => {
+                return Ok(self.kept.set(*number).map_or(Answer::None, Answer::Pairs))
+            }
+            Call::OpenSet { number } => {
+                return self.kept.set(*number).map_or(Ok(Answer::None), |set| self.open(set))
+            }
+            _ => {}
         }
-        let tank = call.tank().expect("every call but open names a tank");
+        let tank = call.tank().expect("an edit and a question name a tank");
         refuse_if(tank >= 8, 1)?;
         match *call {
             Call::Annotate { start, end, mark, .. } => self.annotate(tank, start, end, mark),
@@ -79,7 +89,7 @@ impl Tanks {
     }
 
     fn open(&mut self, settings: Settings) -> Judged<Answer> {
-        *self = Tanks::default();
+        *self = Tanks { kept: std::mem::take(&mut self.kept), ..Tanks::default() };
         let pair = |&(share, limit): &(u64, u64)| 1 <= share && share <= limit && limit <= POOL;
         refuse_if(!settings.iter().all(pair), 2)?;
         refuse_if(settings.iter().map(|pair| pair.0).sum::<u64>() > POOL, 2)?;
@@ -196,11 +206,14 @@ impl Tanks {
                 Answer::Extent(tank.find(at))
             }
             Call::Open { .. }
+            | Call::Settings { .. }
+            | Call::Set { .. }
+            | Call::OpenSet { .. }
             | Call::Annotate { .. }
             | Call::Insert { .. }
             | Call::Delete { .. }
             | Call::Remove { .. }
-            | Call::Age { .. } => unreachable!("an edit is no question"),
+            | Call::Age { .. } => unreachable!("no question of a tank"),
         })
     }
 }

@@ -6,7 +6,7 @@ use crate::random::Random;
 use crate::script::Script;
 
 /// Lines that are malformed wherever they stand, or only where another is wanted.
-const LINES: [&str; 40] = [
+const LINES: [&str; 46] = [
     "",
     "op",
     "op=",
@@ -37,6 +37,12 @@ const LINES: [&str; 40] = [
     "flags=256",
     "kind=Null",
     "kind=float",
+    "bytes=0",
+    "bytes=1",
+    "bytes=17",
+    "bytes=131072",
+    "bytes=131073",
+    "number=18446744073709551616",
     "value=0",
     "value=2",
     "value=-0",
@@ -84,19 +90,12 @@ fn change_line(
     text: &mut Vec<u8>,
     other: impl Fn(&mut Random, &str) -> Option<String>,
 ) {
-    let whole = String::from_utf8(std::mem::take(text)).expect("written as a text");
-    let mut lines: Vec<String> = whole.lines().map(String::from).collect();
+    let lines: Vec<&[u8]> = text.split_inclusive(|&byte| byte == b'\n').collect();
     let at = random.below(lines.len() as u64) as usize;
-    match other(random, &lines[at]) {
-        Some(line) => lines[at] = line,
-        None => {
-            lines.remove(at);
-        }
-    }
-    for line in lines {
-        text.extend(line.bytes());
-        text.push(b'\n');
-    }
+    let line = String::from_utf8_lossy(lines[at]);
+    let line = other(random, line.trim_end_matches('\n')).map(|line| line + "\n");
+    let (before, after) = (lines[..at].concat(), lines[at + 1..].concat());
+    *text = [before, line.unwrap_or_default().into_bytes(), after].concat();
 }
 
 /// Around the longest line that is read: 64 bytes are in order for the length, but hold no number.

@@ -1,6 +1,6 @@
 //! The console's lines: what is written is read back, and what is malformed is named.
 
-use compare::call::SHAPES;
+use compare::call::{Call, SHAPES};
 use compare::classes::CLASSES;
 use compare::reader::read;
 
@@ -75,4 +75,26 @@ fn values_are_read_by_their_kind() {
         assert_eq!(read(text(kind, value).as_bytes()).malformed, Some(7), "{kind} {value}");
     }
     assert_eq!(read(text("real", "0").as_bytes()).malformed, Some(6));
+}
+
+#[test]
+fn a_body_is_as_long_as_its_line_says() {
+    let group = |size: usize, body: &[u8]| {
+        [format!("op=settings\nbytes={size}\n").as_bytes(), body].concat()
+    };
+    let bodies = [vec![], vec![b'\n'; 3], b"op=length\ntank=00\n".to_vec(), vec![255; 131_072]];
+    for body in bodies {
+        let input = [group(body.len(), &body), b"op=length\ntank=00\n".to_vec()].concat();
+        let read = read(&input);
+        let newlines = body.iter().filter(|&&byte| byte == b'\n').count() as u64;
+        assert_eq!(read.malformed, Some(newlines + 4));
+        assert_eq!(read.calls, [Call::Settings { body }]);
+    }
+    let malformed = |text: &[u8]| read(text).malformed;
+    assert_eq!(malformed(&group(0, b"")), None);
+    assert_eq!(malformed(&group(1, b"")), Some(3));
+    assert_eq!(malformed(&group(3, b"\n\n")), Some(5));
+    assert_eq!(malformed(&group(3, b"\n\nx")), None);
+    assert_eq!(malformed(&group(131_073, &[b'\n'; 131_073])), Some(2));
+    assert_eq!(malformed(b"op=settings\nbytes=03\nabc"), Some(2));
 }

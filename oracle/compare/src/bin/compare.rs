@@ -13,7 +13,7 @@ use compare::mirror::hush;
 use compare::script::Script;
 use compare::shrink::shrink;
 use compare::tally::Tally;
-use compare::{cases, refusals, text};
+use compare::{cases, refusals, sets, text};
 
 const USE: &str = "\
 compare CONSOLE [--quick | --long] [--seeds A..B] [--calls N] [--only CLASS | --without CLASS]
@@ -26,8 +26,8 @@ CONSOLE       the console to compare: call scripts in, answers out
 --long        the long round
 --seeds A..B  random scripts with these seeds, in place of the round's own
 --calls N     so many calls in a random script, in place of the round's own
---only CLASS  one class alone: a class of random scripts, or cases, refusals, text,
-              exhaust
+--only CLASS  one class alone: a class of random scripts, or cases, refusals, settings,
+              text, exhaust
 --without CLASS
               all classes but one
 
@@ -135,6 +135,7 @@ impl Round {
         };
         part("cases", &mut std::iter::once(fixed("cases", cases::cases())))?;
         part("refusals", &mut std::iter::once(fixed("refusals", refusals::refusals())))?;
+        part("settings", &mut sets::scripts().into_iter())?;
         for class in &CLASSES {
             part(class.name, &mut self.seeds.clone().map(|seed| class.script(seed, self.calls)))?;
         }

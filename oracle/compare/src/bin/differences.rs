@@ -210,7 +210,7 @@ fn emptied() {
         tank.annotate(0..5, &mark(A));
         tank.delete(0..END);
     };
-    let after = |call: Call| rules(&[calls[0], calls[1], call]);
+    let after = |call: Call| rules(&[calls[0].clone(), calls[1].clone(), call]);
     show(
         "emptied tank: length (list)",
         after(Call::Length { tank: 0 }),
@@ -251,7 +251,7 @@ fn sets() {
         join_neighbours(joined);
         show(
             &format!("A on 0..5 and on 5..10, same marks in 0..10 (list, joined: {joined})"),
-            rules(&[annotate(0, 5, A), annotate(5, 10, A), same]),
+            rules(&[annotate(0, 5, A), annotate(5, 10, A), same.clone()]),
             rust(|tank| {
                 tank.annotate(0..5, &mark(A));
                 tank.annotate(5..10, &mark(A));
@@ -275,7 +275,7 @@ fn anchors() {
     let list = Call::Anchors { tank: 0, room: 9 };
     show(
         "A and C on 10..20: anchors",
-        rules(&[annotate(10, 20, A), annotate(10, 20, C), list]),
+        rules(&[annotate(10, 20, A), annotate(10, 20, C), list.clone()]),
         rust(|tank| {
             tank.annotate(10..20, &mark(A));
             tank.annotate(10..20, &mark(C));

@@ -30,7 +30,7 @@ fn main() -> io::Result<()> {
         write!(output, "{}", console.call(call))?;
     }
     if let Some(line) = read.malformed {
-        writeln!(output, "malformed={}", console.malformed(line))?;
+        writeln!(output, "malformed={}", console.malformed(line, &read.calls))?;
     }
     output.flush()
 }

@@ -15,6 +15,7 @@ use compare::check::answers;
 use compare::classes::CLASSES;
 use compare::refusals::refusals;
 use compare::script::Script;
+use compare::settings::text_of;
 use compare::tally::Tally;
 
 /// How many scripts of each class stand in the sample, and how many calls each has.
@@ -63,13 +64,14 @@ fn sample() -> Script {
     Script { class: "sample", seed: SEED, calls, tail: Vec::new() }
 }
 
-/// A short script of which a line in the middle is malformed: what follows it isn't read.
+/// A short script of which a line in the middle is malformed: what follows it isn't read. The
+/// newlines of the body before it count.
 fn malformed() -> Script {
-    let good = CLASSES[0].script(SEED, 12);
-    let spoilt =
-        good.calls.iter().map(Call::to_string).collect::<String>() + "op=length\ntank=00\n";
-    let rest = good.text();
-    Script::of_text("malformed", SEED, &[spoilt.as_bytes(), &rest].concat())
+    let good = CLASSES[0].script(SEED, 12).text();
+    let body = text_of(&[(64, 512); 8]);
+    let read = Call::Settings { body }.text();
+    let spoilt = b"op=length\ntank=00\n".to_vec();
+    Script::of_text("malformed", SEED, &[good.clone(), read, spoilt, good].concat())
 }
 
 fn write(folder: &Path, name: &str, script: &Script, tally: &mut Tally) {
@@ -100,6 +102,7 @@ fn wanted() -> Vec<&'static str> {
         "refused 9",
         "refused 10",
         "refused 11",
+        "refused 12",
         "refused 14",
         "refused 18",
         "open: accepted",
@@ -131,5 +134,10 @@ fn wanted() -> Vec<&'static str> {
         "anchors: a list",
         "find: a stretch",
         "age: a number",
+        "settings: a number",
+        "set: pairs",
+        "set: none",
+        "open_set: accepted",
+        "open_set: none",
     ]
 }
