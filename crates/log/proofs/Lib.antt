@@ -1,0 +1,4 @@
+pub mod Bytes
+pub mod Ends
+pub mod Tidy
+pub mod Turns
