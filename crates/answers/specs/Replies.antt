@@ -13,6 +13,8 @@ use Rattle.questions.specs.declared.Shown.{Shown}
 use Rattle.questions.specs.declared.Told.{Told}
 use Rattle.lists.specs.declared.Listed.{Listed}
 use Rattle.lists.specs.declared.anchors.Anchor.{Anchor}
+use Rattle.log.specs.declared.Log.{Log}
+use Rattle.log.specs.declared.Stop.{Stop}
 use Rattle.tank.specs.Rules.{whenAccepted}
 use Rattle.settings_text.specs.declared.Asked as sets
 use Rattle.settings_text.specs.declared.Taken.{Taken}
@@ -147,3 +149,13 @@ foundSays a = cond (a .found) (pairsSay 8 0 (a .settings)) noneSays
 -- a text that was taken: the number of its set, or the refusal and the line
 abbrev pub takenSays : Taken → Pieces
 takenSays t = whenAccepted (t .number) (lineSays (bytes "set=") (t .kept .number)) (refusedSays (t .number) ++ lineSays (bytes "line=") (t .line))
+
+-- ---- Logs
+-- where a log stands: how many lines were taken, or the refusal and the line at which it stopped
+unfoldable pub stopSays : Stop → ℕ → Pieces
+stopSays Stop.Going lines = lineSays (bytes "lines=") lines
+stopSays (Stop.Refused line number) lines = refusedSays number ++ lineSays (bytes "line=") line
+
+-- what a log has come to: how many edits were applied, and where it stands
+abbrev pub reportSays : Log → Pieces
+reportSays l = lineSays (bytes "applied=") (l .edits) ++ stopSays (l .stop) (l .reader .newlines)

@@ -6,6 +6,7 @@ mod sets; // sets.rt: sets of marks
 mod replies; // replies.rt: what edits and questions answer
 mod listing; // listing.rt: stretches and anchors
 mod settings; // settings.rt: settings
+mod reports; // reports.rt: what a log has come to
 
 pub use listing::put_anchor;
 pub use listing::put_list;
@@ -24,6 +25,7 @@ pub use replies::put_shared;
 pub use replies::put_shown;
 pub use replies::put_told;
 pub use replies::put_touched;
+pub use reports::put_report;
 pub use sets::set_or;
 pub use settings::put_found;
 pub use settings::put_taken;

@@ -8,6 +8,8 @@ use Rattle.settings_text.specs.declared.Kept.{Kept}
 use Rattle.settings_text.specs.declared.Taken.{Taken}
 use Rattle.settings_text.specs.Kept as keeping
 use Rattle.settings_text.specs.Text as reading
+use Rattle.log.specs.declared.Log.{Log}
+use Rattle.log.specs.Log as logs
 use Rattle.tanks.specs.declared.Tanks.{Tanks}
 use Rattle.tanks.specs.House.{House, openNumber, opening}
 use Rattle.tanks.specs.Pool.{meaning, Sound}
@@ -18,7 +20,7 @@ use Rattle.script.specs.declared.Op.{Op}
 use Rattle.script.specs.declared.Text.{Text}
 use Rattle.script.specs.Args.{numberAt}
 use Rattle.answers.specs.Waiting.{Pieces, Adds}
-use Rattle.answers.specs.Replies.{noneSays, acceptedSays, foundSays, takenSays}
+use Rattle.answers.specs.Replies.{noneSays, acceptedSays, foundSays, takenSays, reportSays}
 use Rattle.clerk.specs.declared.Moved.{Moved}
 use Rattle.clerk.specs.declared.Noted.{Noted}
 use Rattle.clerk.specs.declared.Side.{Side}
@@ -27,45 +29,59 @@ use Rattle.clerk.specs.Calls.{changed, changeSays, answerSays, listingSa
 -- ---- What is kept
 -- nothing yet
 abbrev pub emptySide : Side
-emptySide = record { sets = keeping.keptNone }
+emptySide = record { sets = keeping.keptNone; log = logs.fresh }
 
 -- other sets of settings
 abbrev pub withSets : Side → Kept → Side
-withSets side kept = record { sets = kept }
+withSets side kept = record { sets = kept; log = side .log }
+
+-- another log
+abbrev pub withLog : Side → Log → Side
+withLog side l = record { sets = side .sets; log = l }
 
 -- it is in form
 pub record Settled (side : Side) : Type 0 where
   pub sets : keeping.Sound (side .sets)
+  pub log : logs.Sound (side .log)
 
 -- ---- Calls that bring a text
 -- settings: what taking the text hands back
 abbrev pub takenFrom : Side → List ℕ → Taken
 takenFrom side body = keeping.takenOf (side .sets) (reading.settingsOf body)
 
+-- log: where the tanks and the log are after a read of it
+abbrev pub logRead : House → Side → List ℕ → logs.Course
+logRead h side body = logs.afterBytes (logs.courseAt h (side .log)) body
+
 -- the tanks after it
 unfoldable pub textHouse : Text → House → Side → Call → List ℕ → House
 textHouse Text.Settings h side c body = h
+textHouse Text.Log h side c body = logRead h side body .house
 
 -- what is kept after it
 unfoldable pub textSide : Text → House → Side → Call → List ℕ → Side
 textSide Text.Settings h side c body = withSets side (takenFrom side body .kept)
+textSide Text.Log h side c body = withLog side (logs.logAt (logRead h side body))
 
 -- its answer
 unfoldable pub textSays : Text → House → Side → Call → List ℕ → Pieces
 textSays Text.Settings h side c body = takenSays (takenFrom side body)
+textSays Text.Log h side c body = reportSays (logs.logAt (logRead h side body))
 
 -- ---- Calls that have to do with what is kept alone
 -- the set that a call asks for
 abbrev pub setFor : Side → Call → Asked
 setFor side c = keeping.askedOf (side .sets) (numberAt c 0)
 
--- what is kept after it
+-- what is kept after it; the end of a log has the next read begin another
 unfoldable pub deskSide : Desk → Side → Call → Side
 deskSide Desk.Set side c = side
+deskSide Desk.LogEnd side c = withLog side logs.fresh
 
 -- its answer
 unfoldable pub deskSays : Desk → Side → Call → Pieces
 deskSays Desk.Set side c = foundSays (setFor side c)
+deskSays Desk.LogEnd side c = reportSays (logs.atEnd (side .log))
 
 -- ---- Calls that have to do with that and with the tanks
 -- the tanks after it: those that opening with a kept set hands back, refused or not; without one they stay

@@ -4,17 +4,20 @@ ghost use Prim.Native.Nat.{_≤_};
 ghost use lib.ListN.{length};
 ghost use Rattle.script.specs.declared.Both as boths;
 ghost use Rattle.script.specs.declared.Desk as desks;
+ghost use Rattle.log.specs.Log as logs;
 ghost use Rattle.tanks.specs.Pool.{Sound, meaning};
 ghost use Rattle.answers.specs.Waiting.{pieceRoom};
-ghost use Rattle.answers.specs.Replies.{takenSays};
-ghost use Rattle.clerk.specs.Desk.{Settled, withSets, takenFrom, deskSide, deskSays, bothHouse, bothSide, bothSays, Notes, Moves};
+ghost use Rattle.answers.specs.Replies.{takenSays, reportSays};
+ghost use Rattle.clerk.specs.Desk.{Settled, withSets, withLog, takenFrom, logRead, deskSide, deskSays, bothHouse, bothSide, bothSays, Notes, Moves};
 use super::Moved;
 use super::Noted;
 use super::Side;
 use answers::accept;
 use answers::none;
 use answers::put_found;
+use answers::put_report;
 use answers::put_taken;
+use log::Log;
 use script::Call;
 use tanks::Tanks;
 
@@ -22,7 +25,22 @@ use tanks::Tanks;
 fn with_sets(side: Side, sets: settings_text::Kept) -> Side
     ensures { λ r. ⌜ r ≡ withSets side sets ⌝ }
 {
-    Side { sets: sets }
+    let log = side.log;
+    Side {
+        sets: sets,
+        log: log,
+    }
+}
+
+// Another log, in the same way.
+fn with_log(side: Side, log: Log) -> Side
+    ensures { λ r. ⌜ r ≡ withLog side log ⌝ }
+{
+    let sets = side.sets;
+    Side {
+        sets: sets,
+        log: log,
+    }
 }
 
 // A text of settings: it is kept where it is good.
@@ -77,4 +95,35 @@ pub fn open_set(s: Tanks, side: Side, call: Call, out: &mut [u8], at: usize) -> 
         side: side,
         at: k,
     }
+}
+
+// A read of the edge boxes' log: the tanks go to its reader once, and through an edit once a group.
+pub fn read_log(s: Tanks, side: Side, body: &[u8], out: &mut [u8], at: usize) -> Moved
+    requires { ⌜ Sound s × Settled side ⌝ }
+    requires { ⌜ pieceRoom ≤ length (now out) ⌝ }
+    ensures { λ r. ⌜ Moves (logRead (meaning s) side (now (body .entry)) .house) (withLog side (logs.logAt (logRead (meaning s) side (now (body .entry))))) (reportSays (logs.logAt (logRead (meaning s) side (now (body .entry))))) (now (out .entry)) at r (now (out .exit)) ⌝ }
+{
+    let before = side.log;
+    let t = log::take(s, before, body);
+    let tanks = t.tanks;
+    let after = t.log;
+    let k = put_report(out, at, after);
+    let next = with_log(side, after);
+    Moved {
+        tanks: tanks,
+        side: next,
+        at: k,
+    }
+}
+
+// The end of the log: the next read begins another.
+pub fn end_log(side: Side, out: &mut [u8], at: usize) -> Noted
+    requires { ⌜ Settled side ⌝ }
+    requires { ⌜ pieceRoom ≤ length (now out) ⌝ }
+    ensures { λ r. ⌜ Notes (withLog side logs.fresh) (reportSays (logs.atEnd (side .log))) (now (out .entry)) at r (now (out .exit)) ⌝ }
+{
+    let before = side.log;
+    let k = put_report(out, at, log::end(before));
+    let next = with_log(side, log::begin());
+    Noted { side: next, at: k }
 }

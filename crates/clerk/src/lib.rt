@@ -24,6 +24,7 @@ use edits::inserted;
 use edits::opened;
 use edits::removed;
 pub use listing::whole;
+use log::Log;
 use script::Both;
 use script::Call;
 use script::Change;
@@ -46,9 +47,10 @@ pub struct Done {
     pub at: usize,
 }
 
-// What is kept beside the tanks: the last four sets of settings that were read.
+// What is kept beside the tanks: the last four sets of settings that were read, and the log that is under way.
 pub struct Side {
     pub sets: Kept,
+    pub log: Log,
 }
 
 // What is kept after a call, and how much of the output waits.
@@ -111,7 +113,11 @@ pub fn empty() -> Side
     ensures { λ r. ⌜ (r ≡ emptySide) × Settled r ⌝ }
 {
     let sets = settings_text::none();
-    Side { sets: sets }
+    let log = log::begin();
+    Side {
+        sets: sets,
+        log: log,
+    }
 }
 
 // A call that changes the tanks: the state after it, and its answer in the output.
@@ -192,6 +198,7 @@ fn take_text(
                 at: d.at,
             }
         }
+        Text::Log => desk::read_log(s, side, body, out, at),
     }
 }
 
@@ -203,6 +210,7 @@ fn at_desk(side: Side, d: Desk, call: Call, out: &mut [u8], at: usize) -> Noted
 {
     match d {
         Desk::Set => desk::set(side, call, out, at),
+        Desk::LogEnd => desk::end_log(side, out, at),
     }
 }
 

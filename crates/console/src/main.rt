@@ -55,6 +55,8 @@ fn page_4() {
     say(b"  age                     tank before budget\n");
     say(b"  settings                bytes, and behind that line so many bytes\n");
     say(b"  set, open_set           number\n");
+    say(b"  log                     bytes, and behind that line so many bytes\n");
+    say(b"  log_end                 none\n");
     say(b"\n");
 }
 
@@ -80,6 +82,12 @@ fn page_6() {
         b"The bytes behind settings are a text of 17 lines, version=1, share0=N, limit0=N and on to limit7=N, at most 131072 in all. The\n",
     );
     say(b"last four that were good are kept; open_set opens with one of them.\n");
+    say(
+        b"The bytes behind log are one read of a log, which is groups of annotate, insert and delete as above, cut anywhere. Each is\n",
+    );
+    say(
+        b"applied when its last newline comes; the first bad line or refused edit stops the log. log_end ends it; the next log is a new one.\n",
+    );
     say(b"\n");
 }
 
@@ -120,6 +128,9 @@ fn page_settings() {
         b"  settings                set=N, its number from 1 on; refused=12 and line=L, its first bad line\n",
     );
     say(b"  set                     share0= limit0= and on to limit7=\n");
+    say(
+        b"  log, log_end            applied=N, the edits so far, then lines=N, the lines so far, or where it stopped refused=R and line=L\n",
+    );
 }
 
 fn page_8() {
@@ -166,6 +177,7 @@ fn page_10() {
     say_refusal(b"  ", 10);
     say_refusal(b"  ", 11);
     say_refusal(b"  ", 12);
+    say_refusal(b"  ", 13);
     say_refusal(b"  ", 14);
     say_refusal(b"  ", 18);
     say(b"\n");

@@ -1,4 +1,5 @@
 pub mod Bytes
+pub mod Cuts
 pub mod Ends
 pub mod Tidy
 pub mod Turns

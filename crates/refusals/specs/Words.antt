@@ -4,7 +4,7 @@ use Prim.Native.Nat.{ℕ}
 use lib.ListN.{getD}
 use Rattle.text.specs.Bytes.{bytes}
 
--- what each number says, from 0 on; 0 is no refusal, and 13, 15, 16 and 17 are no number of any call so far
+-- what each number says, from 0 on; 0 is no refusal, and 15, 16 and 17 are no number of any call so far
 abbrev pub refusals : List (List ℕ)
 refusals =
     [] ∷
@@ -20,7 +20,7 @@ refusals =
     bytes "more runs than the tanks can share" ∷  -- 10
     bytes "less room than the answer takes" ∷  -- 11
     bytes "a settings text with a bad line" ∷  -- 12
-    [] ∷  -- 13
+    bytes "a log with a bad line" ∷  -- 13
     bytes "flags that no type makes" ∷  -- 14
     [] ∷  -- 15
     [] ∷  -- 16

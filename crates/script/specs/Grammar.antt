@@ -180,6 +180,8 @@ ops =
     text Text.Settings "settings" (bodySize ∷ []) ∷
     desk Desk.Set "set" (setNumber ∷ []) ∷
     both Both.OpenSet "open_set" (setNumber ∷ []) ∷
+    text Text.Log "log" (bodySize ∷ []) ∷
+    desk Desk.LogEnd "log_end" [] ∷
     []
 
 -- between two groups there is no op, and the line that names one is to come

@@ -95,10 +95,10 @@ movedOf op row place numbers kind value =
 abbrev pub badOf : Call → Read
 badOf c = record { call = c; progress = Progress.Bad }
 
--- what is read goes into the call: an op begins it anew
+-- what is read goes into the call: an op begins it anew, and one without fields is whole with its line
 abbrev pub withOp : Call → ReadOp → Read
 withOp c ReadOp.Bad = badOf c
-withOp c (ReadOp.Row row) = record { call = freshOf row; progress = Progress.More }
+withOp c (ReadOp.Row row) = record { call = freshOf row; progress = progressOf (fieldAt row 0 .holds) }
 
 -- a number goes to its field's place
 abbrev pub withNumber : Call → Parsed → Read

@@ -81,11 +81,13 @@ pub enum Listing {
 // Ops that bring a text, as the body behind their line.
 pub enum Text {
     Settings,
+    Log,
 }
 
 // Ops that have to do with what is kept beside the tanks alone.
 pub enum Desk {
     Set,
+    LogEnd,
 }
 
 // Ops that have to do with that and with the tanks.

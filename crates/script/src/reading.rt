@@ -212,6 +212,7 @@ fn bad(call: Call) -> Read
     }
 }
 
+// An op begins the call anew: it is whole at once where the op has no fields.
 fn with_op(call: Call, o: ReadOp) -> Read
     ensures { λ r. ⌜ r ≡ withOp call o ⌝ }
 {
@@ -219,9 +220,10 @@ fn with_op(call: Call, o: ReadOp) -> Read
         return bad(call);
     };
     let next = fresh(row);
+    let stands = progress(field_holds(field_at(row, 0)));
     Read {
         call: next,
-        progress: Progress::More,
+        progress: stands,
     }
 }
 

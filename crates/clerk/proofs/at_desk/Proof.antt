@@ -1,16 +1,16 @@
--- There is one op.
+-- By the op.
 use Rattle.clerk.proofs.Performing.{as-desk}
-use Rattle.script.specs.declared.Desk.{Desk}
+use Rattle.clerk.specs.Desk.{deskSide, deskSays}
 use borrow.Author.Needs.{needs}
-use mathlib.Core.Path.{_≡_, refl}
 use Rattle.clerk.proofs.at_desk.Statement.{statement}
 use Rattle.clerk.proofs.at_desk.Tie as tie
 
-only : (d : Desk) → d ≡ Desk.Set
-only Desk.Set = refl
-
 returns : tie.Need-returns
-returns c = as-desk _ _ (only (c .before .before .before .before .before .args .d)) (c .before .before .set .ensures)
+returns c = as-desk _ _ (c .before .before .before .before .enum-told .given .1) (c .before .before .set .ensures)
+
+returns-2 : tie.Need-returns-2
+unfolding deskSide deskSays
+returns-2 c = as-desk _ _ (c .before .before .before .before .enum-told2 .given .1) (c .before .before .end-log .ensures)
 
 pub at-desk-spec : {M : Type 1} → statement M
-at-desk-spec = tie.close (tie.spec (λ c κs. search needs) (λ c. search needs) returns)
+at-desk-spec = tie.close (tie.spec (λ c. search needs) (λ c κs. search needs) (λ c. search needs) (λ c κs. search needs) (λ c. search needs) returns (λ c. search needs) returns-2)

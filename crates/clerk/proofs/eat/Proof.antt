@@ -128,6 +128,9 @@ loop-again-8 c =
 loop-less-8 : tie.Need-loop-less-8 Inv-loop μ-loop
 loop-less-8 c = let k = c .before .before .before .before .before .before .before .before .before .before .before .before in let p = k .before .before .before .take .ensures in omega (arith, p .further, p .inside)
 
+put-bad-requires : tie.Need-put-bad-requires Inv-loop μ-loop
+put-bad-requires c κs = omega (arith, c .before .before .before .before .before .before .before .before .before .before .before .before .before .before .before .before .pre .1 .1, c .before .before .before .before .before .before .before .before .before .before .loop .inv .2)
+
 change-requires : tie.Need-change-requires Inv-loop μ-loop
 change-requires c κs = let w = c .before .before .before .before .before .before .before .before .before .before .before .before .before .loop in (w .inv .3, omega (arith, c .before .before .before .before .before .before .before .before .before .before .before .before .before .before .before .before .before .before .before .pre .1 .1, w .inv .2))
 
@@ -159,4 +162,4 @@ returns-2 c =
     eats-as _ _ _ _ _ (s .pre .0 .3) (w .inv .3) (w .inv .4) (w .inv .5) (c .standing2 .ensures) (all-taken (standing (w .tanks) (w .side) (w .inlet) (w .body) (w .at) (w .out)) (w .from) (s .args .bytes .now) (omega arith) (w .inv .6))
 
 pub eat-spec : {M : Type 1} → statement M
-eat-spec = tie.close (tie.spec Inv-loop μ-loop loop-holds (λ c κs. search needs) (λ c. search needs) loop-less loop-again (λ c. search needs) (λ c κs. search needs) (λ c κs. search needs) same-length same-length-2 returns (λ c. search needs) (λ c. search needs) loop-less-2 loop-again-2 (λ c. search needs) change-requires loop-less-3 loop-again-3 (λ c. search needs) answer-requires loop-less-4 loop-again-4 (λ c. search needs) listed-requires loop-less-5 loop-again-5 (λ c. search needs) slice-reshare-prefix-take-text slice-aggregate-take-text take-text-requires loop-less-6 loop-again-6 (λ c. search needs) at-desk-requires loop-less-7 loop-again-7 (λ c. search needs) on-both-requires loop-less-8 loop-again-8 (λ c κs. search needs) (λ c. search needs) (λ c. search needs) returns-2)
+eat-spec = tie.close (tie.spec Inv-loop μ-loop loop-holds (λ c κs. search needs) (λ c. search needs) loop-less loop-again (λ c. search needs) put-bad-requires (λ c κs. search needs) same-length same-length-2 returns (λ c. search needs) (λ c. search needs) loop-less-2 loop-again-2 (λ c. search needs) change-requires loop-less-3 loop-again-3 (λ c. search needs) answer-requires loop-less-4 loop-again-4 (λ c. search needs) listed-requires loop-less-5 loop-again-5 (λ c. search needs) slice-reshare-prefix-take-text slice-aggregate-take-text take-text-requires loop-less-6 loop-again-6 (λ c. search needs) at-desk-requires loop-less-7 loop-again-7 (λ c. search needs) on-both-requires loop-less-8 loop-again-8 (λ c κs. search needs) (λ c. search needs) (λ c. search needs) returns-2)

@@ -10,10 +10,11 @@ use Rattle.clerk.proofs.desk.settings.Tie as tie
 
 returns : tie.Need-returns
 returns c =
+    let a = c .before .before .before .before .before .before .before .before .before .before in
     let t = c .before .before .before .before .before .before .take .ensures in
     record {
-      settled = subst Settled (sym (c .with-sets .ensures)) (record { sets = t .1 });
-      is = c .with-sets .ensures ∙ ap (λ (x : Taken). withSets (c .before .before .before .before .before .before .before .before .before .before .args .side) (x .kept)) (t .0);
+      settled = subst Settled (sym (c .with-sets .ensures)) (record { sets = t .1; log = a .pre .0 .log });
+      is = c .with-sets .ensures ∙ ap (λ (x : Taken). withSets (a .args .side) (x .kept)) (t .0);
       answer = adds-as (ap takenSays (t .0)) (c .before .before .before .put-taken .ensures);
     }
 
