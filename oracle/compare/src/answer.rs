@@ -28,6 +28,15 @@ pub enum Answer {
     /// Refusal 12, with the first bad line.
     BadLine(u64),
     Pairs(Settings),
+    Report(Report),
+}
+
+/// What a log has come to: edits, newlines, and where it stopped the refusal and the line.
+#[derive(Clone, Copy, Debug, PartialEq, Eq)]
+pub struct Report {
+    pub applied: u64,
+    pub lines: u64,
+    pub stopped: Option<(u8, u64)>,
 }
 
 /// A stretch as it is listed: its start, its end and how many marks it carries.
@@ -75,6 +84,10 @@ impl Answer {
             Answer::Extent(_) => "a stretch".into(),
             Answer::BadLine(_) => "refused 12".into(),
             Answer::Pairs(_) => "pairs".into(),
+            Answer::Report(Report { stopped: Some((number, _)), .. }) => {
+                format!("a stop by {number}")
+            }
+            Answer::Report(_) => "a report".into(),
             _ => "a number".into(),
         }
     }
@@ -115,6 +128,13 @@ impl fmt::Display for Answer {
             }
             Answer::Set(number) => writeln!(f, "set={number}"),
             Answer::BadLine(line) => writeln!(f, "refused=12\nline={line}"),
+            Answer::Report(Report { applied, lines, stopped }) => {
+                writeln!(f, "applied={applied}")?;
+                match stopped {
+                    Some((number, line)) => writeln!(f, "refused={number}\nline={line}"),
+                    None => writeln!(f, "lines={lines}"),
+                }
+            }
             Answer::Pairs(settings) => {
                 let mut pairs = settings.iter().enumerate();
                 pairs.try_for_each(|(tank, (share, limit))| {

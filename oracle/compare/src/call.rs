@@ -34,10 +34,12 @@ pub enum Call {
     Settings { body: Vec<u8> },
     Set { number: u64 },
     OpenSet { number: u64 },
+    Log { body: Vec<u8> },
+    LogEnd,
 }
 
 /// Each op and its fields, in the order of their lines.
-pub const SHAPES: [(&str, &[&str]); 26] = [
+pub const SHAPES: [(&str, &[&str]); 28] = [
     ("open", &OPEN),
     ("annotate", &["tank", "start", "end", "key", "lamport", "peer", "flags", "kind", "value"]),
     ("insert", &["tank", "at", "len"]),
@@ -64,6 +66,8 @@ pub const SHAPES: [(&str, &[&str]); 26] = [
     ("settings", &["bytes"]),
     ("set", &["number"]),
     ("open_set", &["number"]),
+    ("log", &["bytes"]),
+    ("log_end", &[]),
 ];
 
 /// A body has so many bytes at most.
@@ -111,6 +115,8 @@ impl Call {
             Call::Settings { .. } => 23,
             Call::Set { .. } => 24,
             Call::OpenSet { .. } => 25,
+            Call::Log { .. } => 26,
+            Call::LogEnd => 27,
         }
     }
 
@@ -120,8 +126,8 @@ impl Call {
 
     pub fn tank(&self) -> Option<u64> {
         let names = SHAPES[self.shape()].1;
-        match self.fields()[0] {
-            Field::Number(tank) if names[0] == "tank" => Some(tank),
+        match self.fields().first() {
+            Some(&Field::Number(tank)) if names[0] == "tank" => Some(tank),
             _ => None,
         }
     }
@@ -135,7 +141,7 @@ impl Call {
     /// The bytes behind the call's lines.
     pub fn body(&self) -> &[u8] {
         match self {
-            Call::Settings { body } => body,
+            Call::Settings { body } | Call::Log { body } => body,
             _ => &[],
         }
     }
@@ -177,7 +183,8 @@ impl Call {
             | Call::Runs { tank }
             | Call::WholeNeeded { tank } => numbers(&[tank]),
             Call::Age { tank, before, budget } => numbers(&[tank, before, budget]),
-            Call::Settings { ref body } => numbers(&[body.len() as u64]),
+            Call::Settings { ref body } | Call::Log { ref body } => numbers(&[body.len() as u64]),
+            Call::LogEnd => Vec::new(),
             Call::Set { number } | Call::OpenSet { number } => numbers(&[number]),
             Call::Delete { tank, start, end }
             | Call::Same { tank, start, end }
@@ -204,7 +211,8 @@ impl Call {
             Field::Number(_) => unreachable!("a value stands here"),
         };
         let id = |place: usize| (n(place) as u16, n(place + 1) as u32, n(place + 2));
-        let (tank, start, end) = (n(0), 1, 2);
+        let tank = if fields.is_empty() { 0 } else { n(0) };
+        let (start, end) = (1, 2);
         match shape {
             0 => Call::Open { settings: std::array::from_fn(|t| (n(2 * t), n(2 * t + 1))) },
             1 => {
@@ -238,7 +246,9 @@ impl Call {
             22 => Call::Age { tank, before: n(1), budget: n(2) },
             23 => Call::Settings { body: body.to_vec() },
             24 => Call::Set { number: n(0) },
-            _ => Call::OpenSet { number: n(0) },
+            25 => Call::OpenSet { number: n(0) },
+            26 => Call::Log { body: body.to_vec() },
+            _ => Call::LogEnd,
         }
     }
 }

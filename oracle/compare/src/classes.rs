@@ -3,6 +3,7 @@
 use crate::answer::Answer;
 use crate::author::{identity, usual, Author, Habit};
 use crate::call::{Call, Settings};
+use crate::logs;
 use crate::mark::Mark;
 use crate::script::Script;
 use crate::sets;
@@ -15,7 +16,7 @@ pub struct Class {
     write: fn(seed: u64, calls: usize) -> Author,
 }
 
-pub const CLASSES: [Class; 11] = [
+pub const CLASSES: [Class; 12] = [
     Class { name: "inside", about: "one tank with room, the oracle domain", write: inside },
     Class { name: "dense", about: "small positions, many collisions", write: dense },
     Class { name: "short", about: "tanks of few positions, down to none", write: short },
@@ -27,6 +28,7 @@ pub const CLASSES: [Class; 11] = [
     Class { name: "wild", about: "any number anywhere", write: wild },
     Class { name: "fresh", about: "no opening, or a refused one", write: fresh },
     Class { name: "sets", about: "settings texts and the sets that are kept", write: kept_sets },
+    Class { name: "log", about: "logs that are cut and spoilt anywhere", write: log },
 ];
 
 impl Class {
@@ -221,6 +223,16 @@ fn kept_sets(seed: u64, calls: usize) -> Author {
     let mut author = Author::new(seed, Habit { tanks: 8, marks: 5, wild: 30, ..HABIT });
     while author.calls.len() < calls {
         sets::go_on(&mut author);
+    }
+    author
+}
+
+/// Logs read by read, with calls between the reads.
+fn log(seed: u64, calls: usize) -> Author {
+    let mut author = Author::new(seed, Habit { tanks: 8, marks: 9, wild: 60, ..HABIT });
+    author.open([(20, 60); 8]);
+    while author.calls.len() < calls {
+        logs::go_on(&mut author);
     }
     author
 }

@@ -3,14 +3,14 @@
 
 use std::collections::BTreeMap;
 
-use crate::answer::{Aged, Answer, Extent};
+use crate::answer::{Aged, Answer, Extent, Report};
 use crate::call::Call;
 use crate::mark::{listed, Content, Id};
 use crate::settings::{pairs_of, Kept};
 use crate::tanks::Tanks;
 
 /// The name of a fault, and what it gets wrong.
-pub const FAULTS: [(&str, &str); 80] = [
+pub const FAULTS: [(&str, &str); 89] = [
     ("refusal1", "answers for tank 0 in place of refusal 1"),
     ("refusal2", "accepts settings that break the rule"),
     ("refusal3", "accepts an empty edit"),
@@ -88,6 +88,15 @@ pub const FAULTS: [(&str, &str); 80] = [
     ("open-set-refused", "accepts an opening with pairs that break the rule"),
     ("open-set-stays", "leaves the tanks as they were where it refuses the pairs"),
     ("open-set-idle", "accepts an opening with a set and changes nothing"),
+    ("log-cut", "drops what came of a line when a read ends"),
+    ("log-early", "applies a group at its last byte before the newline"),
+    ("log-first-line", "names the first line of the group whose edit is refused"),
+    ("log-goes-on", "reads on after a stop"),
+    ("log-other", "takes a removal in a log"),
+    ("log-undone", "takes the edits before a stop back"),
+    ("log-end-count", "names the last line where a log ends early"),
+    ("log-end-keeps", "goes on with the log after its end"),
+    ("log-open", "begins a new log at an opening"),
     ("body-lines", "does not count the newlines of bodies"),
     ("run-count", "counts one run too many in a tank of 100 runs or more"),
     ("malformed-line", "names the line after the malformed one"),
@@ -122,7 +131,8 @@ impl Faulty {
 
     pub fn call(&mut self, call: &Call) -> Answer {
         let before = self.tanks.clone();
-        if let Some(answer) = self.instead(call).or_else(|| self.kept_instead(call)) {
+        let instead = self.instead(call).or_else(|| self.kept_instead(call));
+        if let Some(answer) = instead.or_else(|| self.log_instead(call)) {
             return answer;
         }
         let answer = self.tanks.call(call);
@@ -237,6 +247,57 @@ impl Faulty {
             ("open-set-idle", Call::OpenSet { .. }) => {
                 let accepted = self.tanks.clone().call(call) == Answer::Accepted;
                 accepted.then_some(Answer::Accepted)
+            }
+            _ => None,
+        }
+    }
+
+    /// The same of a log.
+    fn log_instead(&mut self, call: &Call) -> Option<Answer> {
+        let before = self.tanks.clone();
+        let stopped = before.log.stopped.is_some();
+        match (self.fault.as_str(), call) {
+            ("log-cut", Call::Log { body }) => {
+                let lines = body.iter().rposition(|&byte| byte == b'\n').map_or(0, |at| at + 1);
+                Some(self.tanks.call(&Call::Log { body: body[..lines].to_vec() }))
+            }
+            ("log-early", Call::Log { body }) if !body.is_empty() && !body.ends_with(b"\n") => {
+                self.tanks.call(&Call::Log { body: [body, &b"\n"[..]].concat() });
+                let applied = self.tanks.log.applied > before.log.applied;
+                let report = self.tanks.log.take(b"", |_| Answer::Accepted);
+                if applied && self.tanks.log.stopped.is_none() {
+                    return Some(report);
+                }
+                self.tanks = before;
+                None
+            }
+            ("log-goes-on", Call::Log { body }) if stopped => {
+                let report = self.tanks.log.take(b"", |_| Answer::Accepted);
+                let log = std::mem::take(&mut self.tanks.log);
+                self.tanks.call(&Call::Log { body: body.clone() });
+                self.tanks.log = log;
+                Some(report)
+            }
+            ("log-other", Call::Log { body }) => {
+                let text = String::from_utf8_lossy(body);
+                let mended = text.replace("op=remove\n", "");
+                (mended != text).then(|| self.tanks.call(&Call::Log { body: mended.into() }))
+            }
+            ("log-undone", Call::Log { .. }) => {
+                let answer = self.tanks.call(call);
+                if !stopped && self.tanks.log.stopped.is_some() {
+                    self.tanks.tanks = before.tanks;
+                }
+                Some(answer)
+            }
+            ("log-end-keeps", Call::LogEnd) => {
+                let answer = self.tanks.call(call);
+                self.tanks.log = before.log;
+                Some(answer)
+            }
+            ("log-open", Call::Open { .. }) => {
+                self.tanks.log = Default::default();
+                None
             }
             _ => None,
         }
@@ -452,6 +513,17 @@ impl Faulty {
             }
             ("set-swapped", _, Answer::Pairs(settings)) => {
                 Answer::Pairs(settings.map(|(share, limit)| (limit, share)))
+            }
+            ("log-first-line", Call::Log { .. }, Answer::Report(report)) => {
+                let first = |(number, line): (u8, u64)| match number {
+                    3 => (number, line - 3),
+                    _ => (number, line),
+                };
+                Answer::Report(Report { stopped: report.stopped.map(first), ..report })
+            }
+            ("log-end-count", Call::LogEnd, Answer::Report(report)) => {
+                let last = |(number, line)| (number, line - (number == 13) as u64);
+                Answer::Report(Report { stopped: report.stopped.map(last), ..report })
             }
             ("age-done", _, Answer::Aged(aged)) => Answer::Aged(Aged { remaining: 0, ..aged }),
             ("run-count", _, Answer::Runs(runs)) if runs >= 100 => Answer::Runs(runs + 1),

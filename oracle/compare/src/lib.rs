@@ -3,8 +3,9 @@
 //! - `mark`, `call`, `answer`, `reader`: the console's protocol, lines in and lines out.
 //! - `tank`, `tanks`: the rules, as a model of positions.
 //! - `settings`: settings texts and the sets that are kept.
+//! - `log`: the edge boxes' log.
 //! - `mirror`: the Rust beside the model, and the oracle domain.
-//! - `random`, `author`, `classes`, `exhaust`, `sets`, `text`: scripts.
+//! - `random`, `author`, `classes`, `exhaust`, `sets`, `logs`, `text`: scripts.
 //! - `console`, `check`, `shrink`, `tally`: running a console, comparing, making a finding small.
 //! - `faults`: wrong answers on purpose, to see that the comparison notices them.
 //! - `cases`: document 01's checked examples as calls.
@@ -19,6 +20,8 @@ pub mod classes;
 pub mod console;
 pub mod exhaust;
 pub mod faults;
+pub mod log;
+pub mod logs;
 pub mod mark;
 pub mod mirror;
 pub mod page;

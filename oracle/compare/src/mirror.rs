@@ -51,7 +51,12 @@ impl Mirror {
                 return Said::Nothing;
             }
             // The Rust has no settings.
-            Call::Settings { .. } | Call::Set { .. } => return Said::Nothing,
+            Call::Settings { .. } | Call::Set { .. } | Call::LogEnd => return Said::Nothing,
+            // Nor has it a log: the tanks leave the comparison.
+            Call::Log { .. } => {
+                self.tanks = std::array::from_fn(|_| None);
+                return Said::Nothing;
+            }
             _ => {}
         }
         if matches!(answer, Answer::Refused(_)) {
@@ -118,9 +123,12 @@ pub fn inside(tank: &Tank, call: &Call) -> bool {
         | Call::Whole { .. }
         | Call::WholeNeeded { .. }
         | Call::Find { .. } => true,
-        Call::Open { .. } | Call::Settings { .. } | Call::Set { .. } | Call::OpenSet { .. } => {
-            false
-        }
+        Call::Open { .. }
+        | Call::Settings { .. }
+        | Call::Set { .. }
+        | Call::OpenSet { .. }
+        | Call::Log { .. }
+        | Call::LogEnd => false,
     }
 }
 

@@ -47,14 +47,15 @@ pub fn read(input: &[u8]) -> Read {
 }
 
 /// A group of which some lines have come.
-struct Group {
-    shape: usize,
+#[derive(Clone, Debug, PartialEq)]
+pub struct Group {
+    pub shape: usize,
     lines: usize,
-    fields: Vec<Field>,
+    pub fields: Vec<Field>,
     kind: String,
 }
 
-enum Step {
+pub enum Step {
     Within(Group),
     Whole(Group),
 }
@@ -74,7 +75,7 @@ fn in_body(bytes: &[u8]) -> u64 {
 }
 
 /// One more line; nothing where it is malformed.
-fn taken(group: Option<Group>, line: &[u8]) -> Option<Step> {
+pub fn taken(group: Option<Group>, line: &[u8]) -> Option<Step> {
     if line.len() > LONGEST_LINE {
         return None;
     }
@@ -82,7 +83,9 @@ fn taken(group: Option<Group>, line: &[u8]) -> Option<Step> {
     let Some(mut group) = group else {
         let shape = SHAPES.iter().position(|shape| name == "op" && shape.0 == text)?;
         let fields = Vec::new();
-        return Some(Step::Within(Group { shape, lines: 0, fields, kind: String::new() }));
+        let group = Group { shape, lines: 0, fields, kind: String::new() };
+        let whole = SHAPES[shape].1.is_empty();
+        return Some(if whole { Step::Whole(group) } else { Step::Within(group) });
     };
     let names = SHAPES[group.shape].1;
     if names[group.lines] != name {

@@ -2,6 +2,7 @@
 
 use crate::call::{Call, Settings};
 use crate::classes::ROOMY;
+use crate::logs;
 use crate::mark::{Content, Id, Mark, Value};
 use crate::sets;
 use crate::tank::{LONGEST, T};
@@ -243,5 +244,5 @@ fn pool() -> Vec<Call> {
 
 pub fn refusals() -> Vec<Call> {
     let tanks = [openings(), ranges(), ageings(), longest(), contents(), limit(), pool()];
-    [tanks.concat(), sets::refused()].concat()
+    [tanks.concat(), sets::refused(), logs::refused()].concat()
 }

@@ -35,10 +35,12 @@ impl Script {
     }
 
     /// Whether it may follow another script in one input: it starts anew and ends between groups.
-    /// An opening leaves the kept sets, so a script that has to do with them goes alone.
+    /// An opening leaves the kept sets and the log, so a script that has to do with them goes alone.
     pub fn joins(&self) -> bool {
         let keeps = |call: &Call| {
-            matches!(call, Call::Settings { .. } | Call::Set { .. } | Call::OpenSet { .. })
+            let sets =
+                matches!(call, Call::Settings { .. } | Call::Set { .. } | Call::OpenSet { .. });
+            sets || matches!(call, Call::Log { .. } | Call::LogEnd)
         };
         let anew = matches!(self.calls.first(), Some(Call::Open { .. }));
         anew && self.tail.is_empty() && !self.calls.iter().any(keeps)

@@ -3,6 +3,7 @@
 
 use crate::answer::Answer;
 use crate::call::{Call, Settings};
+use crate::log::Log;
 use crate::mark::{listed, Mark, Set};
 use crate::settings::{self, Kept};
 use crate::tank::{self, Tank, LONGEST};
@@ -24,11 +25,17 @@ pub struct Tanks {
     pub settings: Settings,
     pub tanks: [Tank; 8],
     pub kept: Kept,
+    pub log: Log,
 }
 
 impl Default for Tanks {
     fn default() -> Self {
-        Self { settings: [(1, 1); 8], tanks: Default::default(), kept: Kept::default() }
+        Self {
+            settings: [(1, 1); 8],
+            tanks: Default::default(),
+            kept: Kept::default(),
+            log: Log::default(),
+        }
     }
 }
 
@@ -53,6 +60,8 @@ impl Tanks {
         match call {
             Call::Open { settings } => return self.open(*settings),
             Call::Settings { body } => return Ok(self.kept.take(settings::pairs_of(body))),
+            Call::Log { body } => return Ok(self.log(body)),
+            Call::LogEnd => return Ok(self.log.end()),
             Call::Set { number } => {
                 return Ok(self.kept.set(*number).map_or(Answer::None, Answer::Pairs))
             }
@@ -89,12 +98,21 @@ impl Tanks {
     }
 
     fn open(&mut self, settings: Settings) -> Judged<Answer> {
-        *self = Tanks { kept: std::mem::take(&mut self.kept), ..Tanks::default() };
+        let (kept, log) = (std::mem::take(&mut self.kept), std::mem::take(&mut self.log));
+        *self = Tanks { kept, log, ..Tanks::default() };
         let pair = |&(share, limit): &(u64, u64)| 1 <= share && share <= limit && limit <= POOL;
         refuse_if(!settings.iter().all(pair), 2)?;
         refuse_if(settings.iter().map(|pair| pair.0).sum::<u64>() > POOL, 2)?;
         self.settings = settings;
         Ok(Answer::Accepted)
+    }
+
+    /// A read of the log, whose edits are this state's.
+    fn log(&mut self, read: &[u8]) -> Answer {
+        let mut log = std::mem::take(&mut self.log);
+        let answer = log.take(read, |call| self.call(call));
+        self.log = log;
+        answer
     }
 
     fn edit_range(&self, tank: u64, start: u64, end: u64) -> Judged<()> {
@@ -209,6 +227,8 @@ impl Tanks {
             | Call::Settings { .. }
             | Call::Set { .. }
             | Call::OpenSet { .. }
+            | Call::Log { .. }
+            | Call::LogEnd
             | Call::Annotate { .. }
             | Call::Insert { .. }
             | Call::Delete { .. }

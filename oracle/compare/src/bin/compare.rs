@@ -13,7 +13,7 @@ use compare::mirror::hush;
 use compare::script::Script;
 use compare::shrink::shrink;
 use compare::tally::Tally;
-use compare::{cases, refusals, sets, text};
+use compare::{cases, logs, refusals, sets, text};
 
 const USE: &str = "\
 compare CONSOLE [--quick | --long] [--seeds A..B] [--calls N] [--only CLASS | --without CLASS]
@@ -136,6 +136,7 @@ impl Round {
         part("cases", &mut std::iter::once(fixed("cases", cases::cases())))?;
         part("refusals", &mut std::iter::once(fixed("refusals", refusals::refusals())))?;
         part("settings", &mut sets::scripts().into_iter())?;
+        part("logs", &mut logs::scripts().into_iter())?;
         for class in &CLASSES {
             part(class.name, &mut self.seeds.clone().map(|seed| class.script(seed, self.calls)))?;
         }

@@ -139,5 +139,10 @@ fn wanted() -> Vec<&'static str> {
         "set: none",
         "open_set: accepted",
         "open_set: none",
+        "log: a report",
+        "log: a stop by 3",
+        "log: a stop by 13",
+        "log_end: a report",
+        "log_end: a stop by 3",
     ]
 }
