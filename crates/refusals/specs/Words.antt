@@ -10,7 +10,7 @@ refusals =
     [] ∷
     bytes "no such tank" ∷  -- 1
     bytes "shares and limits that break the rule" ∷  -- 2
-    bytes "an empty range, or nothing to insert" ∷  -- 3
+    bytes "an empty range, or a 0 where none may be" ∷  -- 3
     bytes "past the end of the tank" ∷  -- 4
     bytes "longer than 2^63 - 1 positions" ∷  -- 5
     bytes "a value that is no number" ∷  -- 6
