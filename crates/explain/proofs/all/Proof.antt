@@ -88,4 +88,4 @@ returns-2 : tie.Need-returns-2 Inv-loop μ-loop
 returns-2 c = runs-as _ _ (c .before .before .loop .inv .3) (c .standing2 .ensures) (c .before .before .loop .inv .8) (λ e. omega arith)
 
 pub all-spec : {M : Type 1} → statement M
-all-spec = tie.close (tie.spec Inv-loop μ-loop loop-holds next-part-requires (λ c κs. search needs) turn-at-requires (λ c κs. search needs) same-length same-length-2 same-length-3 returns (λ c. search needs) loop-less loop-again (λ c κs. search needs) (λ c. search needs) (λ c. search needs) (λ c. search needs) returns-2)
+all-spec = tie.close (tie.spec Inv-loop μ-loop loop-holds next-part-requires (λ c κs. search needs) turn-at-requires (λ c κs. search needs) same-length same-length-2 same-length-3 returns (λ c. omega (arith, c .before .before .before .before .before .before .before .before .before .before .before .before .before .before .before .before .before .before .loop-test .taken)) loop-less loop-again (λ c κs. search needs) (λ c. search needs) (λ c. search needs) (λ c. search needs) returns-2)
