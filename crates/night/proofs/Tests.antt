@@ -3,17 +3,20 @@ use Prim.Native.Nat.{ℕ}
 use mathlib.Core.Path.{_≡_, refl}
 use mathlib.Core.Bool.{Bool, true, false, cond}
 use mathlib.Core.List.{List, [], _∷_}
+use mathlib.Core.Option.{none, some}
 use lib.Dec.{ltb}
 use lib.ListN.{replicate}
 use Rattle.styles.specs.declared.Mark.{Mark}
 use Rattle.styles.specs.declared.Value.the-variants.{Null}
 use Rattle.styles.specs.Order.{stands, numbers}
-use Rattle.styles.specs.Marks.{sameMarks}
-use Rattle.runs.specs.Positions.{sumBelow, starts, partOf}
-use Rattle.tank.specs.Rules.{View, afterDelete}
+use Rattle.styles.specs.Marks.{sameMarks, hasKey}
+use Rattle.runs.specs.Positions.{sumBelow, starts, partOf, anyAt, seekFrom}
+use Rattle.tank.specs.Rules.{View, afterDelete, runsHeld}
 use Rattle.tanks.specs.House.{smallest}
 use Rattle.night.specs.Ageing.{overlapping, ageRefusal, agedPart, agedCount, agedLeft, Ageing, ageing, agedTimes, roundedUp}
 use Rattle.night.specs.Ageings.{ageNumber}
+use Rattle.night.specs.Plans.{range, inOrder, freeOf, noRanges, mayGo, afterPlan, acceptsPlan}
+use Rattle.night.specs.Proposing.{unheldAt, rangesFrom, unheldBelow, proposed, begins, rangeCount}
 
 abbrev mark : ℕ → Mark
 mark key = record { key = key; flags = 0x84; lamport = 5; peer = 1; value = Null }
@@ -72,3 +75,41 @@ calls k = agedTimes 2 k (ageing (tank true) 7 0)
 two-calls : (calls 1 .before ≡ 2) × (calls 2 .before ≡ 0) × (calls 2 .dropped ≡ 3) × (calls 2 .tank .length ≡ 3) × (roundedUp 3 2 ≡ 2)
 unfolding agedTimes agedLeft agedPart afterDelete partOf sumBelow starts sameMarks stands numbers
 two-calls = (refl, refl, refl, refl, refl)
+
+-- ---- plans: key 2 holds 3 .. 5 of the ten positions
+-- touching ranges are in order; an empty one, overlapping ones and one past the length are not
+orders : (inOrder 0 10 (range 0 2 ∷ range 2 5 ∷ []) ≡ true) × (inOrder 0 10 (range 2 2 ∷ []) ≡ false) × (inOrder 0 10 (range 0 3 ∷ range 2 5 ∷ []) ≡ false)
+    × (inOrder 0 10 (range 5 11 ∷ []) ≡ false) × (inOrder 0 10 (range 5 10 ∷ []) ≡ true) × (inOrder 0 10 [] ≡ true)
+unfolding inOrder
+orders = (refl, refl, refl, refl, refl, refl)
+
+-- a null holds; the ranges around what is held may go, and of an untouched tank none
+holds : (mayGo 2 (range 0 3 ∷ range 5 10 ∷ []) (tank true) ≡ true) × (mayGo 2 (range 4 6 ∷ []) (tank true) ≡ false) × (mayGo 3 (range 4 6 ∷ []) (tank true) ≡ true)
+    × (mayGo 2 (range 0 3 ∷ []) (tank false) ≡ false) × (mayGo 2 [] (tank false) ≡ true)
+unfolding mayGo inOrder freeOf noRanges anyAt hasKey
+holds = (refl, refl, refl, refl, refl)
+
+-- both numbered before the first deletion: 2 and 4 are left, and the tank after it holds the two stretches they were in
+leaves : (afterPlan (range 0 2 ∷ range 3 4 ∷ range 5 10 ∷ []) (tank true) .length ≡ 2) × (runsHeld (afterPlan (range 0 2 ∷ range 3 4 ∷ range 5 10 ∷ []) (tank true)) ≡ 2)
+unfolding afterPlan afterDelete sumBelow starts sameMarks stands numbers
+leaves = (refl, refl)
+
+-- accepted for as many runs as are left and not for fewer; the empty plan of an untouched tank for as many as it holds
+accepts : (acceptsPlan 2 1 (range 0 3 ∷ range 5 10 ∷ []) (tank true) ≡ true) × (acceptsPlan 2 0 (range 0 3 ∷ range 5 10 ∷ []) (tank true) ≡ false)
+    × (acceptsPlan 2 2 [] (tank true) ≡ false) × (acceptsPlan 2 3 [] (tank true) ≡ true)
+unfolding acceptsPlan mayGo inOrder freeOf anyAt hasKey afterPlan afterDelete sumBelow starts sameMarks stands numbers
+accepts = (refl, refl, refl, refl)
+
+-- ---- proposals: three stretches, 3 .. 5 held by key 2
+-- the unheld ranges of ten positions, and below a few positions: the last is clipped
+below : (unheldBelow 2 (tank true) 10 ≡ range 0 3 ∷ range 5 10 ∷ []) × (unheldBelow 2 (tank true) 7 ≡ range 0 3 ∷ range 5 7 ∷ [])
+    × (unheldBelow 2 (tank true) 4 ≡ range 0 3 ∷ []) × (unheldBelow 2 (tank true) 2 ≡ range 0 2 ∷ []) × (unheldBelow 2 (tank true) 0 ≡ [])
+    × (rangeCount (unheldAt 2 (tank true)) 10 ≡ 2)
+unfolding rangesFrom seekFrom hasKey sumBelow begins
+below = (refl, refl, refl, refl, refl, refl)
+
+-- for three runs nothing goes; for two the oldest stretch and no more; for one all that is unheld; for none there is no plan
+proposals : (proposed 2 3 (tank true) ≡ some []) × (proposed 2 2 (tank true) ≡ some (range 0 3 ∷ [])) × (proposed 2 1 (tank true) ≡ some (range 0 3 ∷ range 5 10 ∷ []))
+    × (proposed 2 0 (tank true) ≡ none)
+unfolding proposed rangesFrom seekFrom acceptsPlan mayGo inOrder freeOf anyAt hasKey afterPlan afterDelete sumBelow starts sameMarks stands numbers
+proposals = (refl, refl, refl, refl)

@@ -1,2 +1,5 @@
 pub mod Ageing
 pub mod Ageings
+pub mod Plans
+pub mod Planning
+pub mod Proposing

@@ -69,3 +69,10 @@ module _ (test : ℕ → Bool) where
             seek-on from k (h from (omega arith) (omega arith))
             ∙ seek-is (suc from) k q (omega arith) (omega arith) (λ p c d. h p (omega arith) d) (λ l. g (omega arith))
       ]
+
+-- tests that agree from there on find the same
+pub seek-ext : (test test′ : ℕ → Bool) (from k : ℕ) → ((p : ℕ) → from ≤ p → p < from + k → test p ≡ test′ p) → seekFrom test from k ≡ seekFrom test′ from k
+unfolding seekFrom
+seek-ext test test′ from zero h = refl
+seek-ext test test′ from (suc k) h =
+    rw (h from (omega arith) (omega arith), seek-ext test test′ (suc from) k (λ p a b. h p (omega arith) (omega arith)))
