@@ -11,7 +11,9 @@ use Rattle.text.specs.Bytes.{bytes}
 use Rattle.script.specs.Writing.{markText}
 use Rattle.tanks.specs.declared.Setting.{Setting}
 use Rattle.tanks.specs.Settings.{noSetting}
-use Rattle.answers.specs.Replies.{lineSays, pairSays, pairsSay, stretchesSay}
+use Rattle.night.specs.declared.Range.{Range}
+use Rattle.night.specs.Plans.{noRange}
+use Rattle.answers.specs.Replies.{lineSays, pairSays, pairsSay, rangeSays, rangesSay, stretchesSay}
 
 -- one mark more
 pub marks-more : (ms : List Mark) (n : ℕ) → n < length ms → map markText (take n ms) ++ (markText (getD ms n blank) ∷ []) ≡ map markText (take (n + 1) ms)
@@ -31,6 +33,18 @@ pair-more t st h =
 pub pair-none : (t : ℕ) (st : List Setting) → 8 ≤ t → pairsSay (8 - t) t st ≡ []
 unfolding pairsSay
 pair-none t st h = let e : 8 - t ≡ 0 = omega arith in ap (λ (n : ℕ). pairsSay n t st) e
+
+-- one range more
+pub range-more : (n i : ℕ) (xs : List Range) → i < n → rangesSay (n - i) i xs ≡ rangeSays (getD xs i noRange) ++ rangesSay (n - (i + 1)) (i + 1) xs
+unfolding rangesSay
+range-more n i xs h =
+    let e : n - i ≡ suc (n - (i + 1)) = omega arith in
+    let f : suc i ≡ i + 1 = omega arith in
+    ap (λ (m : ℕ). rangesSay m i xs) e ∙ ap (λ (j : ℕ). rangeSays (getD xs i noRange) ++ rangesSay (n - (i + 1)) j xs) f
+
+pub range-none : (n i : ℕ) (xs : List Range) → n ≤ i → rangesSay (n - i) i xs ≡ []
+unfolding rangesSay
+range-none n i xs h = let e : n - i ≡ 0 = omega arith in ap (λ (m : ℕ). rangesSay m i xs) e
 
 -- ---- three numbers to a stretch
 module _ (list : List ℕ) (i : ℕ) where

@@ -12,6 +12,10 @@ use Rattle.questions.specs.declared.Shared.{Shared}
 use Rattle.questions.specs.declared.Shown.{Shown}
 use Rattle.questions.specs.declared.Told.{Told}
 use Rattle.lists.specs.declared.Listed.{Listed}
+use Rattle.night.specs.declared.Plan.{Plan}
+use Rattle.night.specs.declared.Proposal.{Proposal}
+use Rattle.night.specs.declared.Range.{Range}
+use Rattle.night.specs.Plans.{noRange}
 use Rattle.lists.specs.declared.anchors.Anchor.{Anchor}
 use Rattle.log.specs.declared.Log.{Log}
 use Rattle.log.specs.declared.Stop.{Stop}
@@ -101,6 +105,28 @@ sharedSays a = orRefused (a .number) (cond (a .agree) (stylesSay (a .styles)) no
 -- from where to where a stretch goes, both ends in it
 abbrev pub extentSays : Extent → Pieces
 extentSays e = orRefused (e .number) (lineSays (bytes "first=") (e .first) ++ lineSays (bytes "last=") (e .last))
+
+-- ---- Plans
+-- how many ranges a plan has, or are pending
+abbrev pub rangeCountSays : ℕ → Pieces
+rangeCountSays = lineSays (bytes "ranges=")
+
+-- the two lines of a range
+abbrev pub rangeSays : Range → Pieces
+rangeSays x = lineSays (bytes "start=") (x .start) ++ lineSays (bytes "end=") (x .end)
+
+-- those of so many ranges from range i on
+unfoldable pub rangesSay : ℕ → ℕ → List Range → Pieces
+rangesSay zero i xs = []
+rangesSay (suc n) i xs = rangeSays (getD xs i noRange) ++ rangesSay n (suc i) xs
+
+-- a plan: how many ranges, and each; there are no more than 32
+abbrev pub planSays : Plan → Pieces
+planSays p = rangeCountSays (p .count) ++ rangesSay (min (p .count) 32) 0 (p .ranges)
+
+-- a plan that is proposed, or none
+abbrev pub proposalSays : Proposal → Pieces
+proposalSays p = orRefused (p .number) (cond (p .found) (planSays (p .plan)) noneSays)
 
 -- ---- Lists
 -- how much a list takes

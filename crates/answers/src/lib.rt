@@ -7,6 +7,7 @@ mod replies; // replies.rt: what edits and questions answer
 mod listing; // listing.rt: stretches and anchors
 mod settings; // settings.rt: settings
 mod reports; // reports.rt: what a log has come to
+mod plans; // plans.rt: plans
 
 pub use listing::put_anchor;
 pub use listing::put_list;
@@ -15,6 +16,7 @@ pub use pieces::accept;
 pub use pieces::none;
 pub use pieces::refuse;
 pub use pieces::say;
+pub use plans::put_proposal;
 pub use replies::aged_or;
 pub use replies::first_or;
 pub use replies::put_asked;

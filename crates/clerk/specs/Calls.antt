@@ -13,6 +13,7 @@ use Rattle.tanks.specs.House.{House, tankAt, held, openNumber, opening, askNumb
 use Rattle.tanks.specs.Pool.{meaning, Sound}
 use Rattle.tanks.specs.Contracts.{counts, says}
 use Rattle.night.specs.Ageings.{ageNumber, agedHouse, droppedAt, remainingAt}
+use Rattle.night.specs.Proposing.{proposalAt}
 use Rattle.ask.specs.Asks.{askAt, valueAsked, marksAsked, markAsked, stretchAsked, inheritAsked, inheritedAsked, keyAsked, allValueAsked, sameAsked, rangeNeededAsked, wholeNeededAsked}
 use Rattle.script.specs.declared.Call.{Call}
 use Rattle.script.specs.declared.Change.{Change}
@@ -21,7 +22,7 @@ use Rattle.script.specs.declared.Question.{Question}
 use Rattle.script.specs.Args.{numberAt, keyAt, markOf, identityOf}
 use Rattle.text.specs.Bytes.{bytes}
 use Rattle.answers.specs.Waiting.{Pieces, Adds}
-use Rattle.answers.specs.Replies.{lineSays, refusedSays, orRefused, acceptedSays, stylesSay, firstSays, agedSays, countSays, touchedSays, toldSays, shownSays, askedSays, setSays, sharedSays, extentSays, neededSays, listSays, anchorsSay}
+use Rattle.answers.specs.Replies.{lineSays, refusedSays, orRefused, acceptedSays, stylesSay, firstSays, agedSays, countSays, touchedSays, toldSays, shownSays, askedSays, setSays, sharedSays, extentSays, proposalSays, neededSays, listSays, anchorsSay}
 use Rattle.clerk.specs.declared.Done.{Done}
 
 -- ---- What a call speaks of, by the order of its op's fields
@@ -111,6 +112,7 @@ answerSays Question.Inherit h c = setSays (inheritAsked h (tankFor c) (numberAt 
 answerSays Question.Mark h c = askedSays (markAsked h (tankFor c) (numberAt c 1) (numberAt c 2))
 answerSays Question.Inherited h c = askedSays (inheritedAsked h (tankFor c) (numberAt c 1) (numberAt c 2))
 answerSays Question.Find h c = extentSays (stretchAsked h (tankFor c) (numberAt c 1))
+answerSays Question.Propose h c = proposalSays (proposalAt h (tankFor c) (keyAt c 1) (numberAt c 2))
 
 -- of one that asks for a list
 unfoldable pub listingSays : Listing → House → Call → Pieces

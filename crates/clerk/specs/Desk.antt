@@ -2,7 +2,9 @@
 use mathlib.Core.Path.{_≡_}
 use mathlib.Core.Bool.{cond}
 use mathlib.Core.List.{List, [], _∷_, _++_}
-use Prim.Native.Nat.{ℕ}
+use Prim.Native.Nat.{ℕ, _+_}
+use lib.Dec.{ltb}
+use lib.ListN.{set}
 use Rattle.settings_text.specs.declared.Asked.{Asked}
 use Rattle.settings_text.specs.declared.Kept.{Kept}
 use Rattle.settings_text.specs.declared.Taken.{Taken}
@@ -10,6 +12,10 @@ use Rattle.settings_text.specs.Kept as keeping
 use Rattle.settings_text.specs.Text as reading
 use Rattle.log.specs.declared.Log.{Log}
 use Rattle.log.specs.Log as logs
+use Rattle.night.specs.declared.Plan.{Plan}
+use Rattle.night.specs.declared.Range.{Range}
+use Rattle.night.specs.Plans.{range, planOf}
+use Rattle.night.specs.Planning.{planNumber, houseAfterPlan}
 use Rattle.tanks.specs.declared.Tanks.{Tanks}
 use Rattle.tanks.specs.House.{House, openNumber, opening}
 use Rattle.tanks.specs.Pool.{meaning, Sound}
@@ -18,9 +24,9 @@ use Rattle.script.specs.declared.Call.{Call}
 use Rattle.script.specs.declared.Desk.{Desk}
 use Rattle.script.specs.declared.Op.{Op}
 use Rattle.script.specs.declared.Text.{Text}
-use Rattle.script.specs.Args.{numberAt}
+use Rattle.script.specs.Args.{numberAt, keyAt}
 use Rattle.answers.specs.Waiting.{Pieces, Adds}
-use Rattle.answers.specs.Replies.{noneSays, acceptedSays, foundSays, takenSays, reportSays}
+use Rattle.answers.specs.Replies.{noneSays, acceptedSays, foundSays, takenSays, reportSays, rangeCountSays}
 use Rattle.clerk.specs.declared.Moved.{Moved}
 use Rattle.clerk.specs.declared.Noted.{Noted}
 use Rattle.clerk.specs.declared.Side.{Side}
@@ -29,15 +35,23 @@ use Rattle.clerk.specs.Calls.{changed, changeSays, answerSays, listingSa
 -- ---- What is kept
 -- nothing yet
 abbrev pub emptySide : Side
-emptySide = record { sets = keeping.keptNone; log = logs.fresh }
+emptySide = record { sets = keeping.keptNone; log = logs.fresh; pending = planOf [] }
 
 -- other sets of settings
 abbrev pub withSets : Side → Kept → Side
-withSets side kept = record { sets = kept; log = side .log }
+withSets side kept = record { sets = kept; log = side .log; pending = side .pending }
 
 -- another log
 abbrev pub withLog : Side → Log → Side
-withLog side l = record { sets = side .sets; log = l }
+withLog side l = record { sets = side .sets; log = l; pending = side .pending }
+
+-- other pending ranges
+abbrev pub withPending : Side → Plan → Side
+withPending side plan = record { sets = side .sets; log = side .log; pending = plan }
+
+-- one more range behind those of a plan: the 33rd makes a plan that is too long, and no more are counted
+unfoldable pub oneMore : Plan → Range → Plan
+oneMore p x = cond (ltb (p .count) 32) (record { count = p .count + 1; ranges = set (p .ranges) (p .count) x }) (record { count = 33; ranges = p .ranges })
 
 -- it is in form
 pub record Settled (side : Side) : Type 0 where
@@ -73,28 +87,37 @@ textSays Text.Log h side c body = reportSays (logs.logAt (logRead h side body))
 abbrev pub setFor : Side → Call → Asked
 setFor side c = keeping.askedOf (side .sets) (numberAt c 0)
 
+-- the pending ranges, and behind them the one of a call
+abbrev pub morePending : Side → Call → Plan
+morePending side c = oneMore (side .pending) (range (numberAt c 0) (numberAt c 1))
+
 -- what is kept after it; the end of a log has the next read begin another
 unfoldable pub deskSide : Desk → Side → Call → Side
 deskSide Desk.Set side c = side
 deskSide Desk.LogEnd side c = withLog side logs.fresh
+deskSide Desk.Range side c = withPending side (morePending side c)
 
 -- its answer
 unfoldable pub deskSays : Desk → Side → Call → Pieces
 deskSays Desk.Set side c = foundSays (setFor side c)
 deskSays Desk.LogEnd side c = reportSays (logs.atEnd (side .log))
+deskSays Desk.Range side c = rangeCountSays (morePending side c .count)
 
 -- ---- Calls that have to do with that and with the tanks
 -- the tanks after it: those that opening with a kept set hands back, refused or not; without one they stay
 unfoldable pub bothHouse : Both → House → Side → Call → House
 bothHouse Both.OpenSet h side c = cond (setFor side c .found) (opening (setFor side c .settings)) h
+bothHouse Both.Plan h side c = houseAfterPlan h (numberAt c 0) (keyAt c 1) (numberAt c 2) (side .pending)
 
--- what is kept after it
+-- what is kept after it: a plan leaves none pending, accepted or not
 unfoldable pub bothSide : Both → House → Side → Call → Side
 bothSide Both.OpenSet h side c = side
+bothSide Both.Plan h side c = withPending side (planOf [])
 
 -- its answer
 unfoldable pub bothSays : Both → House → Side → Call → Pieces
 bothSays Both.OpenSet h side c = cond (setFor side c .found) (acceptedSays (openNumber (setFor side c .settings))) noneSays
+bothSays Both.Plan h side c = acceptedSays (planNumber h (numberAt c 0) (keyAt c 1) (numberAt c 2) (side .pending))
 
 -- ---- Any call, with the body behind it where it has one
 -- the eight tanks after it

@@ -8,6 +8,7 @@ ghost use Rattle.clerk.specs.Calls.{answerSays};
 use answers::put_asked;
 use answers::put_count;
 use answers::put_extent;
+use answers::put_proposal;
 use answers::put_set_asked;
 use answers::put_shared;
 use answers::put_shown;
@@ -126,4 +127,15 @@ pub fn find(s: Tanks, call: Call, out: &mut [u8], at: usize) -> usize
 {
     let n = call.numbers;
     put_extent(out, at, ask::stretch_at(s, n[0], n[1]))
+}
+
+// A plan that would be accepted.
+pub fn propose(s: Tanks, call: Call, out: &mut [u8], at: usize) -> usize
+    requires { ⌜ Sound s ⌝ }
+    requires { ⌜ pieceRoom ≤ length (now out) ⌝ }
+    ensures { λ r. ⌜ Adds (now (out .entry)) at (answerSays questions.Question.Propose (meaning s) call) r (now (out .exit)) ⌝ }
+{
+    let n = call.numbers;
+    let p = night::propose(s, n[0], key_of(n[1]), n[2]);
+    put_proposal(out, at, p)
 }

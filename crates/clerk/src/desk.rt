@@ -8,7 +8,7 @@ ghost use Rattle.log.specs.Log as logs;
 ghost use Rattle.tanks.specs.Pool.{Sound, meaning};
 ghost use Rattle.answers.specs.Waiting.{pieceRoom};
 ghost use Rattle.answers.specs.Replies.{takenSays, reportSays};
-ghost use Rattle.clerk.specs.Desk.{Settled, withSets, withLog, takenFrom, logRead, deskSide, deskSays, bothHouse, bothSide, bothSays, Notes, Moves};
+ghost use Rattle.clerk.specs.Desk.{Settled, withSets, withLog, withPending, oneMore, takenFrom, logRead, deskSide, deskSays, bothHouse, bothSide, bothSays, Notes, Moves};
 use super::Moved;
 use super::Noted;
 use super::Side;
@@ -17,8 +17,12 @@ use answers::none;
 use answers::put_found;
 use answers::put_report;
 use answers::put_taken;
+use answers::say;
 use log::Log;
+use night::Plan;
+use night::Range;
 use script::Call;
+use script::key_of;
 use tanks::Tanks;
 
 // Other sets, and all else as it was: the one place where what is kept is made anew for them.
@@ -26,9 +30,11 @@ fn with_sets(side: Side, sets: settings_text::Kept) -> Side
     ensures { λ r. ⌜ r ≡ withSets side sets ⌝ }
 {
     let log = side.log;
+    let pending = side.pending;
     Side {
         sets: sets,
         log: log,
+        pending: pending,
     }
 }
 
@@ -37,9 +43,43 @@ fn with_log(side: Side, log: Log) -> Side
     ensures { λ r. ⌜ r ≡ withLog side log ⌝ }
 {
     let sets = side.sets;
+    let pending = side.pending;
     Side {
         sets: sets,
         log: log,
+        pending: pending,
+    }
+}
+
+// Other pending ranges, likewise.
+fn with_pending(side: Side, plan: Plan) -> Side
+    ensures { λ r. ⌜ r ≡ withPending side plan ⌝ }
+{
+    let sets = side.sets;
+    let log = side.log;
+    Side {
+        sets: sets,
+        log: log,
+        pending: plan,
+    }
+}
+
+// One more range behind those of a plan; the 33rd is counted and not stored, and no more are counted.
+fn one_more(p: Plan, x: Range) -> Plan
+    ensures { λ r. ⌜ r ≡ oneMore p x ⌝ }
+{
+    let mut ranges = p.ranges;
+    let n = p.count;
+    if n < 32 {
+        ranges[n] = x;
+        return Plan {
+            count: n + 1,
+            ranges: ranges,
+        };
+    }
+    Plan {
+        count: 33,
+        ranges: ranges,
     }
 }
 
@@ -67,6 +107,45 @@ pub fn set(side: Side, call: Call, out: &mut [u8], at: usize) -> Noted
     let sets = side.sets;
     let k = put_found(out, at, sets.ask(n[0]));
     Noted { side: side, at: k }
+}
+
+// One more pending range.
+pub fn range(side: Side, call: Call, out: &mut [u8], at: usize) -> Noted
+    requires { ⌜ Settled side ⌝ }
+    requires { ⌜ pieceRoom ≤ length (now out) ⌝ }
+    ensures { λ r. ⌜ Notes (deskSide desks.Desk.Range side call) (deskSays desks.Desk.Range side call) (now (out .entry)) at r (now (out .exit)) ⌝ }
+{
+    let n = call.numbers;
+    let pending = side.pending;
+    let more = one_more(
+        pending,
+        Range {
+            start: n[0],
+            end: n[1],
+        },
+    );
+    let k = say(out, at, b"ranges=", text::wide(more.count));
+    let next = with_pending(side, more);
+    Noted { side: next, at: k }
+}
+
+// The pending ranges as a plan; none is pending then, whether it is accepted or not.
+pub fn plan(s: Tanks, side: Side, call: Call, out: &mut [u8], at: usize) -> Moved
+    requires { ⌜ Sound s × Settled side ⌝ }
+    requires { ⌜ pieceRoom ≤ length (now out) ⌝ }
+    ensures { λ r. ⌜ Moves (bothHouse boths.Both.Plan (meaning s) side call) (bothSide boths.Both.Plan (meaning s) side call) (bothSays boths.Both.Plan (meaning s) side call) (now (out .entry)) at r (now (out .exit)) ⌝ }
+{
+    let n = call.numbers;
+    let pending = side.pending;
+    let e = night::apply_plan(s, n[0], key_of(n[1]), n[2], pending);
+    let t = e.tanks;
+    let k = accept(out, at, e.number);
+    let next = with_pending(side, night::empty_plan());
+    Moved {
+        tanks: t,
+        side: next,
+        at: k,
+    }
 }
 
 // The tanks opened anew with a kept set; where it is not kept they stay as they were.

@@ -25,6 +25,7 @@ use edits::opened;
 use edits::removed;
 pub use listing::whole;
 use log::Log;
+use night::Plan;
 use script::Both;
 use script::Call;
 use script::Change;
@@ -47,10 +48,11 @@ pub struct Done {
     pub at: usize,
 }
 
-// What is kept beside the tanks: the last four sets of settings that were read, and the log that is under way.
+// What is kept beside the tanks: the last four sets of settings that were read, the log that is under way, and the ranges that wait for a plan.
 pub struct Side {
     pub sets: Kept,
     pub log: Log,
+    pub pending: Plan,
 }
 
 // What is kept after a call, and how much of the output waits.
@@ -114,9 +116,11 @@ pub fn empty() -> Side
 {
     let sets = settings_text::none();
     let log = log::begin();
+    let pending = night::empty_plan();
     Side {
         sets: sets,
         log: log,
+        pending: pending,
     }
 }
 
@@ -155,6 +159,7 @@ fn answer(s: Tanks, q: Question, call: Call, out: &mut [u8], at: usize) -> usize
         Question::Mark => asking::mark(s, call, out, at),
         Question::Inherited => asking::inherited(s, call, out, at),
         Question::Find => asking::find(s, call, out, at),
+        Question::Propose => asking::propose(s, call, out, at),
     }
 }
 
@@ -211,6 +216,7 @@ fn at_desk(side: Side, d: Desk, call: Call, out: &mut [u8], at: usize) -> Noted
     match d {
         Desk::Set => desk::set(side, call, out, at),
         Desk::LogEnd => desk::end_log(side, out, at),
+        Desk::Range => desk::range(side, call, out, at),
     }
 }
 
@@ -222,6 +228,7 @@ fn on_both(s: Tanks, side: Side, b: Both, call: Call, out: &mut [u8], at: usize)
 {
     match b {
         Both::OpenSet => desk::open_set(s, side, call, out, at),
+        Both::Plan => desk::plan(s, side, call, out, at),
     }
 }
 

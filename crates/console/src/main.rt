@@ -57,12 +57,14 @@ fn page_4() {
     say(b"  set, open_set           number\n");
     say(b"  log                     bytes, and behind that line so many bytes\n");
     say(b"  log_end                 none\n");
+    say(b"  range                   start end\n");
+    say(b"  plan, propose           tank hold runs\n");
     say(b"\n");
 }
 
 fn page_5() {
     say(
-        b"A number is a decimal without leading zeros: a key has 16 bits, a lamport 32, flags 8, every other number 64. A kind is null,\n",
+        b"A number is a decimal without leading zeros: a key and a hold have 16 bits, a lamport 32, flags 8, every other number 64. A kind is null,\n",
     );
     say(
         b"bool, whole or decimal. The value then is empty, 0 or 1, a signed number of 64 bits (never -0), or the sixteen lower-case\n",
@@ -88,14 +90,25 @@ fn page_6() {
     say(
         b"applied when its last newline comes; the first bad line or refused edit stops the log. log_end ends it; the next log is a new one.\n",
     );
+    page_plans();
     say(b"\n");
+}
+
+fn page_plans() {
+    say(
+        b"range puts a range behind those that are pending, at most 32; plan submits them, to go from a tank so that it holds at most runs\n",
+    );
+    say(
+        b"runs and nothing with the key hold goes: all of them or none, and none is pending then. propose answers a plan that would be\n",
+    );
+    say(b"accepted, the oldest positions first and no more than needed.\n");
 }
 
 fn page_7() {
     say(b"  answer to               lines\n");
     say(b"  a call that is refused  refused=N\n");
     say(b"  open, annotate, delete, accepted=1\n");
-    say(b"    open_set\n");
+    say(b"    open_set, plan\n");
     say(
         b"  insert, same, marks,    marks=N, and for each mark key= lamport= peer= flags= kind= value=\n",
     );
@@ -103,7 +116,8 @@ fn page_7() {
     say(b"  mark, inherited         key= lamport= peer= flags= kind= value=\n");
     say(b"  value                   kind= value=\n");
     say(b"  same, mark, inherited,  none=1, where there is none\n");
-    say(b"    value, set, open_set\n");
+    say(b"    value, set, open_set,\n");
+    say(b"    propose\n");
     say(b"  has_key, all_value      yes=1 or yes=0\n");
     say(b"  remove                  first=N\n");
     say(b"  length, touched, runs   length=N; touched=0 or touched=1; runs=N\n");
@@ -131,6 +145,8 @@ fn page_settings() {
     say(
         b"  log, log_end            applied=N, the edits so far, then lines=N, the lines so far, or where it stopped refused=R and line=L\n",
     );
+    say(b"  range                   ranges=N, how many are pending\n");
+    say(b"  propose                 ranges=N, and for each range start= end=\n");
 }
 
 fn page_8() {
@@ -179,6 +195,7 @@ fn page_10() {
     say_refusal(b"  ", 12);
     say_refusal(b"  ", 13);
     say_refusal(b"  ", 14);
+    say_refusal(b"  ", 15);
     say_refusal(b"  ", 18);
     say(b"\n");
 }

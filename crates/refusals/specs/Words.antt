@@ -4,7 +4,7 @@ use Prim.Native.Nat.{ℕ}
 use lib.ListN.{getD}
 use Rattle.text.specs.Bytes.{bytes}
 
--- what each number says, from 0 on; 0 is no refusal, and 15, 16 and 17 are no number of any call so far
+-- what each number says, from 0 on; 0 is no refusal, and 16 and 17 are no number of any call so far
 abbrev pub refusals : List (List ℕ)
 refusals =
     [] ∷
@@ -22,7 +22,7 @@ refusals =
     bytes "a settings text with a bad line" ∷  -- 12
     bytes "a log with a bad line" ∷  -- 13
     bytes "flags that no type makes" ∷  -- 14
-    [] ∷  -- 15
+    bytes "a bad range in a plan, or too many runs left" ∷  -- 15
     [] ∷  -- 16
     [] ∷  -- 17
     bytes "a type that is retired" ∷  -- 18

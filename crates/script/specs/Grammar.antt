@@ -98,6 +98,13 @@ before = number "before" 64
 abbrev pub budget : Field
 budget = number "budget" 64
 
+-- the key that holds a position from going, and how many runs a tank may keep
+abbrev pub hold : Field
+hold = number "hold" 16
+
+abbrev pub runs : Field
+runs = number "runs" 64
+
 -- the most bytes that the body of a call may have
 abbrev pub mostBody : ℕ
 mostBody = 131072
@@ -182,6 +189,9 @@ ops =
     both Both.OpenSet "open_set" (setNumber ∷ []) ∷
     text Text.Log "log" (bodySize ∷ []) ∷
     desk Desk.LogEnd "log_end" [] ∷
+    desk Desk.Range "range" (start ∷ end ∷ []) ∷
+    both Both.Plan "plan" (tank ∷ hold ∷ runs ∷ []) ∷
+    question Question.Propose "propose" (tank ∷ hold ∷ runs ∷ []) ∷
     []
 
 -- between two groups there is no op, and the line that names one is to come

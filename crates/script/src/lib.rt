@@ -67,6 +67,7 @@ pub enum Question {
     Mark,
     Inherited,
     Find,
+    Propose,
 }
 
 // Ops that ask for a list, or for what one takes.
@@ -88,11 +89,13 @@ pub enum Text {
 pub enum Desk {
     Set,
     LogEnd,
+    Range,
 }
 
 // Ops that have to do with that and with the tanks.
 pub enum Both {
     OpenSet,
+    Plan,
 }
 
 // An op, by what it does; Nothing stands for the time between two groups.

@@ -12,5 +12,9 @@ returns-2 : tie.Need-returns-2
 unfolding deskSide deskSays
 returns-2 c = as-desk _ _ (c .before .before .before .before .enum-told2 .given .1) (c .before .before .end-log .ensures)
 
+returns-3 : tie.Need-returns-3
+unfolding deskSide deskSays
+returns-3 c = as-desk _ _ (c .before .before .before .before .enum-told3 .given .1) (c .before .before .range .ensures)
+
 pub at-desk-spec : {M : Type 1} → statement M
-at-desk-spec = tie.close (tie.spec (λ c. search needs) (λ c κs. search needs) (λ c. search needs) (λ c κs. search needs) (λ c. search needs) returns (λ c. search needs) returns-2)
+at-desk-spec = tie.close (tie.spec (λ c. search needs) (λ c κs. search needs) (λ c. search needs) (λ c κs. search needs) (λ c. search needs) (λ c κs. search needs) (λ c. search needs) returns (λ c. search needs) returns-2 (λ c. search needs) returns-3)

@@ -1,16 +1,14 @@
--- There is one op.
+-- By the op.
 use Rattle.clerk.proofs.Performing.{as-both}
-use Rattle.script.specs.declared.Both.{Both}
 use borrow.Author.Needs.{needs}
-use mathlib.Core.Path.{_≡_, refl}
 use Rattle.clerk.proofs.on_both.Statement.{statement}
 use Rattle.clerk.proofs.on_both.Tie as tie
 
-only : (b : Both) → b ≡ Both.OpenSet
-only Both.OpenSet = refl
-
 returns : tie.Need-returns
-returns c = as-both _ _ _ (only (c .before .before .before .before .before .args .b)) (c .before .before .open-set .ensures)
+returns c = as-both _ _ _ (c .before .before .before .before .enum-told .given .1) (c .before .before .open-set .ensures)
+
+returns-2 : tie.Need-returns-2
+returns-2 c = as-both _ _ _ (c .before .before .before .before .enum-told2 .given .1) (c .before .before .plan .ensures)
 
 pub on-both-spec : {M : Type 1} → statement M
-on-both-spec = tie.close (tie.spec (λ c κs. search needs) (λ c. search needs) returns)
+on-both-spec = tie.close (tie.spec (λ c. search needs) (λ c κs. search needs) (λ c. search needs) (λ c κs. search needs) (λ c. search needs) returns (λ c. search needs) returns-2)
