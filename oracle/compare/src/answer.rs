@@ -29,6 +29,10 @@ pub enum Answer {
     BadLine(u64),
     Pairs(Settings),
     Report(Report),
+    /// How many ranges are pending.
+    Pending(u64),
+    /// A plan that is proposed.
+    Plan(Vec<Range>),
 }
 
 /// What a log has come to: edits, newlines, and where it stopped the refusal and the line.
@@ -37,6 +41,13 @@ pub struct Report {
     pub applied: u64,
     pub lines: u64,
     pub stopped: Option<(u8, u64)>,
+}
+
+/// The positions start..end of a plan.
+#[derive(Clone, Copy, Debug, PartialEq, Eq)]
+pub struct Range {
+    pub start: u64,
+    pub end: u64,
 }
 
 /// A stretch as it is listed: its start, its end and how many marks it carries.
@@ -88,6 +99,7 @@ impl Answer {
                 format!("a stop by {number}")
             }
             Answer::Report(_) => "a report".into(),
+            Answer::Plan(_) => "a plan".into(),
             _ => "a number".into(),
         }
     }
@@ -127,6 +139,12 @@ impl fmt::Display for Answer {
                 writeln!(f, "dropped={dropped}\nremaining={remaining}")
             }
             Answer::Set(number) => writeln!(f, "set={number}"),
+            Answer::Pending(count) => writeln!(f, "ranges={count}"),
+            Answer::Plan(ranges) => {
+                writeln!(f, "ranges={}", ranges.len())?;
+                let mut ranges = ranges.iter();
+                ranges.try_for_each(|r| writeln!(f, "start={}\nend={}", r.start, r.end))
+            }
             Answer::BadLine(line) => writeln!(f, "refused=12\nline={line}"),
             Answer::Report(Report { applied, lines, stopped }) => {
                 writeln!(f, "applied={applied}")?;

@@ -36,10 +36,13 @@ pub enum Call {
     OpenSet { number: u64 },
     Log { body: Vec<u8> },
     LogEnd,
+    Range { start: u64, end: u64 },
+    Plan { tank: u64, hold: u16, runs: u64 },
+    Propose { tank: u64, hold: u16, runs: u64 },
 }
 
 /// Each op and its fields, in the order of their lines.
-pub const SHAPES: [(&str, &[&str]); 28] = [
+pub const SHAPES: [(&str, &[&str]); 31] = [
     ("open", &OPEN),
     ("annotate", &["tank", "start", "end", "key", "lamport", "peer", "flags", "kind", "value"]),
     ("insert", &["tank", "at", "len"]),
@@ -68,6 +71,9 @@ pub const SHAPES: [(&str, &[&str]); 28] = [
     ("open_set", &["number"]),
     ("log", &["bytes"]),
     ("log_end", &[]),
+    ("range", &["start", "end"]),
+    ("plan", &["tank", "hold", "runs"]),
+    ("propose", &["tank", "hold", "runs"]),
 ];
 
 /// A body has so many bytes at most.
@@ -117,6 +123,9 @@ impl Call {
             Call::OpenSet { .. } => 25,
             Call::Log { .. } => 26,
             Call::LogEnd => 27,
+            Call::Range { .. } => 28,
+            Call::Plan { .. } => 29,
+            Call::Propose { .. } => 30,
         }
     }
 
@@ -186,6 +195,10 @@ impl Call {
             Call::Settings { ref body } | Call::Log { ref body } => numbers(&[body.len() as u64]),
             Call::LogEnd => Vec::new(),
             Call::Set { number } | Call::OpenSet { number } => numbers(&[number]),
+            Call::Range { start, end } => numbers(&[start, end]),
+            Call::Plan { tank, hold, runs } | Call::Propose { tank, hold, runs } => {
+                numbers(&[tank, hold as u64, runs])
+            }
             Call::Delete { tank, start, end }
             | Call::Same { tank, start, end }
             | Call::StretchesNeeded { tank, start, end } => numbers(&[tank, start, end]),
@@ -248,7 +261,10 @@ impl Call {
             24 => Call::Set { number: n(0) },
             25 => Call::OpenSet { number: n(0) },
             26 => Call::Log { body: body.to_vec() },
-            _ => Call::LogEnd,
+            27 => Call::LogEnd,
+            28 => Call::Range { start: n(0), end: n(1) },
+            29 => Call::Plan { tank, hold: n(1) as u16, runs: n(2) },
+            _ => Call::Propose { tank, hold: n(1) as u16, runs: n(2) },
         }
     }
 }

@@ -99,8 +99,9 @@ fn follow<'a>(
     for (number, entry) in entries.iter().enumerate() {
         let Some(after) = rest.strip_prefix(entry.answer.as_bytes()) else {
             let judge = if entry.rust { Judge::Both } else { Judge::Model };
-            // A stretch too many belongs to the list before.
-            let late = rest.starts_with(b"from=") && number > 0;
+            // A stretch or a range too many belongs to the list before.
+            let more = rest.starts_with(b"from=") || rest.starts_with(b"start=");
+            let late = more && number > 0;
             return Err(parts(number - late as usize, judge, &entry.answer, rest));
         };
         rest = after;
@@ -153,7 +154,12 @@ pub fn answers(
 pub fn is_edit(call: &Call) -> bool {
     matches!(
         call,
-        Call::Annotate { .. } | Call::Insert { .. } | Call::Delete { .. } | Call::Remove { .. }
+        Call::Annotate { .. }
+            | Call::Insert { .. }
+            | Call::Delete { .. }
+            | Call::Remove { .. }
+            | Call::Age { .. }
+            | Call::Plan { .. }
     )
 }
 

@@ -5,6 +5,7 @@ use crate::author::{identity, usual, Author, Habit};
 use crate::call::{Call, Settings};
 use crate::logs;
 use crate::mark::Mark;
+use crate::plans;
 use crate::script::Script;
 use crate::sets;
 use crate::tank::{LONGEST, T};
@@ -16,7 +17,7 @@ pub struct Class {
     write: fn(seed: u64, calls: usize) -> Author,
 }
 
-pub const CLASSES: [Class; 12] = [
+pub const CLASSES: [Class; 13] = [
     Class { name: "inside", about: "one tank with room, the oracle domain", write: inside },
     Class { name: "dense", about: "small positions, many collisions", write: dense },
     Class { name: "short", about: "tanks of few positions, down to none", write: short },
@@ -29,6 +30,7 @@ pub const CLASSES: [Class; 12] = [
     Class { name: "fresh", about: "no opening, or a refused one", write: fresh },
     Class { name: "sets", about: "settings texts and the sets that are kept", write: kept_sets },
     Class { name: "log", about: "logs that are cut and spoilt anywhere", write: log },
+    Class { name: "plans", about: "plans of ranges, and those that are proposed", write: thinned },
 ];
 
 impl Class {
@@ -234,5 +236,16 @@ fn log(seed: u64, calls: usize) -> Author {
     while author.calls.len() < calls {
         logs::go_on(&mut author);
     }
+    author
+}
+
+/// Hold marks, plans good and bad, and plans that are proposed. None are pending at the end.
+fn thinned(seed: u64, calls: usize) -> Author {
+    let mut author = Author::new(seed, Habit { tanks: 2, marks: 8, wild: 90, ..HABIT });
+    author.open(plans::SETTINGS);
+    while author.calls.len() < calls {
+        plans::go_on(&mut author);
+    }
+    author.say(Call::Plan { tank: 0, hold: 1, runs: u64::MAX });
     author
 }

@@ -110,6 +110,9 @@ fn questions() -> Vec<Call> {
         list.extend((0..3).map(|rank| Call::Mark { tank, at, rank }));
         list.extend((0..2).map(|rank| Call::Inherited { tank, at, rank }));
     }
+    for hold in 1..3 {
+        list.extend((0..4).map(|runs| Call::Propose { tank, hold, runs }));
+    }
     for (start, end) in ranges().chain([(0, PLACES), (2, 2), (3, 1), (PLACES, PLACES)]) {
         list.push(Call::Same { tank, start, end });
         list.push(Call::Stretches { tank, start, end, room: 6 });

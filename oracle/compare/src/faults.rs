@@ -3,14 +3,14 @@
 
 use std::collections::BTreeMap;
 
-use crate::answer::{Aged, Answer, Extent, Report};
+use crate::answer::{Aged, Answer, Extent, Range, Report};
 use crate::call::Call;
-use crate::mark::{listed, Content, Id};
+use crate::mark::{listed, Content, Id, Value};
 use crate::settings::{pairs_of, Kept};
 use crate::tanks::Tanks;
 
 /// The name of a fault, and what it gets wrong.
-pub const FAULTS: [(&str, &str); 89] = [
+pub const FAULTS: [(&str, &str); 105] = [
     ("refusal1", "answers for tank 0 in place of refusal 1"),
     ("refusal2", "accepts settings that break the rule"),
     ("refusal3", "accepts an empty edit"),
@@ -97,6 +97,22 @@ pub const FAULTS: [(&str, &str); 89] = [
     ("log-end-count", "names the last line where a log ends early"),
     ("log-end-keeps", "goes on with the log after its end"),
     ("log-open", "begins a new log at an opening"),
+    ("refusal15", "accepts a plan that breaks the rules and changes nothing"),
+    ("plan-null", "lets a mark with a null hold nothing"),
+    ("plan-numbering", "takes the ranges in the numbering after the deletions before"),
+    ("plan-33", "takes the first 32 ranges of a longer plan"),
+    ("plan-touching", "refuses ranges of which one ends where the next begins"),
+    ("plan-begun", "deletes the first range of a plan that it refuses"),
+    ("plan-just", "refuses a plan that leaves just as many runs as asked"),
+    ("plan-stays", "leaves the ranges of a refused plan pending"),
+    ("plan-tank", "leaves the ranges pending where there is no such tank"),
+    ("plan-open", "forgets the pending ranges at an opening"),
+    ("plan-untouched", "accepts ranges of an untouched tank"),
+    ("range-count", "counts pending ranges past 33"),
+    ("propose-all", "proposes every unheld position"),
+    ("propose-none", "proposes no plan where the unheld positions are 32 ranges or more"),
+    ("propose-needless", "proposes the oldest stretch where the tank holds no more than asked"),
+    ("propose-pending", "leaves a proposed plan pending"),
     ("body-lines", "does not count the newlines of bodies"),
     ("run-count", "counts one run too many in a tank of 100 runs or more"),
     ("malformed-line", "names the line after the malformed one"),
@@ -131,20 +147,21 @@ impl Faulty {
 
     pub fn call(&mut self, call: &Call) -> Answer {
         let before = self.tanks.clone();
-        let instead = self.instead(call).or_else(|| self.kept_instead(call));
-        if let Some(answer) = instead.or_else(|| self.log_instead(call)) {
+        if let Some(answer) = self.instead(call).or_else(|| self.aside(call)) {
             return answer;
         }
         let answer = self.tanks.call(call);
         let answer = match answer {
             Answer::Refused(number) => {
                 self.unopened(call, &before);
+                self.unplanned(call, &before);
                 return self.refused(number, call, &before);
             }
             Answer::BadLine(line) => return self.bad_line(line, call),
             other => other,
         };
         self.afterwards(call, &before);
+        let answer = self.proposed(call, answer);
         self.told(call, self.counted(call, &before, answer))
     }
 
@@ -206,6 +223,113 @@ impl Faulty {
                 None
             }
             _ => None,
+        }
+    }
+
+    /// The same of what has to do with sets, logs and plans.
+    fn aside(&mut self, call: &Call) -> Option<Answer> {
+        let kept = self.kept_instead(call).or_else(|| self.log_instead(call));
+        kept.or_else(|| self.planned_instead(call))
+    }
+
+    /// The same of plans.
+    fn planned_instead(&mut self, call: &Call) -> Option<Answer> {
+        if let (true, Call::Range { .. }) = (self.fault == "range-count", call) {
+            self.turn += 1;
+            self.tanks.call(call);
+            return Some(Answer::Pending(self.turn));
+        }
+        let Call::Plan { tank, hold, runs } = *call else { return None };
+        self.turn = 0;
+        let now = self.tanks.tanks.get(tank as usize)?;
+        let ranges = self.tanks.pending.clone();
+        let accepted = now.planned(hold, runs, &ranges).is_some();
+        match self.fault.as_str() {
+            "plan-null" if !accepted => {
+                let mut without = now.clone();
+                let null =
+                    |id: &Id, content: &Content| id.0 == hold && content.value == Value::Null;
+                let nulls = now.carried().into_iter().filter(|(id, content)| null(id, content));
+                for (id, _) in nulls {
+                    (0..now.length.min(200)).rev().for_each(|last| {
+                        without.remove(id, last);
+                    });
+                }
+                without.planned(hold, u64::MAX, &ranges)?;
+                self.tanks.pending.clear();
+                Some(Answer::Accepted)
+            }
+            "plan-numbering" if accepted && ranges.len() > 1 => {
+                let tank = &mut self.tanks.tanks[tank as usize];
+                for range in &ranges {
+                    let end = range.end.min(tank.length);
+                    if range.start < end {
+                        tank.delete(range.start, end);
+                    }
+                }
+                self.tanks.pending.clear();
+                Some(Answer::Accepted)
+            }
+            "plan-33" if ranges.len() > 32 => {
+                self.tanks.pending.truncate(32);
+                None
+            }
+            "plan-untouched" if !accepted && !now.touched && runs > 0 && !ranges.is_empty() => {
+                self.tanks.pending.clear();
+                Some(Answer::Accepted)
+            }
+            "plan-touching" if ranges.windows(2).any(|two| two[0].end == two[1].start) => {
+                self.tanks.pending.clear();
+                Some(Answer::Refused(15))
+            }
+            "plan-just" if accepted => {
+                let just = now.planned(hold, runs.saturating_sub(1), &ranges).is_none();
+                self.tanks.pending.retain(|_| !just);
+                just.then_some(Answer::Refused(15))
+            }
+            _ => None,
+        }
+    }
+
+    /// Faults in what a refused plan leaves.
+    fn unplanned(&mut self, call: &Call, before: &Tanks) {
+        let Call::Plan { tank, .. } = *call else { return };
+        match self.fault.as_str() {
+            "plan-stays" if tank < 8 => self.tanks.pending = before.pending.clone(),
+            "plan-tank" if tank >= 8 => self.tanks.pending = before.pending.clone(),
+            "plan-begun" if tank < 8 => {
+                let first = before.pending.first();
+                let within = |range: &&Range| {
+                    let length = before.tanks[tank as usize].length;
+                    range.start < range.end && range.end <= length
+                };
+                if let Some(range) = first.filter(within) {
+                    self.tanks.tanks[tank as usize].delete(range.start, range.end);
+                }
+            }
+            _ => {}
+        }
+    }
+
+    /// Faults in what is proposed.
+    fn proposed(&mut self, call: &Call, answer: Answer) -> Answer {
+        let Call::Propose { tank, hold, .. } = *call else { return answer };
+        let tank = &self.tanks.tanks[tank as usize];
+        let all = tank.unheld(hold, tank.length);
+        match (self.fault.as_str(), answer) {
+            ("propose-all", Answer::Plan(ranges)) if !ranges.is_empty() => Answer::Plan(all),
+            ("propose-none", Answer::Plan(ranges)) if all.len() >= 32 && !ranges.is_empty() => {
+                Answer::None
+            }
+            ("propose-needless", Answer::Plan(ranges)) if ranges.is_empty() && tank.touched => {
+                let second = tank.boundaries().get(1).copied().unwrap_or(tank.length);
+                Answer::Plan(tank.unheld(hold, second))
+            }
+            ("propose-pending", Answer::Plan(ranges)) => {
+                self.tanks.pending = ranges.clone();
+                Answer::Plan(ranges)
+            }
+            (_, answer) => answer,
         }
     }
 
@@ -364,6 +488,7 @@ impl Faulty {
             Call::Open { .. }
             | Call::OpenSet { .. }
             | Call::Annotate { .. }
+            | Call::Plan { .. }
             | Call::Delete { .. } => Answer::Accepted,
             _ => Answer::None,
         }
@@ -406,6 +531,7 @@ impl Faulty {
                 let fifth = before.kept.sets.get(3);
                 self.tanks.kept.sets.extend(fifth);
             }
+            ("plan-open", Call::Open { .. } | Call::OpenSet { .. }) => self.tanks.pending.clear(),
             ("kept-open", Call::Open { .. }) | ("kept-open-set", Call::OpenSet { .. }) => {
                 self.tanks.kept = Kept::default();
             }

@@ -5,7 +5,7 @@
 //! - `settings`: settings texts and the sets that are kept.
 //! - `log`: the edge boxes' log.
 //! - `mirror`: the Rust beside the model, and the oracle domain.
-//! - `random`, `author`, `classes`, `exhaust`, `sets`, `logs`, `text`: scripts.
+//! - `random`, `author`, `classes`, `exhaust`, `sets`, `logs`, `plans`, `text`: scripts.
 //! - `console`, `check`, `shrink`, `tally`: running a console, comparing, making a finding small.
 //! - `faults`: wrong answers on purpose, to see that the comparison notices them.
 //! - `cases`: document 01's checked examples as calls.
@@ -25,6 +25,7 @@ pub mod logs;
 pub mod mark;
 pub mod mirror;
 pub mod page;
+pub mod plans;
 pub mod random;
 pub mod reader;
 pub mod refusals;

@@ -8,7 +8,7 @@ use std::panic::{catch_unwind, set_hook, take_hook, AssertUnwindSafe};
 
 use original::{join_neighbours, LoroValue};
 
-use crate::answer::{Aged, Anchor, Answer, Extent, Listed};
+use crate::answer::{Aged, Anchor, Answer, Extent, Listed, Range};
 use crate::call::Call;
 use crate::mark::{Content, Id, Mark, Value};
 use crate::tank::Tank;
@@ -50,8 +50,10 @@ impl Mirror {
                 self.tanks = fresh(self.joined);
                 return Said::Nothing;
             }
-            // The Rust has no settings.
-            Call::Settings { .. } | Call::Set { .. } | Call::LogEnd => return Said::Nothing,
+            // The Rust has no settings, and nothing pending.
+            Call::Settings { .. } | Call::Set { .. } | Call::LogEnd | Call::Range { .. } => {
+                return Said::Nothing
+            }
             // Nor has it a log: the tanks leave the comparison.
             Call::Log { .. } => {
                 self.tanks = std::array::from_fn(|_| None);
@@ -65,6 +67,9 @@ impl Mirror {
         let place = call.tank().expect("an edit and a question name a tank") as usize;
         let Some(original) = &mut self.tanks[place] else { return Said::Nothing };
         let tank = &before.tanks[place];
+        if let Call::Plan { hold, runs, .. } = *call {
+            return self.plan(before, place, hold, runs);
+        }
         if !inside(tank, call) || !original.one_content(call) {
             if changes(tank, call) {
                 self.tanks[place] = None;
@@ -72,6 +77,20 @@ impl Mirror {
             return Said::Nothing;
         }
         quietly(|| original.answer(tank, call, answer)).unwrap_or_else(Said::Panic)
+    }
+
+    /// An accepted plan, in the domain where its last range ends before the length: then so does
+    /// each deletion, when those behind it are done.
+    fn plan(&mut self, before: &Tanks, place: usize, hold: u16, runs: u64) -> Said {
+        let end = before.pending.last().map_or(0, |range| range.end);
+        let Some(original) = &mut self.tanks[place] else { return Said::Nothing };
+        if end > 0 && end >= before.tanks[place].length {
+            self.tanks[place] = None;
+            return Said::Nothing;
+        }
+        let map = &mut original.map;
+        let answer = quietly(|| planned(map, hold, runs, &before.pending));
+        answer.map_or_else(Said::Panic, Said::Answer)
     }
 
     /// Whether the Rust's map of a tank means what the model's tank means; nothing where the tank
@@ -128,7 +147,10 @@ pub fn inside(tank: &Tank, call: &Call) -> bool {
         | Call::Set { .. }
         | Call::OpenSet { .. }
         | Call::Log { .. }
-        | Call::LogEnd => false,
+        | Call::LogEnd
+        | Call::Range { .. }
+        | Call::Plan { .. }
+        | Call::Propose { .. } => false,
     }
 }
 
@@ -205,6 +227,18 @@ fn aged(map: &mut original::Tank, before: u64, budget: u64) -> Aged {
         map.delete(0..end as usize);
     }
     done
+}
+
+/// The Rust has no such call: it is asked whether a range has the hold key, deletes the ranges from
+/// the last to the first, and its elements are counted, with equal neighbours joined.
+fn planned(map: &mut original::Tank, hold: u16, runs: u64, ranges: &[Range]) -> Answer {
+    let span = |range: &Range| range.start as usize..range.end as usize;
+    let held = ranges.iter().any(|range| map.has_key(span(range), hold));
+    ranges.iter().rev().for_each(|range| map.delete(span(range)));
+    if held || joined(map.elements()).len() as u64 > runs {
+        return Answer::Refused(15);
+    }
+    Answer::Accepted
 }
 
 fn asked(map: &original::Tank, tank: &Tank, call: &Call) -> Said {

@@ -108,7 +108,7 @@ pub fn taken(group: Option<Group>, line: &[u8]) -> Option<Step> {
 
 fn largest(name: &str) -> u64 {
     match name {
-        "key" => u16::MAX as u64,
+        "key" | "hold" => u16::MAX as u64,
         "lamport" => u32::MAX as u64,
         "flags" => u8::MAX as u64,
         "bytes" => LONGEST_BODY,

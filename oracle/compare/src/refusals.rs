@@ -4,6 +4,7 @@ use crate::call::{Call, Settings};
 use crate::classes::ROOMY;
 use crate::logs;
 use crate::mark::{Content, Id, Mark, Value};
+use crate::plans;
 use crate::sets;
 use crate::tank::{LONGEST, T};
 
@@ -48,6 +49,9 @@ fn every(tank: u64, start: u64, end: u64) -> Vec<Call> {
         Call::Anchors { tank, room },
         Call::Find { tank, at },
         Call::Age { tank, before: end, budget: len },
+        Call::Range { start, end },
+        Call::Plan { tank, hold: key, runs: 1 },
+        Call::Propose { tank, hold: key, runs: len },
     ]
 }
 
@@ -244,5 +248,5 @@ fn pool() -> Vec<Call> {
 
 pub fn refusals() -> Vec<Call> {
     let tanks = [openings(), ranges(), ageings(), longest(), contents(), limit(), pool()];
-    [tanks.concat(), sets::refused(), logs::refused()].concat()
+    [tanks.concat(), plans::refused(), sets::refused(), logs::refused()].concat()
 }

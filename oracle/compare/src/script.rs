@@ -35,14 +35,18 @@ impl Script {
     }
 
     /// Whether it may follow another script in one input: it starts anew and ends between groups.
-    /// An opening leaves the kept sets and the log, so a script that has to do with them goes alone.
+    /// An opening leaves the kept sets and the log, so a script that has to do with them goes alone,
+    /// and so does one that leaves ranges pending.
     pub fn joins(&self) -> bool {
         let keeps = |call: &Call| {
             let sets =
                 matches!(call, Call::Settings { .. } | Call::Set { .. } | Call::OpenSet { .. });
             sets || matches!(call, Call::Log { .. } | Call::LogEnd)
         };
+        let mut plans = self.calls.iter().rev();
+        let last = plans.find(|call| matches!(call, Call::Range { .. } | Call::Plan { .. }));
+        let pending = matches!(last, Some(Call::Range { .. }));
         let anew = matches!(self.calls.first(), Some(Call::Open { .. }));
-        anew && self.tail.is_empty() && !self.calls.iter().any(keeps)
+        anew && self.tail.is_empty() && !pending && !self.calls.iter().any(keeps)
     }
 }

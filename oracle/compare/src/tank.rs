@@ -5,13 +5,15 @@
 use std::collections::BTreeMap;
 use std::rc::Rc;
 
-use crate::answer::{Aged, Anchor, Extent, Listed};
+use crate::answer::{Aged, Anchor, Extent, Listed, Range};
 use crate::mark::{Content, Id, Mark, Set, Value};
 
 /// A fresh tank's length.
 pub const T: u64 = (1 << 62) - 1;
 /// The largest length.
 pub const LONGEST: u64 = (1 << 63) - 1;
+/// So many ranges a plan has at most.
+pub const RANGES: usize = 32;
 
 #[derive(Clone, Debug, PartialEq)]
 pub struct Tank {
@@ -128,6 +130,59 @@ impl Tank {
             before = Some(set.clone());
             !goes_on
         });
+    }
+}
+
+/// Plans: change request 9 as a model. All ranges are in the numbering before.
+impl Tank {
+    /// The tank after a plan, where it keeps the rules.
+    pub fn planned(&self, hold: u16, runs: u64, ranges: &[Range]) -> Option<Tank> {
+        let in_order = ranges.windows(2).all(|two| two[0].end <= two[1].start);
+        let within = |r: &Range| r.start < r.end && r.end <= self.length;
+        let free = |r: &Range| !self.has_key(r.start, r.end, hold);
+        let few = ranges.len() <= RANGES && (self.touched || ranges.is_empty());
+        if !few || !in_order || !ranges.iter().all(within) || !ranges.iter().all(free) {
+            return None;
+        }
+        Some(self.without(ranges)).filter(|after| after.runs() <= runs)
+    }
+
+    /// What lies between the ranges, put together.
+    fn without(&self, ranges: &[Range]) -> Tank {
+        let mut left = Tank { length: 0, touched: self.touched, begins: BTreeMap::new() };
+        let mut from = 0;
+        let rest = Range { start: self.length, end: self.length };
+        for range in ranges.iter().chain([&rest]) {
+            for stretch in self.stretches(from, range.start) {
+                left.begins.insert(left.length, stretch.set);
+                left.length += stretch.to - stretch.from;
+            }
+            from = range.end;
+        }
+        left.tidy();
+        left
+    }
+
+    /// The unheld ranges below the least place for which they are accepted. Inside a stretch no
+    /// place does that its beginning doesn't do, since a rest of it stays.
+    pub fn proposed(&self, hold: u16, runs: u64) -> Option<Vec<Range>> {
+        let places = self.begins.keys().copied().chain([self.length]);
+        let mut plans = places.map(|below| self.unheld(hold, below));
+        plans.find(|ranges| self.planned(hold, runs, ranges).is_some())
+    }
+
+    /// The maximal ranges below a place that no mark holds, the first 32 of them.
+    pub fn unheld(&self, hold: u16, below: u64) -> Vec<Range> {
+        let mut list: Vec<Range> = Vec::new();
+        let stretches = self.stretches(0, below).into_iter();
+        for free in stretches.filter(|s| s.set.keys().all(|id| id.0 != hold)) {
+            match list.last_mut() {
+                Some(before) if before.end == free.from => before.end = free.to,
+                _ => list.push(Range { start: free.from, end: free.to }),
+            }
+        }
+        list.truncate(RANGES);
+        list
     }
 }
 

@@ -1,7 +1,7 @@
 //! Eight tanks with shares and limits, and the answer to every call: document 01's refusal table
 //! over the rules of one tank. The tests of a call stand in the order of their numbers.
 
-use crate::answer::Answer;
+use crate::answer::{Answer, Range};
 use crate::call::{Call, Settings};
 use crate::log::Log;
 use crate::mark::{listed, Mark, Set};
@@ -19,6 +19,8 @@ pub const RETIRED: u8 = 0x82;
 /// The console's own buffers, in u64 and in anchor records.
 const STRETCH_ROOM: u64 = 1536;
 const ANCHOR_ROOM: u64 = 32768;
+/// So many pending ranges make a plan that is too long, and no more are counted.
+const PENDING: usize = 33;
 
 #[derive(Clone, Debug, PartialEq)]
 pub struct Tanks {
@@ -26,6 +28,8 @@ pub struct Tanks {
     pub tanks: [Tank; 8],
     pub kept: Kept,
     pub log: Log,
+    /// The ranges of the next plan; no more than `PENDING` are counted.
+    pub pending: Vec<Range>,
 }
 
 impl Default for Tanks {
@@ -35,6 +39,7 @@ impl Default for Tanks {
             tanks: Default::default(),
             kept: Kept::default(),
             log: Log::default(),
+            pending: Vec::new(),
         }
     }
 }
@@ -68,6 +73,8 @@ impl Tanks {
             Call::OpenSet { number } => {
                 return self.kept.set(*number).map_or(Ok(Answer::None), |set| self.open(set))
             }
+            Call::Range { start, end } => return Ok(self.range(*start, *end)),
+            Call::Plan { tank, hold, runs } => return self.plan(*tank, *hold, *runs),
             _ => {}
         }
         let tank = call.tank().expect("an edit and a question name a tank");
@@ -98,8 +105,8 @@ impl Tanks {
     }
 
     fn open(&mut self, settings: Settings) -> Judged<Answer> {
-        let (kept, log) = (std::mem::take(&mut self.kept), std::mem::take(&mut self.log));
-        *self = Tanks { kept, log, ..Tanks::default() };
+        self.settings = [(1, 1); 8];
+        self.tanks = Default::default();
         let pair = |&(share, limit): &(u64, u64)| 1 <= share && share <= limit && limit <= POOL;
         refuse_if(!settings.iter().all(pair), 2)?;
         refuse_if(settings.iter().map(|pair| pair.0).sum::<u64>() > POOL, 2)?;
@@ -113,6 +120,22 @@ impl Tanks {
         let answer = log.take(read, |call| self.call(call));
         self.log = log;
         answer
+    }
+
+    fn range(&mut self, start: u64, end: u64) -> Answer {
+        if self.pending.len() < PENDING {
+            self.pending.push(Range { start, end });
+        }
+        Answer::Pending(self.pending.len() as u64)
+    }
+
+    /// Submits the pending ranges. Limits and the pool have no say: deleting adds no run.
+    fn plan(&mut self, tank: u64, hold: u16, runs: u64) -> Judged<Answer> {
+        let ranges = std::mem::take(&mut self.pending);
+        refuse_if(tank >= 8, 1)?;
+        let after = self.tank(tank).planned(hold, runs, &ranges).ok_or(15)?;
+        self.tanks[tank as usize] = after;
+        Ok(Answer::Accepted)
     }
 
     fn edit_range(&self, tank: u64, start: u64, end: u64) -> Judged<()> {
@@ -223,7 +246,12 @@ impl Tanks {
                 position(at)?;
                 Answer::Extent(tank.find(at))
             }
+            Call::Propose { hold, runs, .. } => {
+                tank.proposed(hold, runs).map_or(Answer::None, Answer::Plan)
+            }
             Call::Open { .. }
+            | Call::Range { .. }
+            | Call::Plan { .. }
             | Call::Settings { .. }
             | Call::Set { .. }
             | Call::OpenSet { .. }

@@ -6,7 +6,7 @@ use crate::random::Random;
 use crate::script::Script;
 
 /// Lines that are malformed wherever they stand, or only where another is wanted.
-const LINES: [&str; 46] = [
+const LINES: [&str; 49] = [
     "",
     "op",
     "op=",
@@ -43,6 +43,9 @@ const LINES: [&str; 46] = [
     "bytes=131072",
     "bytes=131073",
     "number=18446744073709551616",
+    "hold=65535",
+    "hold=65536",
+    "runs=18446744073709551616",
     "value=0",
     "value=2",
     "value=-0",

@@ -3,10 +3,11 @@
 
 use std::collections::BTreeSet;
 
+use compare::answer::Range;
 use compare::author::{identity, usual};
 use compare::mark::{Id, Mark, Value};
 use compare::random::Random;
-use compare::tank::{Tank, T};
+use compare::tank::{Tank, RANGES, T};
 
 type Positions = Vec<BTreeSet<Id>>;
 
@@ -151,6 +152,115 @@ fn entries_mean_positions() {
                 tank.delete(12, all.len() as u64);
                 all.truncate(12);
             }
+        }
+    }
+}
+
+/// The positions after a plan, where it keeps the rules: those that are in none of its ranges.
+fn planned(
+    all: &Positions,
+    hold: u16,
+    runs: usize,
+    ranges: &[(usize, usize)],
+) -> Option<Positions> {
+    let mut gone = vec![false; all.len()];
+    let mut from = 0;
+    for &(start, end) in ranges {
+        if start < from || end <= start || end > all.len() {
+            return None;
+        }
+        gone[start..end].fill(true);
+        from = end;
+    }
+    let held = |at: usize| all[at].iter().any(|id| id.0 == hold);
+    if ranges.len() > RANGES || (0..all.len()).any(|at| gone[at] && held(at)) {
+        return None;
+    }
+    let left: Positions =
+        (0..all.len()).filter(|&at| !gone[at]).map(|at| all[at].clone()).collect();
+    let mut joined = left.clone();
+    joined.dedup();
+    (joined.len() <= runs).then_some(left)
+}
+
+/// The first 32 unheld ranges below a place.
+fn unheld(all: &Positions, hold: u16, below: usize) -> Vec<(usize, usize)> {
+    let free = |at: usize| at < below && all[at].iter().all(|id| id.0 != hold);
+    let first = |at: &usize| free(*at) && (*at == 0 || !free(*at - 1));
+    let end = |start: usize| (start..=below).find(|&at| !free(at)).expect("the place is not below");
+    (0..below).filter(first).map(|start| (start, end(start))).take(RANGES).collect()
+}
+
+fn of_numbers(ranges: &[(usize, usize)]) -> Vec<Range> {
+    let range = |&(start, end): &(usize, usize)| Range { start: start as u64, end: end as u64 };
+    ranges.iter().map(range).collect()
+}
+
+/// Each place is tried, not only those where a set changes.
+fn proposes(tank: &Tank, all: &Positions) {
+    for hold in 0..4 {
+        for runs in 0..=all.len().min(9) {
+            let works =
+                |below: &usize| planned(all, hold, runs, &unheld(all, hold, *below)).is_some();
+            let least = (0..=all.len()).find(works);
+            let expected = least.map(|below| of_numbers(&unheld(all, hold, below)));
+            assert_eq!(tank.proposed(hold, runs as u64), expected);
+        }
+    }
+}
+
+#[test]
+fn plans_mean_positions() {
+    let mut accepted = 0;
+    for seed in 0..200 {
+        let mut random = Random::new(seed);
+        let (mut tank, mut all) = short(&mut random);
+        for _ in 0..20 {
+            edit(&mut random, &mut tank, &mut all);
+            if all.len() > 12 {
+                tank.delete(12, all.len() as u64);
+                all.truncate(12);
+            }
+            proposes(&tank, &all);
+            let mut place = 0;
+            let mut number = |random: &mut Random| {
+                place =
+                    (place + random.below(4) as usize).saturating_sub(random.one_in(9) as usize);
+                place
+            };
+            let count = random.below(4);
+            let ranges: Vec<_> =
+                (0..count).map(|_| (number(&mut random), number(&mut random))).collect();
+            let (hold, runs) = (random.below(4) as u16, random.below(8));
+            let after = tank.planned(hold, runs, &of_numbers(&ranges));
+            let expected = planned(&all, hold, runs as usize, &ranges);
+            assert_eq!(after.is_some(), expected.is_some(), "{ranges:?}");
+            if let (Some(after), Some(left)) = (after, expected) {
+                accepted += 1;
+                same(&after, &left);
+            }
+        }
+    }
+    assert!(accepted > 200, "{accepted} plans were accepted");
+}
+
+/// More than 32 unheld ranges, and what is proposed there.
+#[test]
+fn a_comb_is_thinned_as_far_as_32_ranges_go() {
+    for teeth in [30, 31, 32, 33, 34, 40] {
+        let (mut tank, mut all) = (Tank::default(), vec![BTreeSet::new(); 2 * teeth + 1]);
+        let id = (3, 5, 1);
+        for tooth in 0..teeth {
+            let at = 2 * tooth as u64 + 1;
+            tank.annotate(at, at + 1, Mark { id, content: usual(id) });
+            all[2 * tooth + 1].insert(id);
+        }
+        tank.delete(all.len() as u64, T);
+        for runs in 0..=2 * teeth + 2 {
+            let works = |below: &usize| planned(&all, 3, runs, &unheld(&all, 3, *below)).is_some();
+            let least = (0..=all.len()).find(works);
+            let expected = least.map(|below| of_numbers(&unheld(&all, 3, below)));
+            assert_eq!(tank.proposed(3, runs as u64), expected);
         }
     }
 }

@@ -98,3 +98,13 @@ fn a_body_is_as_long_as_its_line_says() {
     assert_eq!(malformed(&group(131_073, &[b'\n'; 131_073])), Some(2));
     assert_eq!(malformed(b"op=settings\nbytes=03\nabc"), Some(2));
 }
+
+#[test]
+fn a_hold_key_has_16_bits_and_runs_have_64() {
+    let group = |hold: &str, runs: &str| format!("op=plan\ntank=8\nhold={hold}\nruns={runs}\n");
+    let malformed = |hold, runs| read(group(hold, runs).as_bytes()).malformed;
+    assert_eq!(malformed("65535", "18446744073709551615"), None);
+    assert_eq!(malformed("65536", "1"), Some(3));
+    assert_eq!(malformed("0", "18446744073709551616"), Some(4));
+    assert_eq!(read(b"op=range\nstart=1\nend=0\n").calls, [Call::Range { start: 1, end: 0 }]);
+}

@@ -13,7 +13,7 @@ use compare::mirror::hush;
 use compare::script::Script;
 use compare::shrink::shrink;
 use compare::tally::Tally;
-use compare::{cases, logs, refusals, sets, text};
+use compare::{cases, logs, plans, refusals, sets, text};
 
 const USE: &str = "\
 compare CONSOLE [--quick | --long] [--seeds A..B] [--calls N] [--only CLASS | --without CLASS]
@@ -27,7 +27,7 @@ CONSOLE       the console to compare: call scripts in, answers out
 --seeds A..B  random scripts with these seeds, in place of the round's own
 --calls N     so many calls in a random script, in place of the round's own
 --only CLASS  one class alone: a class of random scripts, or cases, refusals, settings,
-              text, exhaust
+              logs, planned, text, exhaust
 --without CLASS
               all classes but one
 
@@ -137,6 +137,7 @@ impl Round {
         part("refusals", &mut std::iter::once(fixed("refusals", refusals::refusals())))?;
         part("settings", &mut sets::scripts().into_iter())?;
         part("logs", &mut logs::scripts().into_iter())?;
+        part("planned", &mut plans::scripts())?;
         for class in &CLASSES {
             part(class.name, &mut self.seeds.clone().map(|seed| class.script(seed, self.calls)))?;
         }

@@ -19,7 +19,7 @@ use compare::settings::text_of;
 use compare::tally::Tally;
 
 /// How many scripts of each class stand in the sample, and how many calls each has.
-const SHARE: [(&str, u64, usize); 9] = [
+const SHARE: [(&str, u64, usize); 10] = [
     ("inside", 5, 150),
     ("dense", 4, 120),
     ("short", 3, 120),
@@ -29,6 +29,7 @@ const SHARE: [(&str, u64, usize); 9] = [
     ("runs", 1, 30),
     ("many", 1, 30),
     ("wild", 1, 160),
+    ("plans", 2, 150),
 ];
 
 /// The seed of the first script of each class.
@@ -104,6 +105,7 @@ fn wanted() -> Vec<&'static str> {
         "refused 11",
         "refused 12",
         "refused 14",
+        "refused 15",
         "refused 18",
         "open: accepted",
         "annotate: accepted",
@@ -144,5 +146,9 @@ fn wanted() -> Vec<&'static str> {
         "log: a stop by 13",
         "log_end: a report",
         "log_end: a stop by 3",
+        "range: a number",
+        "plan: accepted",
+        "propose: a plan",
+        "propose: none",
     ]
 }
