@@ -8,6 +8,7 @@ fn mark(key: u16, lamport: u32, peer: u64) -> Mark {
         key: key,
         flags: 132,
         lamport: lamport,
+        cnt: 0,
         peer: peer,
         value: Value::Null,
     }

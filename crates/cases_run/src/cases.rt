@@ -17,6 +17,7 @@ fn mark(key: u16, lamport: u32, peer: u64) -> Mark {
         key: key,
         flags: 0x84,
         lamport: lamport,
+        cnt: 0,
         peer: peer,
         value: Value::Null,
     }
@@ -40,6 +41,7 @@ fn saying(m: Mark, b: bool) -> Mark {
         key: m.key,
         flags: m.flags,
         lamport: m.lamport,
+        cnt: m.cnt,
         peer: m.peer,
         value: Value::Flag(b),
     }

@@ -1,5 +1,6 @@
 -- Document 01's cases 2 and 5 at small scale: a tank of 10 positions, A on 2 .. 5, and then C on 4 .. 7 as well. By computing alone.
 use mathlib.Core.Path.{_≡_, refl}
+use lib.IntN.{pos}
 use mathlib.Core.Bool.{false}
 use mathlib.Core.List.{[], _∷_}
 use Rattle.styles.specs.declared.Mark.{Mark}
@@ -13,10 +14,10 @@ use Rattle.lists.specs.Lists.{listOver, rangeList, wholeList, rangeRefus
 use Rattle.lists.specs.Anchors.{marksBefore, marksBehind, anchorOf, anchorsOf, boundary, boundaries, anchors}
 
 abbrev A : Mark
-A = record { key = 1; flags = 128; lamport = 5; peer = 1; value = Null }
+A = record { key = 1; flags = 128; lamport = 5; cnt = pos 0; peer = 1; value = Null }
 
 abbrev C : Mark
-C = record { key = 2; flags = 128; lamport = 3; peer = 1; value = Null }
+C = record { key = 2; flags = 128; lamport = 3; cnt = pos 0; peer = 1; value = Null }
 
 abbrev bare : View
 bare = record { length = 10; touched = false; at = λ p. [] }

@@ -22,6 +22,7 @@ fn marked(s: Tanks, tank: u64, start: u64, end: u64, key: u16) -> Tanks
         key: key,
         flags: 0x84,
         lamport: 5,
+        cnt: 0,
         peer: 1,
         value: Value::Flag(true),
     };

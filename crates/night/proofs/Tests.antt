@@ -5,6 +5,7 @@ use mathlib.Core.Bool.{Bool, true, false, cond}
 use mathlib.Core.List.{List, [], _∷_}
 use mathlib.Core.Option.{none, some}
 use lib.Dec.{ltb}
+use lib.IntN.{pos}
 use lib.ListN.{replicate}
 use Rattle.styles.specs.declared.Mark.{Mark}
 use Rattle.styles.specs.declared.Value.the-variants.{Null}
@@ -19,7 +20,7 @@ use Rattle.night.specs.Plans.{range, inOrder, freeOf, noRanges, mayGo, a
 use Rattle.night.specs.Proposing.{unheldAt, rangesFrom, unheldBelow, proposed, begins, rangeCount}
 
 abbrev mark : ℕ → Mark
-mark key = record { key = key; flags = 0x84; lamport = 5; peer = 1; value = Null }
+mark key = record { key = key; flags = 0x84; lamport = 5; cnt = pos 0; peer = 1; value = Null }
 
 abbrev marksAt : ℕ → List Mark
 marksAt p = cond (ltb p 3) (mark 1 ∷ []) (cond (ltb p 5) (mark 2 ∷ []) [])

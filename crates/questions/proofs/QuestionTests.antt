@@ -1,5 +1,6 @@
 -- The questions on a small tank, by computation.
 use Prim.Native.Nat.{ℕ}
+use lib.IntN.{pos}
 use mathlib.Core.Path.{_≡_, refl}
 use mathlib.Core.Bool.{true, false}
 use mathlib.Core.List.{List, [], _∷_}
@@ -35,7 +36,7 @@ use Rattle.questions.specs.Questions.{
 }
 
 abbrev mark : ℕ → ℕ → ℕ → Value → Mark
-mark k l p w = record { key = k; flags = 128; lamport = l; peer = p; value = w }
+mark k l p w = record { key = k; flags = 128; lamport = l; cnt = pos 0; peer = p; value = w }
 
 abbrev A : Mark
 A = mark 1 5 1 (Flag true)

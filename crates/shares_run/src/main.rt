@@ -27,6 +27,7 @@ fn mark(key: u16) -> Mark {
         key: key,
         flags: 0x84,
         lamport: 5,
+        cnt: 0,
         peer: 1,
         value: Value::Flag(true),
     }

@@ -13,13 +13,14 @@ use Rattle.styles.specs.declared.Value.the-variants.{Null}
 use Rattle.styles.specs.declared.Winner.{Winner}
 use Rattle.styles.specs.declared.Winner.the-variants.{Nothing, Shows}
 use lib.Dec.{eqb, ltb, leb}
+use lib.IntN.{pos}
 use lib.ListN.{take, drop}
-use Rattle.styles.specs.Values.{sameValue, showsAs}
+use Rattle.styles.specs.Values.{sameWhole, sameValue, showsAs}
 use Rattle.styles.specs.Order.{stands, then, numbers, isBefore, idOf, less, sameId}
 
--- the same content: the flag byte and the very same value
+-- the same content: the flag byte, the box's counter and the very same value
 unfoldable pub sameContent : Mark → Mark → Bool
-sameContent a b = eqb (a .flags) (b .flags) && sameValue (a .value) (b .value)
+sameContent a b = eqb (a .flags) (b .flags) && (sameWhole (a .cnt) (b .cnt) && sameValue (a .value) (b .value))
 
 -- ---- Sets, and what they carry
 -- each mark of the list comes after the identity
@@ -116,7 +117,7 @@ showsValue k w l = shownBy w (winner k l)
 -- ---- A place without a mark
 -- what stands there
 abbrev pub blank : Mark
-blank = record { key = 0; flags = 0; lamport = 0; peer = 0; value = Null }
+blank = record { key = 0; flags = 0; lamport = 0; cnt = pos 0; peer = 0; value = Null }
 
 -- ---- A table: marks at numbered places
 -- a mark put in at a place of a list

@@ -93,7 +93,7 @@ pub known-is : (m : Mark) (ms : List Mark) → Sorted ms → member (idOf m) ms 
 known-is m ms sorted e c =
     let x = getD ms (placeOf (idOf m) ms) blank in
     let k = content-eq m x (not-false (sameContent m x) (sym (clash-at m ms sorted e) ∙ c)) in
-    sym (mark-eq m x (sym (place-id ms (idOf m) sorted e)) (k .0) (k .1))
+    sym (mark-eq m x (sym (place-id ms (idOf m) sorted e)) (k .0) (k .1) (k .2))
 
 -- ---- the answer in each case
 module _ (m : Mark) (ms : List Mark) (sorted : Sorted ms) (at : ℕ) (at-is : at ≡ placeOf (idOf m) ms) where

@@ -1,5 +1,6 @@
 -- The rules on tanks of a few positions, by computing.
 use Prim.Native.Nat.{ℕ, zero, suc}
+use lib.IntN.{pos}
 use mathlib.Core.Path.{_≡_, refl}
 use mathlib.Core.Bool.{true, cond}
 use mathlib.Core.List.{List, [], _∷_, _++_}
@@ -15,7 +16,7 @@ use Rattle.runs.specs.Positions.{within, sumBelow, anyAt, starts, stretchTo}
 use Rattle.tank.specs.Rules.{View, freshView, afterAnnotate, inherited, afterInsert, forInsert, afterDelete, backFrom, stripped, afterRemove, runsHeld, gathered, carried, annotating, inserting, deleting, removing, empty, over, long, madeFlag, retiredFlag, markNumber, ownNumber, clash, clashes, full, refusal}
 
 abbrev mark : ℕ → ℕ → ℕ → ℕ → Value → Mark
-mark key lamport peer flags value = record { key = key; flags = flags; lamport = lamport; peer = peer; value = value }
+mark key lamport peer flags value = record { key = key; flags = flags; lamport = lamport; cnt = pos 0; peer = peer; value = value }
 
 abbrev A : Mark
 A = mark 1 5 1 0x84 Null

@@ -5,6 +5,7 @@ use mathlib.Core.Path.{_≡_, refl}
 use mathlib.Core.Bool.{true, false, cond}
 use mathlib.Core.List.{[], _∷_, _++_}
 use lib.Dec.{ltb}
+use lib.IntN.{pos}
 use lib.ListN.{replicate, getD, set}
 use Rattle.styles.specs.declared.Mark.{Mark}
 use Rattle.styles.specs.declared.Value.the-variants.{Null}
@@ -111,7 +112,7 @@ no-tank-wide = refl
 
 -- ---- two edits on two tanks that are accepted in one order and not in the other
 abbrev mark : Mark
-mark = record { key = 1; flags = 0x84; lamport = 5; peer = 1; value = Null }
+mark = record { key = 1; flags = 0x84; lamport = 5; cnt = pos 0; peer = 1; value = Null }
 
 -- n positions, of which the first k carry the mark
 abbrev marked : ℕ → ℕ → View

@@ -31,11 +31,11 @@ marked marks = min 63 (max 1 marks)
 -- ---- The tank that the work starts from: runs of ten positions each, and the unmarked rest
 -- mark b
 abbrev pub markB : ℕ → Mark
-markB b = record { key = b + 1; flags = 0x84; lamport = b + 10; peer = 1; value = Whole (pos (b + 1)) }
+markB b = record { key = b + 1; flags = 0x84; lamport = b + 10; cnt = pos 0; peer = 1; value = Whole (pos (b + 1)) }
 
 -- the mark that annotate and removal are timed with
 abbrev pub extra : Mark
-extra = record { key = 777; flags = 0x84; lamport = 1; peer = 1; value = Null }
+extra = record { key = 777; flags = 0x84; lamport = 1; cnt = pos 0; peer = 1; value = Null }
 
 -- all room for tank 0
 abbrev pub settings : List Setting

@@ -52,6 +52,7 @@ fn mark(b: u64) -> Mark
         key: (b + 1) as u16,
         flags: 0x84,
         lamport: (b + 10) as u32,
+        cnt: 0,
         peer: 1,
         value: Value::Whole((b + 1) as i64),
     }
@@ -65,6 +66,7 @@ fn extra() -> Mark
         key: 777,
         flags: 0x84,
         lamport: 1,
+        cnt: 0,
         peer: 1,
         value: Value::Null,
     }
