@@ -2,11 +2,13 @@
 use mathlib.Core.Path.{_≡_, refl}
 use mathlib.Core.Bool.{false}
 use mathlib.Core.List.{[], _∷_}
-use lib.IntN.{negsuc}
+use lib.IntN.{pos, negsuc}
 use Rattle.text.specs.declared.Parsed.{Parsed}
 use Rattle.text.specs.declared.Signed.{Signed}
+use Rattle.text.specs.declared.Signed32.{Signed32}
 use Rattle.text.specs.Number.{allDigits, valueIn, numberIn, decimalOf, decimalText, placesFrom}
-use Rattle.text.specs.Signed.{minusOf, signedOf}
+use Rattle.text.specs.Bytes.{bytes}
+use Rattle.text.specs.Signed.{plusOf, minusOf, signedOf, signed32Of}
 
 seven : decimalOf (55 ∷ []) ≡ Parsed.Number 7
 unfolding decimalOf numberIn allDigits valueIn
@@ -53,3 +55,20 @@ minus-zero = refl
 minus-seven : signedOf (45 ∷ 55 ∷ []) ≡ Signed.Number (negsuc 6)
 unfolding signedOf minusOf decimalOf numberIn allDigits valueIn
 minus-seven = refl
+
+-- 32 bits hold -2147483648 up to 2147483647
+least-32 : signed32Of (bytes "-2147483648") ≡ Signed32.Number (negsuc 2147483647)
+unfolding signed32Of minusOf decimalOf numberIn allDigits valueIn
+least-32 = refl
+
+under-32 : signed32Of (bytes "-2147483649") ≡ Signed32.Bad
+unfolding signed32Of minusOf decimalOf numberIn allDigits valueIn
+under-32 = refl
+
+most-32 : signed32Of (bytes "2147483647") ≡ Signed32.Number (pos 2147483647)
+unfolding signed32Of plusOf decimalOf numberIn allDigits valueIn
+most-32 = refl
+
+over-32 : signed32Of (bytes "2147483648") ≡ Signed32.Bad
+unfolding signed32Of plusOf decimalOf numberIn allDigits valueIn
+over-32 = refl

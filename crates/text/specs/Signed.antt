@@ -7,22 +7,37 @@ use lib.IntN.{ℤ, pos, negsuc}
 use lib.ListN.{getD, drop}
 use Rattle.text.specs.declared.Parsed.{Parsed}
 use Rattle.text.specs.declared.Signed.{Signed}
+use Rattle.text.specs.declared.Signed32.{Signed32}
 use Rattle.text.specs.declared.Size.{Size}
 use Rattle.text.specs.Number.{decimalOf, decimalText}
 
--- the number with no sign: at most 2^63 - 1
-unfoldable pub plusOf : Parsed → Signed
-plusOf Parsed.Bad = Signed.Bad
-plusOf (Parsed.Number n) = cond (ltb n (2 ^ 63)) (Signed.Number (pos n)) Signed.Bad
+-- the number with no sign: below the bound
+unfoldable pub plusOf : ℕ → Parsed → Signed
+plusOf bound Parsed.Bad = Signed.Bad
+plusOf bound (Parsed.Number n) = cond (ltb n bound) (Signed.Number (pos n)) Signed.Bad
 
--- the number behind a minus: 1 to 2^63, so that 0 has one text
-unfoldable pub minusOf : Parsed → Signed
-minusOf Parsed.Bad = Signed.Bad
-minusOf (Parsed.Number n) = cond (ltb n 1) Signed.Bad (cond (ltb (2 ^ 63) n) Signed.Bad (Signed.Number (negsuc (n - 1))))
+-- the number behind a minus: 1 to the bound, so that 0 has one text
+unfoldable pub minusOf : ℕ → Parsed → Signed
+minusOf bound Parsed.Bad = Signed.Bad
+minusOf bound (Parsed.Number n) = cond (ltb n 1) Signed.Bad (cond (ltb bound n) Signed.Bad (Signed.Number (negsuc (n - 1))))
 
--- what a text says as a signed number: a minus is byte 45
+-- what a text says as a number from minus the bound up to below it: a minus is byte 45
+unfoldable pub signedWithin : ℕ → List ℕ → Signed
+signedWithin bound t = cond (eqb (getD t 0 0) 45) (minusOf bound (decimalOf (drop 1 t))) (plusOf bound (decimalOf t))
+
+-- as a signed number of 64 bits
 unfoldable pub signedOf : List ℕ → Signed
-signedOf t = cond (eqb (getD t 0 0) 45) (minusOf (decimalOf (drop 1 t))) (plusOf (decimalOf t))
+unfolding signedWithin
+signedOf t = signedWithin (2 ^ 63) t
+
+-- as one of 32
+abbrev pub narrowOf : Signed → Signed32
+narrowOf Signed.Bad = Signed32.Bad
+narrowOf (Signed.Number z) = Signed32.Number z
+
+unfoldable pub signed32Of : List ℕ → Signed32
+unfolding signedWithin
+signed32Of t = narrowOf (signedWithin (2 ^ 31) t)
 
 -- the text of a signed number
 unfoldable pub signedText : ℤ → List ℕ

@@ -3,16 +3,17 @@ mod widths; // widths.rt: narrower numbers as 64 bits
 
 ghost use mathlib.Core.Path.{_≡_};
 ghost use mathlib.Core.Bool.{cond};
-ghost use Prim.Native.Nat.{_+_, _*_, _≤_};
+ghost use Prim.Native.Nat.{_+_, _*_, _^_, _≤_};
 ghost use lib.ListN.{length, drop};
 ghost use Rattle.io.specs.Digits.{glyph as glyphOf};
-ghost use Rattle.text.specs.Signed.{plusOf, minusOf, signedOf, sizeOf, signedText};
+ghost use Rattle.text.specs.Signed.{plusOf, minusOf, signedWithin, signedOf, signed32Of, sizeOf, signedText};
 ghost use Rattle.text.specs.Bytes.{upTo, startsOf, sameOf};
 ghost use Rattle.text.specs.Number.{digitOf, isDigit, fitting, numberIn, decimalOf, hexOf, decimalText, hexText, put as putOf};
 pub use widths::wide;
 pub use widths::wide8;
 pub use widths::wide16;
 pub use widths::wide32;
+pub use widths::wide_signed;
 
 // A number that was read, or none.
 pub enum Parsed {
@@ -24,6 +25,12 @@ pub enum Parsed {
 pub enum Signed {
     Bad,
     Number(i64),
+}
+
+// A signed number of 32 bits that was read, or none.
+pub enum Signed32 {
+    Bad,
+    Number(i32),
 }
 
 // A number's sign and size.
@@ -191,20 +198,22 @@ pub fn same(s: &[u8], t: &[u8]) -> bool
     false
 }
 
-fn plus(p: Parsed) -> Signed
-    ensures { λ r. ⌜ r ≡ plusOf p ⌝ }
+fn plus(bound: u64, p: Parsed) -> Signed
+    requires { ⌜ bound ≤ 2 ^ 63 ⌝ }
+    ensures { λ r. ⌜ r ≡ plusOf bound p ⌝ }
 {
     let Parsed::Number(n) = p else {
         return Signed::Bad;
     };
-    if n < 9223372036854775808 {
+    if n < bound {
         return Signed::Number(n as i64);
     }
     Signed::Bad
 }
 
-fn minus(p: Parsed) -> Signed
-    ensures { λ r. ⌜ r ≡ minusOf p ⌝ }
+fn minus(bound: u64, p: Parsed) -> Signed
+    requires { ⌜ bound ≤ 2 ^ 63 ⌝ }
+    ensures { λ r. ⌜ r ≡ minusOf bound p ⌝ }
 {
     let Parsed::Number(n) = p else {
         return Signed::Bad;
@@ -212,23 +221,41 @@ fn minus(p: Parsed) -> Signed
     if n < 1 {
         return Signed::Bad;
     }
-    if n > 9223372036854775808 {
+    if n > bound {
         return Signed::Bad;
     }
     Signed::Number(-((n - 1) as i64) - 1)
 }
 
-// A decimal of at most 64 bits with its sign: a minus, never in front of 0, or nothing.
-pub fn integer(s: &[u8]) -> Signed
-    ensures { λ r. ⌜ r ≡ signedOf (now (s .entry)) ⌝ }
+// A decimal with its sign, a minus, never in front of 0, or nothing: from minus the bound up to below it.
+pub fn integer_within(bound: u64, s: &[u8]) -> Signed
+    requires { ⌜ bound ≤ 2 ^ 63 ⌝ }
+    ensures { λ r. ⌜ r ≡ signedWithin bound (now (s .entry)) ⌝ }
 {
     if s.len() < 1 {
         return Signed::Bad;
     }
     if s[0] == b'-' {
-        return minus(decimal(&s[1..]));
+        return minus(bound, decimal(&s[1..]));
     }
-    plus(decimal(s))
+    plus(bound, decimal(s))
+}
+
+// One of at most 64 bits.
+pub fn integer(s: &[u8]) -> Signed
+    ensures { λ r. ⌜ r ≡ signedOf (now (s .entry)) ⌝ }
+{
+    integer_within(9223372036854775808, s)
+}
+
+// One of at most 32 bits.
+pub fn integer32(s: &[u8]) -> Signed32
+    ensures { λ r. ⌜ r ≡ signed32Of (now (s .entry)) ⌝ }
+{
+    let Signed::Number(z) = integer_within(2147483648, s) else {
+        return Signed32::Bad;
+    };
+    Signed32::Number(z as i32)
 }
 
 fn size_of(z: i64) -> Size

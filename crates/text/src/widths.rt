@@ -20,6 +20,12 @@ pub fn wide32(n: u32) -> u64
     n as u64
 }
 
+pub fn wide_signed(n: i32) -> i64
+    ensures { λ r. ⌜ r ≡ n ⌝ }
+{
+    n as i64
+}
+
 pub fn wide(n: usize) -> u64
     ensures { λ r. ⌜ r ≡ n ⌝ }
 {
