@@ -7,23 +7,26 @@ use native.Mathlib.Omega.{arith}
 use lib.Dec.{T, leb}
 use lib.Ieee.{Float, binary64, toBits, fits}
 use lib.Ieee.Bits.{toBits-lt, ofBits-toBits}
+use lib.IntN.{ℤ}
 use lib.ListN.{length, getD, drop}
 use lib.Seq.{drop-append-seam}
 use borrow.Author.Tests.{le-leb, leb-true}
-use mir.Syntax.{w64}
+use mir.Syntax.{w32, w64}
 use mir.Val.{SFits}
 use Rattle.laws.proofs.Cases.{cond-cases}
 use Rattle.text.specs.declared.Parsed.{Parsed}
+use Rattle.text.specs.declared.Signed32.{Signed32}
+use Rattle.text.specs.Signed.{signed32Of, signedText}
 use Rattle.text.specs.Number.{decimalOf, decimalText}
 use Rattle.text.specs.Bytes.{startsOf, sameOf}
 use Rattle.text.proofs.Laws.{passed, decimal-back, decimal-only, hex-back}
-use Rattle.text.proofs.Integers.{integer-back}
+use Rattle.text.proofs.Integers.{integer-back, integer32-only, integer32-back}
 use Rattle.text.proofs.Prefix.{starts-split, split-starts, same-true}
 use Rattle.styles.specs.declared.Value.{Value}
 use Rattle.script.specs.declared.ReadOp.{ReadOp}
 use Rattle.script.specs.declared.ReadValue.{ReadValue}
 use Rattle.script.specs.Grammar.{Field, OpRow, noRow, ops, rowAt}
-use Rattle.script.specs.Reading.{withinOf, numberOf, opFrom, opNamed, valueOf}
+use Rattle.script.specs.Reading.{afterName, withinOf, numberOf, opFrom, opNamed, valueOf}
 use Rattle.script.specs.Writing.{kindOf, valueWord}
 
 -- ---- a field's number
@@ -50,6 +53,22 @@ number-back f most n h k =
     ∙ ap (λ (t : List ℕ). withinOf most (decimalOf t)) (drop-append-seam (f .name) (decimalText n))
     ∙ ap (withinOf most) (decimal-back n k)
     ∙ ap (λ (b : Bool). cond b (Parsed.Number n) Parsed.Bad) (le-leb n most h)
+
+-- ---- a field's counter
+-- a line is accepted only where it is the field's name and the counter's text
+pub counter-only : (f : Field) (z : ℤ) (line : List ℕ) → afterName f Signed32.Bad signed32Of line ≡ Signed32.Number z → line ≡ f .name ++ signedText z
+counter-only f z line e =
+    cond-cases (λ s. s ≡ Signed32.Number z → line ≡ f .name ++ signedText z) (startsOf line (f .name))
+    (λ h g. starts-split line (f .name) h ∙ ap (λ (t : List ℕ). f .name ++ t) (integer32-only (drop (length (f .name)) line) z g))
+    (λ h g. let y : _≡_ {A = ℕ} 0 1 = cc in absurd (omega arith))
+    e
+
+-- and every such line is, where 32 bits hold it
+pub counter-back : (f : Field) (z : ℤ) → SFits w32 z → afterName f Signed32.Bad signed32Of (f .name ++ signedText z) ≡ Signed32.Number z
+counter-back f z h =
+    ap (λ (b : Bool). cond b (signed32Of (drop (length (f .name)) (f .name ++ signedText z))) Signed32.Bad) (split-starts (f .name) (signedText z))
+    ∙ ap signed32Of (drop-append-seam (f .name) (signedText z))
+    ∙ integer32-back z h
 
 -- ---- an op's name
 from-only : (rs : List OpRow) (i : ℕ) (t : List ℕ) (n : ℕ) → opFrom i rs t ≡ ReadOp.Row n → (k : ℕ) × ((n ≡ i + k) × (t ≡ getD rs k noRow .name))

@@ -3,6 +3,7 @@ pub mod LineLaws
 pub mod CutLaws
 pub mod PutLaws
 pub mod Exact
+pub mod CounterLaws
 pub mod CutAnywhere
 pub mod Unique
 pub mod BodyLaws

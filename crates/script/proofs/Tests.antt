@@ -3,12 +3,17 @@ use mathlib.Core.Path.{_≡_, refl}
 use mathlib.Core.Bool.{true}
 use mathlib.Core.List.{List, [], _∷_, _++_, map}
 use Prim.Native.Nat.{ℕ, suc}
+use lib.IntN.{pos, negsuc}
 use lib.ListN.{replicate}
 use Rattle.text.specs.declared.Parsed.{Parsed}
 use Rattle.text.specs.Number.{allDigits, valueIn, numberIn, decimalOf}
-use Rattle.text.specs.Signed.{signedOf, minusOf}
+use Rattle.text.specs.Signed.{signedOf, signed32Of, plusOf, minusOf}
 use Rattle.text.specs.Bytes.{bytes, upTo, holds, startsOf, sameOf}
+use Rattle.styles.specs.declared.Value.{Value}
+use Rattle.script.specs.declared.Call.{Call}
+use Rattle.script.specs.declared.Change.{Change}
 use Rattle.script.specs.declared.Kind.{Kind}
+use Rattle.script.specs.declared.Op.{Op}
 use Rattle.script.specs.declared.Progress.{Progress}
 use Rattle.script.specs.declared.ReadOp.{ReadOp}
 use Rattle.script.specs.declared.ReadValue.{ReadValue}
@@ -46,6 +51,22 @@ other-field = refl
 minus-zero : valueOf Kind.Whole (bytes "-0") ≡ ReadValue.Bad
 unfolding valueOf signedOf minusOf decimalOf numberIn allDigits valueIn
 minus-zero = refl
+
+-- an annotate whose peer has come: the counter's line is next, with its sign, and an older log's `flags=` is not taken for it
+before-counter : Call
+before-counter = record { op = Op.Change Change.Annotate; row = 2; place = 6; numbers = replicate 16 0; cnt = pos 0; kind = Kind.Null; value = Value.Null }
+
+least-counter : lineOf before-counter (bytes "cnt=-2147483648") .call .cnt ≡ negsuc 2147483647
+unfolding before-counter lineOf heldLine movedOf startsOf signed32Of minusOf decimalOf numberIn allDigits valueIn
+least-counter = refl
+
+wide-counter : lineOf before-counter (bytes "cnt=2147483648") .progress ≡ Progress.Bad
+unfolding before-counter lineOf heldLine movedOf startsOf signed32Of plusOf decimalOf numberIn allDigits valueIn
+wide-counter = refl
+
+no-counter : lineOf before-counter (bytes "flags=132") .progress ≡ Progress.Bad
+unfolding before-counter lineOf heldLine movedOf startsOf signed32Of
+no-counter = refl
 
 -- the one field of `length` makes the call whole
 whole-call : lineOf (freshOf 6) (bytes "tank=7") .progress ≡ Progress.Ready

@@ -15,9 +15,9 @@ numberAt c i = getD (c .numbers) i 0
 abbrev pub keyAt : Call → ℕ → ℕ
 keyAt c i = numberAt c i % 2 ^ 16
 
--- the mark of an annotate: key, lamport, peer and flags are its fields 3 to 6
+-- the mark of an annotate: key, lamport, peer, counter and flags are its fields 3 to 7
 abbrev pub markOf : Call → Mark
-markOf c = record { key = keyAt c 3; flags = numberAt c 6 % 2 ^ 8; lamport = numberAt c 4 % 2 ^ 32; peer = numberAt c 5; value = c .value }
+markOf c = record { key = keyAt c 3; flags = numberAt c 7 % 2 ^ 8; lamport = numberAt c 4 % 2 ^ 32; cnt = c .cnt; peer = numberAt c 5; value = c .value }
 
 -- the identity of a remove: key, lamport and peer are its fields 1 to 3
 abbrev pub identityOf : Call → Identity

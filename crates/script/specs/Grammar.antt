@@ -75,6 +75,9 @@ lamport = number "lamport" 32
 abbrev pub peer : Field
 peer = number "peer" 64
 
+abbrev pub cnt : Field
+cnt = field "cnt" Holds.Counter
+
 abbrev pub flags : Field
 flags = number "flags" 8
 
@@ -162,7 +165,7 @@ both b = row (Op.Both b)
 abbrev pub ops : List OpRow
 ops =
     change Change.Open "open" settings ∷
-    change Change.Annotate "annotate" (tank ∷ start ∷ end ∷ key ∷ lamport ∷ peer ∷ flags ∷ kind ∷ value ∷ []) ∷
+    change Change.Annotate "annotate" (tank ∷ start ∷ end ∷ key ∷ lamport ∷ peer ∷ cnt ∷ flags ∷ kind ∷ value ∷ []) ∷
     change Change.Insert "insert" (tank ∷ at ∷ len ∷ []) ∷
     change Change.Delete "delete" (tank ∷ start ∷ end ∷ []) ∷
     change Change.Remove "remove" (tank ∷ key ∷ lamport ∷ peer ∷ last ∷ []) ∷
@@ -224,6 +227,7 @@ abbrev pub progressOf : Holds → Progress
 progressOf Holds.Nothing = Progress.Ready
 progressOf Holds.Op = Progress.More
 progressOf (Holds.Number most) = Progress.More
+progressOf Holds.Counter = Progress.More
 progressOf Holds.Kind = Progress.More
 progressOf Holds.Value = Progress.More
 

@@ -124,6 +124,7 @@ abbrev pub endingBy : Holds → Ending
 endingBy Holds.Nothing = Ending.Cut
 endingBy Holds.Op = Ending.Clean
 endingBy (Holds.Number most) = Ending.Cut
+endingBy Holds.Counter = Ending.Cut
 endingBy Holds.Kind = Ending.Cut
 endingBy Holds.Value = Ending.Cut
 

@@ -4,11 +4,13 @@ use mathlib.Core.List.{List, [], _∷_}
 use Prim.Native.Nat.{ℕ, suc, _+_}
 use lib.Dec.{ltb, leb, eqb}
 use lib.Ieee.{ofBits, binary64}
+use lib.IntN.{ℤ, pos}
 use lib.ListN.{length, drop, set, replicate}
 use Rattle.text.specs.declared.Parsed.{Parsed}
 use Rattle.text.specs.declared.Signed.{Signed}
+use Rattle.text.specs.declared.Signed32.{Signed32}
 use Rattle.text.specs.Number.{decimalOf, hexOf}
-use Rattle.text.specs.Signed.{signedOf}
+use Rattle.text.specs.Signed.{signedOf, signed32Of}
 use Rattle.text.specs.Bytes.{bytes, startsOf, sameOf}
 use Rattle.styles.specs.declared.Value.{Value}
 use Rattle.script.specs.declared.Call.{Call}
@@ -81,13 +83,13 @@ valueOf Kind.Decimal t = decimalOfBits (hexOf t)
 
 -- a call of which only the op is known, by its row
 abbrev pub freshOf : ℕ → Call
-freshOf row = record { op = rowAt row .op; row = row; place = 0; numbers = replicate 16 0; kind = Kind.Null; value = Value.Null }
+freshOf row = record { op = rowAt row .op; row = row; place = 0; numbers = replicate 16 0; cnt = pos 0; kind = Kind.Null; value = Value.Null }
 
 -- the call with one field more: whole where that was the last
-unfoldable pub movedOf : Op → ℕ → ℕ → List ℕ → Kind → Value → Read
-movedOf op row place numbers kind value =
+unfoldable pub movedOf : Op → ℕ → ℕ → List ℕ → ℤ → Kind → Value → Read
+movedOf op row place numbers cnt kind value =
     record {
-      call = record { op = op; row = row; place = place + 1; numbers = numbers; kind = kind; value = value };
+      call = record { op = op; row = row; place = place + 1; numbers = numbers; cnt = cnt; kind = kind; value = value };
       progress = progressOf (fieldAt row (place + 1) .holds);
     }
 
@@ -103,23 +105,29 @@ withOp c (ReadOp.Row row) = record { call = freshOf row; progress = progressOf (
 -- a number goes to its field's place
 abbrev pub withNumber : Call → Parsed → Read
 withNumber c Parsed.Bad = badOf c
-withNumber c (Parsed.Number n) = movedOf (c .op) (c .row) (c .place) (set (c .numbers) (c .place) n) (c .kind) (c .value)
+withNumber c (Parsed.Number n) = movedOf (c .op) (c .row) (c .place) (set (c .numbers) (c .place) n) (c .cnt) (c .kind) (c .value)
+
+-- a counter is the call's counter
+abbrev pub withCounter : Call → Signed32 → Read
+withCounter c Signed32.Bad = badOf c
+withCounter c (Signed32.Number z) = movedOf (c .op) (c .row) (c .place) (c .numbers) z (c .kind) (c .value)
 
 -- a kind says how the value's line is read
 abbrev pub withKind : Call → ReadKind → Read
 withKind c ReadKind.Bad = badOf c
-withKind c (ReadKind.Kind k) = movedOf (c .op) (c .row) (c .place) (c .numbers) k (c .value)
+withKind c (ReadKind.Kind k) = movedOf (c .op) (c .row) (c .place) (c .numbers) (c .cnt) k (c .value)
 
 -- a value is the call's value
 abbrev pub withValue : Call → ReadValue → Read
 withValue c ReadValue.Bad = badOf c
-withValue c (ReadValue.Value v) = movedOf (c .op) (c .row) (c .place) (c .numbers) (c .kind) v
+withValue c (ReadValue.Value v) = movedOf (c .op) (c .row) (c .place) (c .numbers) (c .cnt) (c .kind) v
 
 -- a line that gives what the field holds
 unfoldable pub heldLine : Call → Field → Holds → List ℕ → Read
 heldLine c f Holds.Nothing line = badOf c
 heldLine c f Holds.Op line = withOp c (afterName f ReadOp.Bad opNamed line)
 heldLine c f (Holds.Number most) line = withNumber c (numberOf f most line)
+heldLine c f Holds.Counter line = withCounter c (afterName f Signed32.Bad signed32Of line)
 heldLine c f Holds.Kind line = withKind c (afterName f ReadKind.Bad kindNamed line)
 heldLine c f Holds.Value line = withValue c (afterName f ReadValue.Bad (valueOf (c .kind)) line)
 

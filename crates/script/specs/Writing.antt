@@ -5,6 +5,7 @@ use mathlib.Core.List.{List, [], _++_}
 use Prim.Native.Nat.{ℕ, _+_, _≤_}
 use lib.Dec.{leb}
 use lib.Ieee.{toBits, binary64}
+use lib.IntN.{ℤ}
 use lib.ListN.{length}
 use Rattle.text.specs.Number.{decimalText, hexText, put}
 use Rattle.text.specs.Signed.{signedText}
@@ -50,7 +51,15 @@ valueWord (Value.Decimal x) = hexText (toBits binary64 x)
 unfoldable pub valueText : Value → List ℕ
 valueText v = lineText (bytes "kind=") (kindName (kindOf v)) ++ lineText (bytes "value=") (valueWord v)
 
--- the six lines of a mark
+-- the line of a counter
+abbrev pub counterText : ℤ → List ℕ
+counterText z = lineText (bytes "cnt=") (signedText z)
+
+-- the lines that say which mark it is and where it came from: its identity and its box's counter
+abbrev pub originText : Mark → List ℕ
+originText m = fieldText (bytes "key=") (m .key) ++ fieldText (bytes "lamport=") (m .lamport) ++ fieldText (bytes "peer=") (m .peer) ++ counterText (m .cnt)
+
+-- the seven lines of a mark
 unfoldable pub markText : Mark → List ℕ
 unfolding valueText
-markText m = fieldText (bytes "key=") (m .key) ++ fieldText (bytes "lamport=") (m .lamport) ++ fieldText (bytes "peer=") (m .peer) ++ fieldText (bytes "flags=") (m .flags) ++ valueText (m .value)
+markText m = originText m ++ fieldText (bytes "flags=") (m .flags) ++ valueText (m .value)

@@ -33,8 +33,9 @@ pub fn mark_of(call: Call) -> Mark
     let v = call.value;
     Mark {
         key: key_of(n[3]),
-        flags: low8(n[6]),
+        flags: low8(n[7]),
         lamport: low32(n[4]),
+        cnt: call.cnt,
         peer: n[5],
         value: v,
     }

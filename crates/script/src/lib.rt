@@ -37,6 +37,7 @@ pub use reading::value_start;
 use styles::Value;
 pub use writing::emit;
 pub use writing::flushed;
+pub use writing::put_counter;
 pub use writing::put_field;
 pub use writing::put_line;
 pub use writing::put_mark;
@@ -122,22 +123,24 @@ pub enum Kind {
     Decimal,
 }
 
-// What a field's line gives: a number is at most so much.
+// What a field's line gives: a number is at most so much, a counter is a signed number of 32 bits.
 pub enum Holds {
     Nothing,
     Op,
     Number(u64),
+    Counter,
     Kind,
     Value,
 }
 
 // A call, as far as its lines have come: its op and that op's row in the table, how many of its fields are read, and each
-// number at its field's place.
+// number at its field's place. A counter has a place of its own, since it has a sign.
 pub struct Call {
     pub op: Op,
     pub row: usize,
     pub place: usize,
     pub numbers: [u64; 16],
+    pub cnt: i32,
     pub kind: Kind,
     pub value: Value,
 }

@@ -179,6 +179,7 @@ fn ending(h: Holds) -> Ending
         Holds::Nothing => Ending::Cut,
         Holds::Op => Ending::Clean,
         Holds::Number(_) => Ending::Cut,
+        Holds::Counter => Ending::Cut,
         Holds::Kind => Ending::Cut,
         Holds::Value => Ending::Cut,
     }

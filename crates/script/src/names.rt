@@ -128,7 +128,7 @@ pub fn field_name(f: u8) -> Name
     ensures { λ r. ⌜ r ≡ spelling (fieldOf f .name) ⌝ }
 {
     let all =
-        b"        share0= limit0= share1= limit1= share2= limit2= share3= limit3= share4= limit4= share5= limit5= share6= limit6= share7= limit7=         at=     bytes=  kind=           end=    flags=  runs=   hold=           before= key=    lamport=room=   len=    op=     peer=   budget= rank=   start=  tank=   number= value=                          last=           ";
+        b"        share0= limit0= share1= limit1= share2= limit2= share3= limit3= share4= limit4= share5= limit5= share6= limit6= share7= limit7=         at=     bytes=  kind=           end=    flags=  runs=   hold=   cnt=    before= key=    lamport=room=   len=    op=     peer=   budget= rank=   start=  tank=   number= value=                          last=           ";
     field_name_at(all, field_spot(f) * 8)
 }
 

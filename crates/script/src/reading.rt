@@ -2,8 +2,10 @@
 ghost use mathlib.Core.Path.{_≡_};
 ghost use mathlib.Core.List.{[], _∷_};
 ghost use Prim.Native.Nat.{_<_};
+ghost use Rattle.text.specs.declared.Signed32.{Signed32};
+ghost use Rattle.text.specs.Signed.{signed32Of};
 ghost use Rattle.script.specs.Cells.{fieldOf};
-ghost use Rattle.script.specs.Reading.{startOf, afterName, withinOf, numberOf, opNamed, kindAmong, kindNamed, wholeOf, decimalOfBits, valueOf, freshOf, movedOf, badOf, withOp, withNumber, withKind, withValue, heldLine, lineOf};
+ghost use Rattle.script.specs.Reading.{startOf, afterName, withinOf, numberOf, opNamed, kindAmong, kindNamed, wholeOf, decimalOfBits, valueOf, freshOf, movedOf, badOf, withOp, withNumber, withCounter, withKind, withValue, heldLine, lineOf};
 use super::Call;
 use super::Holds;
 use super::Kind;
@@ -57,6 +59,16 @@ fn number_line(f: u8, most: u64, line: &[u8]) -> text::Parsed
         return text::Parsed::Bad;
     };
     within(text::decimal(&line[k..]), most)
+}
+
+// The counter of a field's line.
+fn counter_line(f: u8, line: &[u8]) -> text::Signed32
+    ensures { λ r. ⌜ r ≡ afterName (fieldOf f) Signed32.Bad signed32Of (now (line .entry)) ⌝ }
+{
+    let Start::At(k) = value_start(f, line) else {
+        return text::Signed32::Bad;
+    };
+    text::integer32(&line[k..])
 }
 
 fn op_line(f: u8, line: &[u8]) -> ReadOp
@@ -168,6 +180,7 @@ fn fresh(row: usize) -> Call
         row: row,
         place: 0,
         numbers: [0; 16],
+        cnt: 0,
         kind: Kind::Null,
         value: Value::Null,
     }
@@ -181,9 +194,17 @@ pub fn idle() -> Call
 }
 
 // One field more.
-fn moved(op: Op, row: usize, place: usize, numbers: [u64; 16], kind: Kind, value: Value) -> Read
+fn moved(
+    op: Op,
+    row: usize,
+    place: usize,
+    numbers: [u64; 16],
+    cnt: i32,
+    kind: Kind,
+    value: Value,
+) -> Read
     requires { ⌜ place < 16 ⌝ }
-    ensures { λ r. ⌜ r ≡ movedOf op row place numbers kind value ⌝ }
+    ensures { λ r. ⌜ r ≡ movedOf op row place numbers cnt kind value ⌝ }
 {
     let next = place + 1;
     let f = field_at(row, next);
@@ -193,6 +214,7 @@ fn moved(op: Op, row: usize, place: usize, numbers: [u64; 16], kind: Kind, value
         row: row,
         place: next,
         numbers: numbers,
+        cnt: cnt,
         kind: kind,
         value: value,
     };
@@ -241,7 +263,23 @@ fn with_number(call: Call, p: text::Parsed) -> Read
     let row = call.row;
     let kind = call.kind;
     let value = call.value;
-    moved(op, row, place, numbers, kind, value)
+    moved(op, row, place, numbers, call.cnt, kind, value)
+}
+
+fn with_counter(call: Call, s: text::Signed32) -> Read
+    requires { ⌜ call .place < 16 ⌝ }
+    ensures { λ r. ⌜ r ≡ withCounter call s ⌝ }
+{
+    let text::Signed32::Number(cnt) = s else {
+        return bad(call);
+    };
+    let place = call.place;
+    let numbers = call.numbers;
+    let op = call.op;
+    let row = call.row;
+    let kind = call.kind;
+    let value = call.value;
+    moved(op, row, place, numbers, cnt, kind, value)
 }
 
 fn with_kind(call: Call, k: ReadKind) -> Read
@@ -256,7 +294,7 @@ fn with_kind(call: Call, k: ReadKind) -> Read
     let op = call.op;
     let row = call.row;
     let value = call.value;
-    moved(op, row, place, numbers, kind, value)
+    moved(op, row, place, numbers, call.cnt, kind, value)
 }
 
 fn with_value(call: Call, v: ReadValue) -> Read
@@ -271,7 +309,7 @@ fn with_value(call: Call, v: ReadValue) -> Read
     let op = call.op;
     let row = call.row;
     let kind = call.kind;
-    moved(op, row, place, numbers, kind, value)
+    moved(op, row, place, numbers, call.cnt, kind, value)
 }
 
 // A line that gives what a field holds.
@@ -284,6 +322,7 @@ fn held_line(call: Call, f: u8, h: Holds, line: &[u8]) -> Read
         Holds::Nothing => bad(call),
         Holds::Op => with_op(call, op_line(f, line)),
         Holds::Number(most) => with_number(call, number_line(f, most, line)),
+        Holds::Counter => with_counter(call, counter_line(f, line)),
         Holds::Kind => with_kind(call, kind_line(f, line)),
         Holds::Value => with_value(call, value_line(f, kind, line)),
     }

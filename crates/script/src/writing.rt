@@ -2,7 +2,7 @@
 ghost use mathlib.Core.Path.{_≡_};
 ghost use Prim.Native.Nat.{_+_, _≤_, min};
 ghost use lib.ListN.{length};
-ghost use Rattle.script.specs.Writing.{Puts, freeAt, lineText, fieldText, kindOf, valueWord, valueText, markText};
+ghost use Rattle.script.specs.Writing.{Puts, freeAt, lineText, fieldText, kindOf, valueWord, valueText, counterText, originText, markText};
 ghost use Rattle.text.specs.Bytes.{bytes};
 ghost use Rattle.script.specs.Grammar.{kindName, spelledOf};
 use super::Kind;
@@ -100,17 +100,36 @@ pub fn put_value(out: &mut [u8], at: usize, v: Value) -> usize
     text::put(out, c, b"\n")
 }
 
-// Puts the six lines of a mark.
-pub fn put_mark(out: &mut [u8], at: usize, m: Mark) -> usize
-    requires { ⌜ at + 157 ≤ length (now out) ⌝ }
-    ensures { λ r. ⌜ Puts (now (out .entry)) at (markText m) 157 r (now (out .exit)) ⌝ }
+// Puts the line of a counter.
+pub fn put_counter(out: &mut [u8], at: usize, cnt: i32) -> usize
+    requires { ⌜ at + 26 ≤ length (now out) ⌝ }
+    ensures { λ r. ⌜ Puts (now (out .entry)) at (counterText cnt) 26 r (now (out .exit)) ⌝ }
+{
+    let a = text::put(out, at, b"cnt=");
+    let b = text::put_integer(out, a, text::wide_signed(cnt));
+    text::put(out, b, b"\n")
+}
+
+// Puts the lines of a mark's identity and of its counter.
+fn put_origin(out: &mut [u8], at: usize, m: Mark) -> usize
+    requires { ⌜ at + 106 ≤ length (now out) ⌝ }
+    ensures { λ r. ⌜ Puts (now (out .entry)) at (originText m) 106 r (now (out .exit)) ⌝ }
 {
     let a = put_field(out, at, b"key=", text::wide16(m.key));
     let b = put_field(out, a, b"lamport=", text::wide32(m.lamport));
     let c = put_field(out, b, b"peer=", m.peer);
-    let d = put_field(out, c, b"flags=", text::wide8(m.flags));
+    put_counter(out, c, m.cnt)
+}
+
+// Puts the seven lines of a mark.
+pub fn put_mark(out: &mut [u8], at: usize, m: Mark) -> usize
+    requires { ⌜ at + 183 ≤ length (now out) ⌝ }
+    ensures { λ r. ⌜ Puts (now (out .entry)) at (markText m) 183 r (now (out .exit)) ⌝ }
+{
+    let a = put_origin(out, at, m);
+    let b = put_field(out, a, b"flags=", text::wide8(m.flags));
     let v = m.value;
-    put_value(out, d, v)
+    put_value(out, b, v)
 }
 
 // Hands bytes to standard output. Where they can't be written, as on a full device or a pipe that nobody reads, there is no use in going

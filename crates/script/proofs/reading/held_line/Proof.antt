@@ -18,11 +18,15 @@ returns-3 c = rw (c .before .before .before .h .given .1, c .with-number .ensure
 
 returns-4 : tie.Need-returns-4
 unfolding heldLine
-returns-4 c = rw (c .before .before .enum-told3 .given .1, c .with-kind .ensures, c .before .kind-line .ensures)
+returns-4 c = rw (c .before .before .enum-told3 .given .1, c .with-counter .ensures, c .before .counter-line .ensures)
 
 returns-5 : tie.Need-returns-5
 unfolding heldLine
-returns-5 c = rw (c .before .before .enum-told4 .given .1, c .with-value .ensures, c .before .value-line .ensures)
+returns-5 c = rw (c .before .before .enum-told4 .given .1, c .with-kind .ensures, c .before .kind-line .ensures)
+
+returns-6 : tie.Need-returns-6
+unfolding heldLine
+returns-6 c = rw (c .before .before .enum-told5 .given .1, c .with-value .ensures, c .before .value-line .ensures)
 
 pub held-line-spec : {M : Type 1} → statement M
-held-line-spec = tie.close (tie.spec (λ c. search needs) (λ c κs. search needs) (λ c. search needs) (λ c κs. search needs) (λ c κs. search needs) (λ c. search needs) (λ c κs. search needs) (λ c κs. search needs) (λ c. search needs) (λ c κs. search needs) (λ c κs. search needs) (λ c. search needs) (λ c κs. search needs) (λ c κs. search needs) returns returns-2 returns-3 returns-4 returns-5)
+held-line-spec = tie.close (tie.spec (λ c. search needs) (λ c κs. search needs) (λ c. search needs) (λ c κs. search needs) (λ c κs. search needs) (λ c. search needs) (λ c κs. search needs) (λ c κs. search needs) (λ c. search needs) (λ c κs. search needs) (λ c κs. search needs) (λ c. search needs) (λ c κs. search needs) (λ c κs. search needs) (λ c. search needs) (λ c κs. search needs) (λ c κs. search needs) returns returns-2 returns-3 returns-4 returns-5 returns-6)
