@@ -21,9 +21,9 @@ pub record Waiting : Type 0 where
 abbrev pub waiting : List ℕ → ℕ → Waiting
 waiting buffer at = record { buffer = buffer; at = at }
 
--- the most bytes that a piece may have: the six lines of a mark take no more
+-- the most bytes that a piece may have: the seven lines of a mark take no more
 abbrev pub pieceRoom : ℕ
-pieceRoom = 160
+pieceRoom = 192
 
 -- one piece more: behind what waits, or at the front, where what waited has been written out since there was no room for a piece
 unfoldable pub with : Waiting → List ℕ → Waiting

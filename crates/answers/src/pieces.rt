@@ -14,7 +14,7 @@ fn free(out: &[u8], at: usize) -> usize
     requires { ⌜ pieceRoom ≤ length (now out) ⌝ }
     ensures { λ r. ⌜ (r ≡ freeAt pieceRoom at (now (out .entry))) × (r + pieceRoom ≤ length (now (out .entry))) ⌝ }
 {
-    script::flushed(out, at, 160)
+    script::flushed(out, at, 192)
 }
 
 // A line of a name and a number.

@@ -132,7 +132,7 @@ AllHold [] = Unit {0}
 AllHold (c ∷ cs) = Holds c × AllHold cs
 
 -- ---- How the table writes it
--- marks by key, lamport and peer; the flag byte and the value play no part
+-- marks by key, lamport and peer; the flag byte, the counter and the value play no part
 abbrev pub mark : ℕ → ℕ → ℕ → Mark
 mark key lamport peer = record { key = key; flags = 0x84; lamport = lamport; cnt = pos 0; peer = peer; value = Null }
 

@@ -35,7 +35,7 @@ fn page_4() {
     say(b"  op                      fields\n");
     say(b"  open                    share0 limit0 share1 limit1 share2 limit2 share3 limit3\n");
     say(b"                          share4 limit4 share5 limit5 share6 limit6 share7 limit7\n");
-    say(b"  annotate                tank start end key lamport peer flags kind value\n");
+    say(b"  annotate                tank start end key lamport peer cnt flags kind value\n");
     say(b"  insert                  tank at len\n");
     say(b"  delete                  tank start end\n");
     say(b"  remove                  tank key lamport peer last\n");

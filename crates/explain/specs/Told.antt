@@ -52,6 +52,7 @@ abbrev pub hintText : Holds → Kind → List ℕ
 hintText Holds.Nothing k = bytes "the rest of its body"
 hintText Holds.Op k = bytes " and the name of an op"
 hintText (Holds.Number most) k = mostHint most
+hintText Holds.Counter k = bytes " and a signed number of 32 bits"
 hintText Holds.Kind k = bytes " and null, bool, whole or decimal"
 hintText Holds.Value k = valueHint k
 
@@ -74,6 +75,7 @@ abbrev pub wrongText : Holds → List ℕ → Came
 wrongText Holds.Nothing t = Came.Other
 wrongText Holds.Op t = Came.NoOp
 wrongText (Holds.Number most) t = wrongNumber t
+wrongText Holds.Counter t = Came.NoCounter
 wrongText Holds.Kind t = Came.NoKind
 wrongText Holds.Value t = Came.NoValue
 
@@ -99,6 +101,7 @@ cameText Came.NoOp = bytes "no such op"
 cameText Came.NoNumber = bytes "no number"
 cameText Came.Zero = bytes "a leading zero"
 cameText Came.Large = bytes "a number that is too large"
+cameText Came.NoCounter = bytes "no such counter"
 cameText Came.NoKind = bytes "no such kind"
 cameText Came.NoValue = bytes "no such value"
 cameText Came.Ended = bytes "the end of the input"

@@ -44,6 +44,7 @@ fn put_hint(out: &mut [u8], at: usize, h: Holds, kind: Kind) -> usize
         Holds::Nothing => text::put(out, at, b"the rest of its body"),
         Holds::Op => text::put(out, at, b" and the name of an op"),
         Holds::Number(most) => put_most(out, at, most),
+        Holds::Counter => text::put(out, at, b" and a signed number of 32 bits"),
         Holds::Kind => text::put(out, at, b" and null, bool, whole or decimal"),
         Holds::Value => put_value_hint(out, at, kind),
     }
@@ -100,6 +101,7 @@ fn wrong_text(h: Holds, t: &[u8]) -> Came
         Holds::Nothing => Came::Other,
         Holds::Op => Came::NoOp,
         Holds::Number(_) => wrong_number(t),
+        Holds::Counter => Came::NoCounter,
         Holds::Kind => Came::NoKind,
         Holds::Value => Came::NoValue,
     }
@@ -153,6 +155,7 @@ fn put_came(out: &mut [u8], at: usize, c: Came) -> usize
         Came::NoNumber => text::put(out, at, b"no number"),
         Came::Zero => text::put(out, at, b"a leading zero"),
         Came::Large => text::put(out, at, b"a number that is too large"),
+        Came::NoCounter => text::put(out, at, b"no such counter"),
         Came::NoKind => text::put(out, at, b"no such kind"),
         Came::NoValue => text::put(out, at, b"no such value"),
         Came::Ended => text::put(out, at, b"the end of the input"),

@@ -35,6 +35,7 @@ pub enum Came {
     NoNumber,
     Zero,
     Large,
+    NoCounter,
     NoKind,
     NoValue,
     Ended,

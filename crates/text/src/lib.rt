@@ -10,10 +10,10 @@ ghost use Rattle.text.specs.Signed.{plusOf, minusOf, signedWithin, signe
 ghost use Rattle.text.specs.Bytes.{upTo, startsOf, sameOf};
 ghost use Rattle.text.specs.Number.{digitOf, isDigit, fitting, numberIn, decimalOf, hexOf, decimalText, hexText, put as putOf};
 pub use widths::wide;
+pub use widths::wide_signed;
 pub use widths::wide8;
 pub use widths::wide16;
 pub use widths::wide32;
-pub use widths::wide_signed;
 
 // A number that was read, or none.
 pub enum Parsed {
