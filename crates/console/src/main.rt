@@ -64,15 +64,17 @@ fn page_4() {
 
 fn page_5() {
     say(
-        b"A number is a decimal without leading zeros: a key and a hold have 16 bits, a lamport 32, flags 8, every other number 64. A kind is null,\n",
+        b"A number is a decimal without leading zeros: a key and a hold have 16 bits, a lamport 32, flags 8, all others 64. A cnt has 32 and\n",
     );
     say(
-        b"bool, whole or decimal. The value then is empty, 0 or 1, a signed number of 64 bits (never -0), or the sixteen lower-case\n",
+        b"a sign. A kind is null, bool, whole or decimal. The value then is empty, 0 or 1, a signed number of 64 bits, or the sixteen\n",
     );
     say(
-        b"hexadecimal digits of the bits of an f64. A room is how many numbers (stretches, whole) or records (anchors) the answer may\n",
+        b"lower-case hexadecimal digits of the bits of an f64. A sign is a minus or nothing, and there is no -0. A room is how many\n",
     );
-    say(b"take; the program has room for the longest there is.\n");
+    say(
+        b"numbers (stretches, whole) or records (anchors) the answer may take; the program has room for the longest there is.\n",
+    );
     say(b"\n");
 }
 
@@ -110,10 +112,10 @@ fn page_7() {
     say(b"  open, annotate, delete, accepted=1\n");
     say(b"    open_set, plan\n");
     say(
-        b"  insert, same, marks,    marks=N, and for each mark key= lamport= peer= flags= kind= value=\n",
+        b"  insert, same, marks,    marks=N, and for each mark key= lamport= peer= cnt= flags= kind= value=\n",
     );
     say(b"    inherit\n");
-    say(b"  mark, inherited         key= lamport= peer= flags= kind= value=\n");
+    say(b"  mark, inherited         key= lamport= peer= cnt= flags= kind= value=\n");
     say(b"  value                   kind= value=\n");
     say(b"  same, mark, inherited,  none=1, where there is none\n");
     say(b"    value, set, open_set,\n");

@@ -14,7 +14,7 @@ refusals =
     bytes "past the end of the tank" ∷  -- 4
     bytes "longer than 2^63 - 1 positions" ∷  -- 5
     bytes "a value that is no number" ∷  -- 6
-    bytes "its identity has another value or flags here" ∷  -- 7
+    bytes "its identity has another value, flags or cnt" ∷  -- 7
     bytes "a 65th mark in its tank" ∷  -- 8
     bytes "more runs than its limit" ∷  -- 9
     bytes "more runs than the tanks can share" ∷  -- 10

@@ -170,12 +170,12 @@ ownNumber (inserting pos len) = 0
 ownNumber (deleting a b) = 0
 ownNumber (removing id last) = 0
 
--- the set has the mark's identity with another value or flag byte
+-- the set has the mark's identity with another value, flag byte or counter
 unfoldable pub clash : Mark → List Mark → Bool
 clash m [] = false
 clash m (x ∷ xs) = cond (sameId (idOf m) (idOf x)) (not (sameContent m x)) (clash m xs)
 
--- 7: identity carried in this tank, at some position, with another value or flag byte
+-- 7: identity carried in this tank, at some position, with another value, flag byte or counter
 unfoldable pub clashes : Edit → View → Bool
 clashes (annotating a b m) v = anyAt (λ p. clash m (v .at p)) 0 (v .length)
 clashes (inserting pos len) v = false
