@@ -1,6 +1,6 @@
 -- Document 01, "Checked examples": what an example claims of the rules, and the table of the twelve that are numbered.
 use Prim.Native.Nat.{ℕ, zero, suc, _+_, _-_}
-use lib.IntN.{pos}
+use lib.IntN as int
 use mathlib.Core.Path.{_≡_}
 use mathlib.Core.Bool.{cond}
 use mathlib.Core.List.{List, [], _∷_, _++_, map}
@@ -134,7 +134,7 @@ AllHold (c ∷ cs) = Holds c × AllHold cs
 -- ---- How the table writes it
 -- marks by key, lamport and peer; the flag byte, the counter and the value play no part
 abbrev pub mark : ℕ → ℕ → ℕ → Mark
-mark key lamport peer = record { key = key; flags = 0x84; lamport = lamport; cnt = pos 0; peer = peer; value = Null }
+mark key lamport peer = record { key = key; flags = 0x84; lamport = lamport; cnt = int.pos 0; peer = peer; value = Null }
 
 -- A = (key 1, lamport 5, peer 1)
 abbrev pub A : Mark
