@@ -6,6 +6,7 @@ ghost use denote.Ref.{ptr};
 ghost use Rattle.lists.specs.Lists.{rangeList, wholeList, rangeNumber, wholeNumber, unlessRefused, filledBeside};
 ghost use Rattle.runs.specs.Stretches.{inFront};
 ghost use Rattle.lists.specs.Anchors.{anchors, anchorsNumber};
+ghost use Rattle.windows.specs.Windows.{windows};
 ghost use Rattle.tanks.specs.Contracts.{Taken};
 ghost use Rattle.tanks.specs.House.{askNumber};
 ghost use Rattle.tanks.specs.Pool.{meaning, Sound};
@@ -126,6 +127,20 @@ pub fn get_styles_of_range(s: Tanks, tank: u64, start: u64, end: u64) -> Shared
         return questions::not_shared(1);
     }
     questions::get_styles_of_range(s.take(tank as usize), start, end)
+}
+
+// Which of eight keys is the first that shows a value in each window of k positions from `start` on, 8 for none: every place of `out` is a window,
+// and positions past the length show nothing. Returns 0; or 1 where there is no such tank, and then it writes nothing.
+pub fn first_shown(s: Tanks, tank: u64, keys: [u16; 8], start: u64, k: u64, out: &mut [u64]) -> u64
+    requires { ⌜ Sound s ⌝ }
+    ensures { λ r. ⌜ r ≡ askNumber tank ⌝ }
+    ensures { λ r. ⌜ now (out .exit) ≡ askAt (meaning s) tank (now (out .entry)) (λ v. windows v keys start k (length (now (out .entry)))) ⌝ }
+{
+    if 8 <= tank {
+        return 1;
+    }
+    windows::first_shown(s.take(tank as usize), keys, start, k, out);
+    0
 }
 
 // No such tank: no list.

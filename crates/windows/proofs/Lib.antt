@@ -1,0 +1,3 @@
+pub mod FirstLaws
+pub mod WalkLaws
+pub mod ShownLaws
