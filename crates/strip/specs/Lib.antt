@@ -1,0 +1,3 @@
+pub mod Strip
+pub mod Cells
+pub mod Legend
