@@ -185,3 +185,8 @@ stopSays (Stop.Refused line number) lines = refusedSays number ++ lineSays (byte
 -- what a log has come to: how many edits were applied, and where it stands
 abbrev pub reportSays : Log → Pieces
 reportSays l = lineSays (bytes "applied=") (l .edits) ++ stopSays (l .stop) (l .reader .newlines)
+
+-- ---- Strips
+-- the cells of a strip on one line, or the refusal
+abbrev pub stripSays : ℕ → List ℕ → Pieces
+stripSays number cells = orRefused number (lineText (bytes "strip=") cells ∷ [])

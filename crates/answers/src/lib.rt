@@ -8,6 +8,7 @@ mod listing; // listing.rt: stretches and anchors
 mod settings; // settings.rt: settings
 mod reports; // reports.rt: what a log has come to
 mod plans; // plans.rt: plans
+mod strips; // strips.rt: the cells of a strip
 
 pub use listing::put_anchor;
 pub use listing::put_list;
@@ -31,3 +32,4 @@ pub use reports::put_report;
 pub use sets::set_or;
 pub use settings::put_found;
 pub use settings::put_taken;
+pub use strips::strip_or;

@@ -28,7 +28,7 @@ pub fn say(out: &mut [u8], at: usize, name: &[u8], n: u64) -> usize
 
 // A line of a name and a word.
 pub fn say_word(out: &mut [u8], at: usize, name: &[u8], word: &[u8]) -> usize
-    requires { ⌜ (pieceRoom ≤ length (now out)) × (length (now name) ≤ 16) × (length (now word) ≤ 16) ⌝ }
+    requires { ⌜ (pieceRoom ≤ length (now out)) × (length (now name) ≤ 16) × (length (now word) ≤ 96) ⌝ }
     ensures { λ r. ⌜ Adds (now (out .entry)) at (lineText (now (name .entry)) (now (word .entry)) ∷ []) r (now (out .exit)) ⌝ }
 {
     let k = free(out, at);

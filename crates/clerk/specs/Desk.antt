@@ -2,7 +2,7 @@
 use mathlib.Core.Path.{_≡_}
 use mathlib.Core.Bool.{cond}
 use mathlib.Core.List.{List, [], _∷_, _++_}
-use Prim.Native.Nat.{ℕ, _+_}
+use Prim.Native.Nat.{ℕ, _+_, _%_, _^_}
 use lib.Dec.{ltb}
 use lib.ListN.{set}
 use Rattle.settings_text.specs.declared.Asked.{Asked}
@@ -17,7 +17,10 @@ use Rattle.night.specs.declared.Range.{Range}
 use Rattle.night.specs.Plans.{range, planOf}
 use Rattle.night.specs.Planning.{planNumber, houseAfterPlan}
 use Rattle.tanks.specs.declared.Tanks.{Tanks}
-use Rattle.tanks.specs.House.{House, openNumber, opening}
+use Rattle.strip.specs.declared.legend.Legend.{Legend}
+use Rattle.strip.specs.Legend.{firstLegend, withLetter}
+use Rattle.strip.specs.Strip.{strip, stripNumber}
+use Rattle.tanks.specs.House.{House, tankAt, openNumber, opening}
 use Rattle.tanks.specs.Pool.{meaning, Sound}
 use Rattle.script.specs.declared.Both.{Both}
 use Rattle.script.specs.declared.Call.{Call}
@@ -26,28 +29,32 @@ use Rattle.script.specs.declared.Op.{Op}
 use Rattle.script.specs.declared.Text.{Text}
 use Rattle.script.specs.Args.{numberAt, keyAt}
 use Rattle.answers.specs.Waiting.{Pieces, Adds}
-use Rattle.answers.specs.Replies.{noneSays, acceptedSays, foundSays, takenSays, reportSays, rangeCountSays}
+use Rattle.answers.specs.Replies.{noneSays, acceptedSays, foundSays, takenSays, reportSays, rangeCountSays, stripSays}
 use Rattle.clerk.specs.declared.Moved.{Moved}
 use Rattle.clerk.specs.declared.Noted.{Noted}
 use Rattle.clerk.specs.declared.Side.{Side}
 use Rattle.clerk.specs.Calls.{changed, changeSays, answerSays, listingSays}
 
 -- ---- What is kept
--- nothing yet
+-- nothing yet, and the legend that a strip has before one is said
 abbrev pub emptySide : Side
-emptySide = record { sets = keeping.keptNone; log = logs.fresh; pending = planOf [] }
+emptySide = record { sets = keeping.keptNone; log = logs.fresh; pending = planOf []; legend = firstLegend }
 
 -- other sets of settings
 abbrev pub withSets : Side → Kept → Side
-withSets side kept = record { sets = kept; log = side .log; pending = side .pending }
+withSets side kept = record { sets = kept; log = side .log; pending = side .pending; legend = side .legend }
 
 -- another log
 abbrev pub withLog : Side → Log → Side
-withLog side l = record { sets = side .sets; log = l; pending = side .pending }
+withLog side l = record { sets = side .sets; log = l; pending = side .pending; legend = side .legend }
 
 -- other pending ranges
 abbrev pub withPending : Side → Plan → Side
-withPending side plan = record { sets = side .sets; log = side .log; pending = plan }
+withPending side plan = record { sets = side .sets; log = side .log; pending = plan; legend = side .legend }
+
+-- another legend
+abbrev pub withLegend : Side → Legend → Side
+withLegend side l = record { sets = side .sets; log = side .log; pending = side .pending; legend = l }
 
 -- one more range behind those of a plan: the 33rd makes a plan that is too long, and no more are counted
 unfoldable pub oneMore : Plan → Range → Plan
@@ -91,33 +98,47 @@ setFor side c = keeping.askedOf (side .sets) (numberAt c 0)
 abbrev pub morePending : Side → Call → Plan
 morePending side c = oneMore (side .pending) (range (numberAt c 0) (numberAt c 1))
 
+-- the legend with the key and the letter that a call has for one of its places
+abbrev pub legendFor : Side → Call → Legend
+legendFor side c = withLetter (side .legend) (numberAt c 0) (keyAt c 1) (numberAt c 2 % 2 ^ 8)
+
 -- what is kept after it; the end of a log has the next read begin another
 unfoldable pub deskSide : Desk → Side → Call → Side
 deskSide Desk.Set side c = side
 deskSide Desk.LogEnd side c = withLog side logs.fresh
 deskSide Desk.Range side c = withPending side (morePending side c)
+deskSide Desk.Legend side c = withLegend side (legendFor side c)
 
 -- its answer
 unfoldable pub deskSays : Desk → Side → Call → Pieces
 deskSays Desk.Set side c = foundSays (setFor side c)
 deskSays Desk.LogEnd side c = reportSays (logs.atEnd (side .log))
 deskSays Desk.Range side c = rangeCountSays (morePending side c .count)
+deskSays Desk.Legend side c = acceptedSays 0
 
 -- ---- Calls that have to do with that and with the tanks
+-- the strip of a tank with a legend, where there is room for so many bytes
+abbrev pub stripFor : House → Legend → Call → Pieces
+stripFor h l c =
+    stripSays (stripNumber (numberAt c 0) (numberAt c 2) (numberAt c 3)) (strip (tankAt h (numberAt c 0)) (l .keys) (l .letters) (numberAt c 1) (numberAt c 2))
+
 -- the tanks after it: those that opening with a kept set hands back, refused or not; without one they stay
 unfoldable pub bothHouse : Both → House → Side → Call → House
 bothHouse Both.OpenSet h side c = cond (setFor side c .found) (opening (setFor side c .settings)) h
 bothHouse Both.Plan h side c = houseAfterPlan h (numberAt c 0) (keyAt c 1) (numberAt c 2) (side .pending)
+bothHouse Both.Strip h side c = h
 
 -- what is kept after it: a plan leaves none pending, accepted or not
 unfoldable pub bothSide : Both → House → Side → Call → Side
 bothSide Both.OpenSet h side c = side
 bothSide Both.Plan h side c = withPending side (planOf [])
+bothSide Both.Strip h side c = side
 
 -- its answer
 unfoldable pub bothSays : Both → House → Side → Call → Pieces
 bothSays Both.OpenSet h side c = cond (setFor side c .found) (acceptedSays (openNumber (setFor side c .settings))) noneSays
 bothSays Both.Plan h side c = acceptedSays (planNumber h (numberAt c 0) (keyAt c 1) (numberAt c 2) (side .pending))
+bothSays Both.Strip h side c = stripFor h (side .legend) c
 
 -- ---- Any call, with the body behind it where it has one
 -- the eight tanks after it

@@ -31,10 +31,12 @@ fn with_sets(side: Side, sets: settings_text::Kept) -> Side
 {
     let log = side.log;
     let pending = side.pending;
+    let legend = side.legend;
     Side {
         sets: sets,
         log: log,
         pending: pending,
+        legend: legend,
     }
 }
 
@@ -44,10 +46,12 @@ fn with_log(side: Side, log: Log) -> Side
 {
     let sets = side.sets;
     let pending = side.pending;
+    let legend = side.legend;
     Side {
         sets: sets,
         log: log,
         pending: pending,
+        legend: legend,
     }
 }
 
@@ -57,10 +61,12 @@ fn with_pending(side: Side, plan: Plan) -> Side
 {
     let sets = side.sets;
     let log = side.log;
+    let legend = side.legend;
     Side {
         sets: sets,
         log: log,
         pending: plan,
+        legend: legend,
     }
 }
 

@@ -3,6 +3,7 @@ mod edits; // edits.rt: calls that change the state
 mod asking; // asking.rt: calls that ask
 mod listing; // listing.rt: stretches and anchors
 mod desk; // desk.rt: calls that have to do with what is kept beside the tanks
+mod strips; // strips.rt: strips, and their legend
 
 ghost use mathlib.Core.Bool.{false};
 ghost use mathlib.Core.Path.{_≡_};
@@ -39,6 +40,7 @@ use script::Question;
 use script::Reader;
 use script::Text;
 use settings_text::Kept;
+use strip::legend::Legend;
 use tanks::Setting;
 use tanks::Tanks;
 
@@ -48,11 +50,13 @@ pub struct Done {
     pub at: usize,
 }
 
-// What is kept beside the tanks: the last four sets of settings that were read, the log that is under way, and the ranges that wait for a plan.
+// What is kept beside the tanks: the last four sets of settings that were read, the log that is under way, the
+// ranges that wait for a plan, and the legend of strips.
 pub struct Side {
     pub sets: Kept,
     pub log: Log,
     pub pending: Plan,
+    pub legend: Legend,
 }
 
 // What is kept after a call, and how much of the output waits.
@@ -110,17 +114,19 @@ pub fn standing(tanks: Tanks, inlet: Inlet, side: Side, at: usize, over: bool) -
     }
 }
 
-// Nothing kept yet.
+// Nothing kept yet, and the legend that a strip has before one is said.
 pub fn empty() -> Side
     ensures { λ r. ⌜ (r ≡ emptySide) × Settled r ⌝ }
 {
     let sets = settings_text::none();
     let log = log::begin();
     let pending = night::empty_plan();
+    let legend = strip::legend::digits();
     Side {
         sets: sets,
         log: log,
         pending: pending,
+        legend: legend,
     }
 }
 
@@ -217,6 +223,7 @@ fn at_desk(side: Side, d: Desk, call: Call, out: &mut [u8], at: usize) -> Noted
         Desk::Set => desk::set(side, call, out, at),
         Desk::LogEnd => desk::end_log(side, out, at),
         Desk::Range => desk::range(side, call, out, at),
+        Desk::Legend => strips::legend(side, call, out, at),
     }
 }
 
@@ -229,6 +236,7 @@ fn on_both(s: Tanks, side: Side, b: Both, call: Call, out: &mut [u8], at: usize)
     match b {
         Both::OpenSet => desk::open_set(s, side, call, out, at),
         Both::Plan => desk::plan(s, side, call, out, at),
+        Both::Strip => strips::strip(s, side, call, out, at),
     }
 }
 

@@ -59,6 +59,12 @@ fn page_4() {
     say(b"  log_end                 none\n");
     say(b"  range                   start end\n");
     say(b"  plan, propose           tank hold runs\n");
+    page_strip();
+}
+
+fn page_strip() {
+    say(b"  legend                  place key letter\n");
+    say(b"  strip                   tank start k room\n");
     say(b"\n");
 }
 
@@ -70,11 +76,12 @@ fn page_5() {
         b"a sign. A kind is null, bool, whole or decimal. The value then is empty, 0 or 1, a signed number of 64 bits, or the sixteen\n",
     );
     say(
-        b"lower-case hexadecimal digits of the bits of an f64. A sign is a minus or nothing, and there is no -0. A room is how many\n",
+        b"lower-case hexadecimal digits of the bits of an f64. A sign is a minus or nothing, and there is no -0. A place is 0 to 7, a\n",
     );
     say(
-        b"numbers (stretches, whole) or records (anchors) the answer may take; the program has room for the longest there is.\n",
+        b"letter any one byte. A room is how many numbers (stretches, whole), records (anchors) or bytes (strip) the answer may take;\n",
     );
+    say(b"the program has room for the longest there is.\n");
     say(b"\n");
 }
 
@@ -93,6 +100,16 @@ fn page_6() {
         b"applied when its last newline comes; the first bad line or refused edit stops the log. log_end ends it; the next log is a new one.\n",
     );
     page_plans();
+    page_legend();
+}
+
+fn page_legend() {
+    say(
+        b"A strip is 96 cells of k positions each, from start on. A cell has the letter of the first key of the legend, by its place, that\n",
+    );
+    say(
+        b"shows a value somewhere in it, else a dot. Place i has key i and the digit i until a legend says otherwise.\n",
+    );
     say(b"\n");
 }
 
@@ -110,7 +127,7 @@ fn page_7() {
     say(b"  answer to               lines\n");
     say(b"  a call that is refused  refused=N\n");
     say(b"  open, annotate, delete, accepted=1\n");
-    say(b"    open_set, plan\n");
+    say(b"    open_set, plan, legend\n");
     say(
         b"  insert, same, marks,    marks=N, and for each mark key= lamport= peer= cnt= flags= kind= value=\n",
     );
@@ -149,6 +166,7 @@ fn page_settings() {
     );
     say(b"  range                   ranges=N, how many are pending\n");
     say(b"  propose                 ranges=N, and for each range start= end=\n");
+    say(b"  strip                   strip= and its 96 letters and dots\n");
 }
 
 fn page_8() {

@@ -55,6 +55,7 @@ hintText (Holds.Number most) k = mostHint most
 hintText Holds.Counter k = bytes " and a signed number of 32 bits"
 hintText Holds.Kind k = bytes " and null, bool, whole or decimal"
 hintText Holds.Value k = valueHint k
+hintText Holds.Byte k = bytes " and one byte"
 
 -- of the field at a call's place
 abbrev pub expectedText : Call → List ℕ
@@ -78,6 +79,7 @@ wrongText (Holds.Number most) t = wrongNumber t
 wrongText Holds.Counter t = Came.NoCounter
 wrongText Holds.Kind t = Came.NoKind
 wrongText Holds.Value t = Came.NoValue
+wrongText Holds.Byte t = Came.NoValue
 
 -- a bad line, where a field was expected
 unfoldable pub cameOf : Field → List ℕ → Came

@@ -47,6 +47,7 @@ fn put_hint(out: &mut [u8], at: usize, h: Holds, kind: Kind) -> usize
         Holds::Counter => text::put(out, at, b" and a signed number of 32 bits"),
         Holds::Kind => text::put(out, at, b" and null, bool, whole or decimal"),
         Holds::Value => put_value_hint(out, at, kind),
+        Holds::Byte => text::put(out, at, b" and one byte"),
     }
 }
 
@@ -104,6 +105,7 @@ fn wrong_text(h: Holds, t: &[u8]) -> Came
         Holds::Counter => Came::NoCounter,
         Holds::Kind => Came::NoKind,
         Holds::Value => Came::NoValue,
+        Holds::Byte => Came::NoValue,
     }
 }
 

@@ -108,6 +108,17 @@ hold = number "hold" 16
 abbrev pub runs : Field
 runs = number "runs" 64
 
+-- where a key and its letter stand in the legend of a strip, and the letter: one byte
+abbrev pub place : Field
+place = field "place" (Holds.Number 7)
+
+abbrev pub letter : Field
+letter = field "letter" Holds.Byte
+
+-- how many positions a cell of a strip has
+abbrev pub cellSize : Field
+cellSize = number "k" 64
+
 -- the most bytes that the body of a call may have
 abbrev pub mostBody : ℕ
 mostBody = 131072
@@ -195,6 +206,8 @@ ops =
     desk Desk.Range "range" (start ∷ end ∷ []) ∷
     both Both.Plan "plan" (tank ∷ hold ∷ runs ∷ []) ∷
     question Question.Propose "propose" (tank ∷ hold ∷ runs ∷ []) ∷
+    desk Desk.Legend "legend" (place ∷ key ∷ letter ∷ []) ∷
+    both Both.Strip "strip" (tank ∷ start ∷ cellSize ∷ room ∷ []) ∷
     []
 
 -- between two groups there is no op, and the line that names one is to come
@@ -230,6 +243,7 @@ progressOf (Holds.Number most) = Progress.More
 progressOf Holds.Counter = Progress.More
 progressOf Holds.Kind = Progress.More
 progressOf Holds.Value = Progress.More
+progressOf Holds.Byte = Progress.More
 
 -- the name of a kind
 abbrev pub kindName : Kind → List ℕ

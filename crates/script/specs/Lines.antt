@@ -127,6 +127,7 @@ endingBy (Holds.Number most) = Ending.Cut
 endingBy Holds.Counter = Ending.Cut
 endingBy Holds.Kind = Ending.Cut
 endingBy Holds.Value = Ending.Cut
+endingBy Holds.Byte = Ending.Cut
 
 -- whether the input may end here: between two calls, with no line begun
 unfoldable pub endingOf : State → Ending

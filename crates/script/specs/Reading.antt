@@ -5,7 +5,7 @@ use Prim.Native.Nat.{ℕ, suc, _+_}
 use lib.Dec.{ltb, leb, eqb}
 use lib.Ieee.{ofBits, binary64}
 use lib.IntN.{ℤ, pos}
-use lib.ListN.{length, drop, set, replicate}
+use lib.ListN.{length, getD, drop, set, replicate}
 use Rattle.text.specs.declared.Parsed.{Parsed}
 use Rattle.text.specs.declared.Signed.{Signed}
 use Rattle.text.specs.declared.Signed32.{Signed32}
@@ -41,6 +41,10 @@ withinOf most (Parsed.Number n) = cond (leb n most) (Parsed.Number n) Parsed.Bad
 -- the number of a field's line
 unfoldable pub numberOf : Field → ℕ → List ℕ → Parsed
 numberOf f most line = afterName f Parsed.Bad (λ t. withinOf most (decimalOf t)) line
+
+-- one byte, as its number
+unfoldable pub byteOf : List ℕ → Parsed
+byteOf t = cond (eqb (length t) 1) (Parsed.Number (getD t 0 0)) Parsed.Bad
 
 -- the first of a list whose name is t, as `gives` says it, or what there is otherwise
 abbrev pub among : {A R : Type 0} → (A → List ℕ) → (A → R) → List A → List ℕ → R → R
@@ -130,6 +134,7 @@ heldLine c f (Holds.Number most) line = withNumber c (numberOf f most line)
 heldLine c f Holds.Counter line = withCounter c (afterName f Signed32.Bad signed32Of line)
 heldLine c f Holds.Kind line = withKind c (afterName f ReadKind.Bad kindNamed line)
 heldLine c f Holds.Value line = withValue c (afterName f ReadValue.Bad (valueOf (c .kind)) line)
+heldLine c f Holds.Byte line = withNumber c (afterName f Parsed.Bad byteOf line)
 
 -- a line of at most 64 bytes gives the field that comes next
 unfoldable pub lineOf : Call → List ℕ → Read

@@ -56,6 +56,8 @@ pub fn op_at(row: usize) -> Op
         Op::Desk(Desk::Range),
         Op::Both(Both::Plan),
         Op::Question(Question::Propose),
+        Op::Desk(Desk::Legend),
+        Op::Both(Both::Strip),
         Op::Nothing,
     ];
     all[least(row, OPS)]
@@ -75,7 +77,7 @@ pub fn field_at(row: usize, place: usize) -> u8
 {
     if place < 16 {
         let all =
-            b"O///////////////0123456789:;<=>?TSEKLPIFCV//////TAN/////////////TSE/////////////TKLPZ///////////T///////////////T///////////////T///////////////TAK/////////////TSEK////////////TSEKCV//////////TSE/////////////TA//////////////TA//////////////TAR/////////////TAR/////////////TSEM////////////TSE/////////////TM//////////////T///////////////TM//////////////TA//////////////TJQ/////////////B///////////////U///////////////U///////////////B///////////////////////////////SE//////////////THG/////////////THG/////////////////////////////";
+            b"O///////////////0123456789:;<=>?TSEKLPIFCV//////TAN/////////////TSE/////////////TKLPZ///////////T///////////////T///////////////T///////////////TAK/////////////TSEK////////////TSEKCV//////////TSE/////////////TA//////////////TA//////////////TAR/////////////TAR/////////////TSEM////////////TSE/////////////TM//////////////T///////////////TM//////////////TA//////////////TJQ/////////////B///////////////U///////////////U///////////////B///////////////////////////////SE//////////////THG/////////////THG/////////////DKY/////////////TSXM////////////////////////////";
         return letter_in(all, row, place);
     }
     b'/'
@@ -109,7 +111,7 @@ pub fn field_holds(f: u8) -> Holds
         wide,
         Holds::Number(131072),
         Holds::Kind,
-        none,
+        Holds::Number(7),
         wide,
         Holds::Number(255),
         wide,
@@ -129,8 +131,8 @@ pub fn field_holds(f: u8) -> Holds
         wide,
         Holds::Value,
         none,
-        none,
-        none,
+        wide,
+        Holds::Byte,
         wide,
         none,
     ];
@@ -148,5 +150,6 @@ pub fn progress(h: Holds) -> Progress
         Holds::Counter => Progress::More,
         Holds::Kind => Progress::More,
         Holds::Value => Progress::More,
+        Holds::Byte => Progress::More,
     }
 }

@@ -91,12 +91,14 @@ pub enum Desk {
     Set,
     LogEnd,
     Range,
+    Legend,
 }
 
 // Ops that have to do with that and with the tanks.
 pub enum Both {
     OpenSet,
     Plan,
+    Strip,
 }
 
 // An op, by what it does; Nothing stands for the time between two groups.
@@ -123,7 +125,7 @@ pub enum Kind {
     Decimal,
 }
 
-// What a field's line gives: a number is at most so much, a counter is a signed number of 32 bits.
+// What a field's line gives: a number is at most so much, a counter is a signed number of 32 bits, and a byte any one.
 pub enum Holds {
     Nothing,
     Op,
@@ -131,6 +133,7 @@ pub enum Holds {
     Counter,
     Kind,
     Value,
+    Byte,
 }
 
 // A call, as far as its lines have come: its op and that op's row in the table, how many of its fields are read, and each

@@ -182,6 +182,7 @@ fn ending(h: Holds) -> Ending
         Holds::Counter => Ending::Cut,
         Holds::Kind => Ending::Cut,
         Holds::Value => Ending::Cut,
+        Holds::Byte => Ending::Cut,
     }
 }
 

@@ -2,10 +2,11 @@
 ghost use mathlib.Core.Path.{_≡_};
 ghost use mathlib.Core.List.{[], _∷_};
 ghost use Prim.Native.Nat.{_<_};
+ghost use Rattle.text.specs.declared.Parsed as parsed;
 ghost use Rattle.text.specs.declared.Signed32.{Signed32};
 ghost use Rattle.text.specs.Signed.{signed32Of};
 ghost use Rattle.script.specs.Cells.{fieldOf};
-ghost use Rattle.script.specs.Reading.{startOf, afterName, withinOf, numberOf, opNamed, kindAmong, kindNamed, wholeOf, decimalOfBits, valueOf, freshOf, movedOf, badOf, withOp, withNumber, withCounter, withKind, withValue, heldLine, lineOf};
+ghost use Rattle.script.specs.Reading.{startOf, afterName, withinOf, numberOf, byteOf, opNamed, kindAmong, kindNamed, wholeOf, decimalOfBits, valueOf, freshOf, movedOf, badOf, withOp, withNumber, withCounter, withKind, withValue, heldLine, lineOf};
 use super::Call;
 use super::Holds;
 use super::Kind;
@@ -69,6 +70,32 @@ fn counter_line(f: u8, line: &[u8]) -> text::Signed32
         return text::Signed32::Bad;
     };
     text::integer32(&line[k..])
+}
+
+fn wide(b: u8) -> u64
+    ensures { λ r. ⌜ r ≡ b ⌝ }
+{
+    b as u64
+}
+
+// A text of one byte, as its number.
+fn byte_of(t: &[u8]) -> text::Parsed
+    ensures { λ r. ⌜ r ≡ byteOf (now (t .entry)) ⌝ }
+{
+    if t.len() == 1 {
+        return text::Parsed::Number(wide(t[0]));
+    }
+    text::Parsed::Bad
+}
+
+// The byte of a field's line.
+fn byte_line(f: u8, line: &[u8]) -> text::Parsed
+    ensures { λ r. ⌜ r ≡ afterName (fieldOf f) parsed.Parsed.Bad byteOf (now (line .entry)) ⌝ }
+{
+    let Start::At(k) = value_start(f, line) else {
+        return text::Parsed::Bad;
+    };
+    byte_of(&line[k..])
 }
 
 fn op_line(f: u8, line: &[u8]) -> ReadOp
@@ -325,6 +352,7 @@ fn held_line(call: Call, f: u8, h: Holds, line: &[u8]) -> Read
         Holds::Counter => with_counter(call, counter_line(f, line)),
         Holds::Kind => with_kind(call, kind_line(f, line)),
         Holds::Value => with_value(call, value_line(f, kind, line)),
+        Holds::Byte => with_number(call, byte_line(f, line)),
     }
 }
 

@@ -55,6 +55,7 @@ fn put_place(out: &mut [u8], at: usize, call: Call, place: usize) -> usize
     let numbers = call.numbers;
     match script::field_holds(f) {
         Holds::Number(_) => put_numbered(out, free, script::field_name(f), numbers[place]),
+        Holds::Byte => put_numbered(out, free, script::field_name(f), numbers[place]),
         Holds::Counter => script::put_counter(out, free, call.cnt),
         Holds::Kind => {
             let v = call.value;

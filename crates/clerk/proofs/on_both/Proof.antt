@@ -10,5 +10,8 @@ returns c = as-both _ _ _ (c .before .before .before .before .enum-told .given .
 returns-2 : tie.Need-returns-2
 returns-2 c = as-both _ _ _ (c .before .before .before .before .enum-told2 .given .1) (c .before .before .plan .ensures)
 
+returns-3 : tie.Need-returns-3
+returns-3 c = as-both _ _ _ (c .before .before .before .before .enum-told3 .given .1) (c .before .before .strip .ensures)
+
 pub on-both-spec : {M : Type 1} → statement M
-on-both-spec = tie.close (tie.spec (λ c. search needs) (λ c κs. search needs) (λ c. search needs) (λ c κs. search needs) (λ c. search needs) returns (λ c. search needs) returns-2)
+on-both-spec = tie.close (tie.spec (λ c. search needs) (λ c κs. search needs) (λ c. search needs) (λ c κs. search needs) (λ c. search needs) (λ c κs. search needs) (λ c. search needs) returns (λ c. search needs) returns-2 (λ c. search needs) returns-3)

@@ -1,0 +1,19 @@
+-- There is a refusal, and it is told.
+use Rattle.clerk.proofs.Painting.{short-says}
+use Rattle.script.specs.Args.{numberAt}
+use Rattle.tanks.specs.House.{tankAt}
+use Rattle.tanks.specs.Pool.{meaning}
+use borrow.Author.Needs.{needs}
+use Rattle.clerk.proofs.strips.unpainted.Statement.{statement}
+use Rattle.clerk.proofs.strips.unpainted.Tie as tie
+
+returns : tie.Need-returns
+returns c =
+    let p = c .before .before .before .before .before in
+    let s = p .before .before .before .before .before .before in
+    let a = s .args in
+    short-says (numberAt (a .call) 0) (numberAt (a .call) 2) (numberAt (a .call) 3) (tankAt (meaning (a .s)) (numberAt (a .call) 0)) (a .legend .keys) (a .legend .letters) (numberAt (a .call) 1)
+    (s .pre .0 .1) (p .paint .ensures .0) (c .before .before .refuse .ensures)
+
+pub unpainted-spec : {M : Type 1} → statement M
+unpainted-spec = tie.close (tie.spec (λ c. search needs) (λ c. search needs) (λ c. search needs) (λ c. search needs) (λ c κs. search needs) (λ c κs. search needs) (λ c. search needs) returns)
