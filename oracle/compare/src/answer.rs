@@ -3,7 +3,8 @@
 use std::fmt;
 
 use crate::call::Settings;
-use crate::mark::{Id, Mark, Value};
+use crate::mark::{Content, Id, Mark, Value};
+use crate::strip::CELLS;
 
 #[derive(Clone, Debug, PartialEq)]
 pub enum Answer {
@@ -33,6 +34,7 @@ pub enum Answer {
     Pending(u64),
     /// A plan that is proposed.
     Plan(Vec<Range>),
+    Strip([u8; CELLS]),
 }
 
 /// What a log has come to: edits, newlines, and where it stopped the refusal and the line.
@@ -100,11 +102,21 @@ impl Answer {
             }
             Answer::Report(_) => "a report".into(),
             Answer::Plan(_) => "a plan".into(),
+            Answer::Strip(_) => "a strip".into(),
             _ => "a number".into(),
+        }
+    }
+
+    /// The bytes of its lines; those of a strip need be no text.
+    pub fn bytes(&self) -> Vec<u8> {
+        match self {
+            Answer::Strip(cells) => [b"strip=", &cells[..], b"\n"].concat(),
+            _ => self.to_string().into_bytes(),
         }
     }
 }
 
+/// The lines to read; `bytes` has them as they are.
 impl fmt::Display for Answer {
     fn fmt(&self, f: &mut fmt::Formatter<'_>) -> fmt::Result {
         match self {
@@ -112,10 +124,10 @@ impl fmt::Display for Answer {
             Answer::Accepted => writeln!(f, "accepted=1"),
             Answer::Marks(marks) => {
                 writeln!(f, "marks={}", marks.len())?;
-                marks.iter().try_for_each(|mark| six_lines(f, mark))
+                marks.iter().try_for_each(|mark| seven_lines(f, mark))
             }
             Answer::None => writeln!(f, "none=1"),
-            Answer::Mark(mark) => six_lines(f, mark),
+            Answer::Mark(mark) => seven_lines(f, mark),
             Answer::Value(value) => two_lines(f, *value),
             Answer::Yes(yes) => writeln!(f, "yes={}", *yes as u8),
             Answer::First(first) => writeln!(f, "first={first}"),
@@ -145,6 +157,7 @@ impl fmt::Display for Answer {
                 let mut ranges = ranges.iter();
                 ranges.try_for_each(|r| writeln!(f, "start={}\nend={}", r.start, r.end))
             }
+            Answer::Strip(cells) => writeln!(f, "strip={}", cells.escape_ascii()),
             Answer::BadLine(line) => writeln!(f, "refused=12\nline={line}"),
             Answer::Report(Report { applied, lines, stopped }) => {
                 writeln!(f, "applied={applied}")?;
@@ -167,10 +180,11 @@ fn two_lines(f: &mut fmt::Formatter<'_>, value: Value) -> fmt::Result {
     writeln!(f, "kind={}\nvalue={}", value.kind(), value.text())
 }
 
-fn six_lines(f: &mut fmt::Formatter<'_>, mark: &Mark) -> fmt::Result {
+fn seven_lines(f: &mut fmt::Formatter<'_>, mark: &Mark) -> fmt::Result {
     let (key, lamport, peer) = mark.id;
-    writeln!(f, "key={key}\nlamport={lamport}\npeer={peer}\nflags={}", mark.content.flags)?;
-    two_lines(f, mark.content.value)
+    let Content { cnt, flags, value } = mark.content;
+    writeln!(f, "key={key}\nlamport={lamport}\npeer={peer}\ncnt={cnt}\nflags={flags}")?;
+    two_lines(f, value)
 }
 
 fn five_lines(f: &mut fmt::Formatter<'_>, anchor: &Anchor) -> fmt::Result {

@@ -169,7 +169,10 @@ impl Author {
         let id = self.id();
         let mut content = usual(id);
         if !self.habit.inside && self.random.one_in(25) {
-            content = Content { flags: content.flags, value: self.value() };
+            content.value = self.value();
+        }
+        if !self.habit.inside && self.random.one_in(30) {
+            content.cnt = self.random.pick(&COUNTERS);
         }
         if !self.habit.inside && self.random.one_in(60) {
             content.flags ^= 2 << self.random.below(2);
@@ -277,7 +280,7 @@ impl Author {
         let at = self.spot(tank);
         let few = self.random.below(3);
         let rank = self.or_wild(few);
-        match self.random.below(19) {
+        match self.random.below(20) {
             0 => Call::Length { tank },
             1 => Call::Touched { tank },
             2 => Call::Runs { tank },
@@ -300,6 +303,7 @@ impl Author {
             }
             16 => Call::WholeNeeded { tank },
             17 => Call::Find { tank, at },
+            18 => self.strip(tank),
             _ => {
                 let needed = self.state(tank).anchors().len() as u64;
                 Call::Anchors { tank, room: self.room(needed) }
@@ -315,6 +319,25 @@ impl Author {
         let other = self.value();
         let value = shown.filter(|_| !self.random.one_in(4)).unwrap_or(other);
         Call::AllValue { tank, start, end, key, value }
+    }
+
+    /// Cells of a few positions, of so many that they reach about the length, or of any size.
+    pub fn strip(&mut self, tank: u64) -> Call {
+        let start = self.spot(tank);
+        let left = self.state(tank).length.saturating_sub(start);
+        let parts = 1 + self.random.below(100);
+        let k = match self.random.below(12) {
+            0 => left / parts,
+            1 => left / parts + 1,
+            2 => u64::MAX / parts + self.random.below(2),
+            3 => 1 << self.random.below(64),
+            4 => parts,
+            _ => 1 + self.random.below(4),
+        };
+        let rare = !self.habit.inside && self.random.one_in(30);
+        let k = self.or_wild(if rare { 0 } else { k });
+        let room = if self.random.one_in(4) { self.room(96) } else { 96 };
+        Call::Strip { tank, start, k, room }
     }
 
     /// Room around what is needed.
@@ -351,6 +374,8 @@ const VALUES: [Value; 15] = [
     Value::Decimal(0x7fef_ffff_ffff_ffff),
 ];
 
+const COUNTERS: [i32; 7] = [-1, 0, i32::MAX, 1, i32::MIN, -65536, 2_000_000_000];
+
 /// The identity of a number: three keys out of four are few, lamports and peers repeat.
 pub fn identity(number: u64) -> Id {
     match number % 16 {
@@ -365,6 +390,7 @@ pub fn identity(number: u64) -> Id {
 pub fn usual(id: Id) -> Content {
     let number = id.0 as u64 + 3 * id.1 as u64 + 5 * (id.2 % 1000);
     Content {
+        cnt: COUNTERS[number as usize % COUNTERS.len()],
         flags: FLAGS[number as usize % FLAGS.len()],
         value: VALUES[number as usize % VALUES.len()],
     }

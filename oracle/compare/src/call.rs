@@ -1,7 +1,5 @@
 //! The calls of the console, and their lines.
 
-use std::fmt;
-
 use crate::mark::{Content, Id, Mark, Value};
 
 pub type Settings = [(u64, u64); 8];
@@ -39,12 +37,14 @@ pub enum Call {
     Range { start: u64, end: u64 },
     Plan { tank: u64, hold: u16, runs: u64 },
     Propose { tank: u64, hold: u16, runs: u64 },
+    Legend { place: u64, key: u16, letter: u8 },
+    Strip { tank: u64, start: u64, k: u64, room: u64 },
 }
 
 /// Each op and its fields, in the order of their lines.
-pub const SHAPES: [(&str, &[&str]); 31] = [
+pub const SHAPES: [(&str, &[&str]); 33] = [
     ("open", &OPEN),
-    ("annotate", &["tank", "start", "end", "key", "lamport", "peer", "flags", "kind", "value"]),
+    ("annotate", &ANNOTATE),
     ("insert", &["tank", "at", "len"]),
     ("delete", &["tank", "start", "end"]),
     ("remove", &["tank", "key", "lamport", "peer", "last"]),
@@ -74,6 +74,8 @@ pub const SHAPES: [(&str, &[&str]); 31] = [
     ("range", &["start", "end"]),
     ("plan", &["tank", "hold", "runs"]),
     ("propose", &["tank", "hold", "runs"]),
+    ("legend", &["place", "key", "letter"]),
+    ("strip", &["tank", "start", "k", "room"]),
 ];
 
 /// A body has so many bytes at most.
@@ -84,11 +86,18 @@ const OPEN: [&str; 16] = [
     "limit4", "share5", "limit5", "share6", "limit6", "share7", "limit7",
 ];
 
+const ANNOTATE: [&str; 10] =
+    ["tank", "start", "end", "key", "lamport", "peer", "cnt", "flags", "kind", "value"];
+
 /// What a field's line holds.
 #[derive(Clone, Copy, Debug, PartialEq)]
 pub enum Field {
     Number(u64),
+    /// A counter.
+    Signed(i32),
     Value(Value),
+    /// One byte as it is.
+    Letter(u8),
 }
 
 impl Call {
@@ -126,6 +135,8 @@ impl Call {
             Call::Range { .. } => 28,
             Call::Plan { .. } => 29,
             Call::Propose { .. } => 30,
+            Call::Legend { .. } => 31,
+            Call::Strip { .. } => 32,
         }
     }
 
@@ -157,7 +168,20 @@ impl Call {
 
     /// The whole group: its lines and its body.
     pub fn text(&self) -> Vec<u8> {
-        [self.to_string().as_bytes(), self.body()].concat()
+        let (name, names) = SHAPES[self.shape()];
+        let mut text = format!("op={name}\n").into_bytes();
+        for (name, field) in names.iter().zip(self.fields()) {
+            text.extend(match field {
+                Field::Number(number) => format!("{name}={number}\n").into_bytes(),
+                Field::Signed(number) => format!("{name}={number}\n").into_bytes(),
+                Field::Value(value) => {
+                    format!("kind={}\nvalue={}\n", value.kind(), value.text()).into_bytes()
+                }
+                Field::Letter(letter) => [name.as_bytes(), &[b'=', letter, b'\n']].concat(),
+            });
+        }
+        text.extend(self.body());
+        text
     }
 
     /// The fields in the order of `SHAPES`; a value stands for its two lines.
@@ -171,8 +195,9 @@ impl Call {
             Call::Annotate { tank, start, end, mark } => {
                 let Mark { id, content } = mark;
                 let (key, lamport, peer) = (id.0 as u64, id.1 as u64, id.2);
-                let flags = content.flags as u64;
-                let mut list = numbers(&[tank, start, end, key, lamport, peer, flags]);
+                let mut list = numbers(&[tank, start, end, key, lamport, peer]);
+                list.push(Field::Signed(content.cnt));
+                list.push(Field::Number(content.flags as u64));
                 list.push(Field::Value(content.value));
                 list
             }
@@ -199,6 +224,12 @@ impl Call {
             Call::Plan { tank, hold, runs } | Call::Propose { tank, hold, runs } => {
                 numbers(&[tank, hold as u64, runs])
             }
+            Call::Legend { place, key, letter } => {
+                let mut list = numbers(&[place, key as u64]);
+                list.push(Field::Letter(letter));
+                list
+            }
+            Call::Strip { tank, start, k, room } => numbers(&[tank, start, k, room]),
             Call::Delete { tank, start, end }
             | Call::Same { tank, start, end }
             | Call::StretchesNeeded { tank, start, end } => numbers(&[tank, start, end]),
@@ -217,11 +248,15 @@ impl Call {
     pub fn of(shape: usize, fields: &[Field], body: &[u8]) -> Call {
         let n = |place: usize| match fields[place] {
             Field::Number(number) => number,
-            Field::Value(_) => unreachable!("a number stands here"),
+            _ => unreachable!("a number stands here"),
         };
         let v = |place: usize| match fields[place] {
             Field::Value(value) => value,
-            Field::Number(_) => unreachable!("a value stands here"),
+            _ => unreachable!("a value stands here"),
+        };
+        let letter = |place: usize| match fields[place] {
+            Field::Letter(letter) => letter,
+            _ => unreachable!("a letter stands here"),
         };
         let id = |place: usize| (n(place) as u16, n(place + 1) as u32, n(place + 2));
         let tank = if fields.is_empty() { 0 } else { n(0) };
@@ -229,7 +264,8 @@ impl Call {
         match shape {
             0 => Call::Open { settings: std::array::from_fn(|t| (n(2 * t), n(2 * t + 1))) },
             1 => {
-                let content = Content { flags: n(6) as u8, value: v(7) };
+                let Field::Signed(cnt) = fields[6] else { unreachable!("a counter stands here") };
+                let content = Content { cnt, flags: n(7) as u8, value: v(8) };
                 let mark = Mark { id: id(3), content };
                 Call::Annotate { tank, start: n(start), end: n(end), mark }
             }
@@ -264,24 +300,9 @@ impl Call {
             27 => Call::LogEnd,
             28 => Call::Range { start: n(0), end: n(1) },
             29 => Call::Plan { tank, hold: n(1) as u16, runs: n(2) },
-            _ => Call::Propose { tank, hold: n(1) as u16, runs: n(2) },
+            30 => Call::Propose { tank, hold: n(1) as u16, runs: n(2) },
+            31 => Call::Legend { place: n(0), key: n(1) as u16, letter: letter(2) },
+            _ => Call::Strip { tank, start: n(start), k: n(2), room: n(3) },
         }
-    }
-}
-
-/// The group's lines, without the body.
-impl fmt::Display for Call {
-    fn fmt(&self, f: &mut fmt::Formatter<'_>) -> fmt::Result {
-        let (name, names) = SHAPES[self.shape()];
-        writeln!(f, "op={name}")?;
-        for (name, field) in names.iter().zip(self.fields()) {
-            match field {
-                Field::Number(number) => writeln!(f, "{name}={number}")?,
-                Field::Value(value) => {
-                    writeln!(f, "kind={}\nvalue={}", value.kind(), value.text())?
-                }
-            }
-        }
-        Ok(())
     }
 }

@@ -4,9 +4,12 @@ use crate::call::Call;
 use crate::classes::ROOMY;
 use crate::mark::{Content, Mark, Value};
 
-const A: Mark = Mark { id: (1, 5, 1), content: Content { flags: 0x84, value: Value::Bool(true) } };
-const B: Mark = Mark { id: (1, 5, 2), content: Content { flags: 0x84, value: Value::Bool(false) } };
-const C: Mark = Mark { id: (2, 3, 1), content: Content { flags: 0x80, value: Value::Whole(7) } };
+const A: Mark =
+    Mark { id: (1, 5, 1), content: Content { cnt: 7, flags: 0x84, value: Value::Bool(true) } };
+const B: Mark =
+    Mark { id: (1, 5, 2), content: Content { cnt: -7, flags: 0x84, value: Value::Bool(false) } };
+const C: Mark =
+    Mark { id: (2, 3, 1), content: Content { cnt: 0, flags: 0x80, value: Value::Whole(7) } };
 
 /// The annotate with which most cases begin.
 const MARKED: Call = Call::Annotate { tank: 0, start: 10, end: 20, mark: A };

@@ -44,7 +44,7 @@ impl fmt::Display for Judge {
 /// What one call should be answered, and whether the Rust said so too.
 pub struct Expected {
     pub kind: String,
-    pub answer: String,
+    pub answer: Vec<u8>,
     pub rust: bool,
 }
 
@@ -97,12 +97,13 @@ fn follow<'a>(
         got: shown(rest, expected),
     };
     for (number, entry) in entries.iter().enumerate() {
-        let Some(after) = rest.strip_prefix(entry.answer.as_bytes()) else {
+        let Some(after) = rest.strip_prefix(&entry.answer[..]) else {
             let judge = if entry.rust { Judge::Both } else { Judge::Model };
             // A stretch or a range too many belongs to the list before.
             let more = rest.starts_with(b"from=") || rest.starts_with(b"start=");
             let late = more && number > 0;
-            return Err(parts(number - late as usize, judge, &entry.answer, rest));
+            let expected = String::from_utf8_lossy(&entry.answer);
+            return Err(parts(number - late as usize, judge, &expected, rest));
         };
         rest = after;
     }
@@ -146,7 +147,7 @@ pub fn answers(
                 None => {}
             }
         }
-        list.push(Expected { kind: kind(call, &answer), answer: answer.to_string(), rust });
+        list.push(Expected { kind: kind(call, &answer), answer: answer.bytes(), rust });
     }
     Ok(list)
 }

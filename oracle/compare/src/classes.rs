@@ -8,6 +8,7 @@ use crate::mark::Mark;
 use crate::plans;
 use crate::script::Script;
 use crate::sets;
+use crate::strips;
 use crate::tank::{LONGEST, T};
 
 pub struct Class {
@@ -17,7 +18,7 @@ pub struct Class {
     write: fn(seed: u64, calls: usize) -> Author,
 }
 
-pub const CLASSES: [Class; 13] = [
+pub const CLASSES: [Class; 14] = [
     Class { name: "inside", about: "one tank with room, the oracle domain", write: inside },
     Class { name: "dense", about: "small positions, many collisions", write: dense },
     Class { name: "short", about: "tanks of few positions, down to none", write: short },
@@ -31,6 +32,7 @@ pub const CLASSES: [Class; 13] = [
     Class { name: "sets", about: "settings texts and the sets that are kept", write: kept_sets },
     Class { name: "log", about: "logs that are cut and spoilt anywhere", write: log },
     Class { name: "plans", about: "plans of ranges, and those that are proposed", write: thinned },
+    Class { name: "strips", about: "strips with any keys and letters", write: stripped },
 ];
 
 impl Class {
@@ -247,5 +249,22 @@ fn thinned(seed: u64, calls: usize) -> Author {
         plans::go_on(&mut author);
     }
     author.say(Call::Plan { tank: 0, hold: 1, runs: u64::MAX });
+    author
+}
+
+/// Legends and strips, of tanks short and long.
+fn stripped(seed: u64, calls: usize) -> Author {
+    let wild = if seed % 3 == 0 { 30 } else { 0 };
+    let mut author = Author::new(seed, Habit { tanks: 2, wild, ..HABIT });
+    author.open([(20, 60); 8]);
+    if seed % 2 == 1 {
+        let mark = author.mark();
+        let left = author.random.below(400);
+        author.say(Call::Annotate { tank: 0, start: 0, end: 1, mark });
+        author.say(Call::Delete { tank: 0, start: left, end: T });
+    }
+    while author.calls.len() < calls {
+        strips::go_on(&mut author);
+    }
     author
 }

@@ -35,7 +35,8 @@ const PLACES: u64 = 4;
 
 fn mark(number: usize) -> Mark {
     let (id, value) = MARKS[number];
-    Mark { id, content: Content { flags: 0x84, value } }
+    // The later mark has the lesser counter.
+    Mark { id, content: Content { cnt: -(number as i32), flags: 0x84, value } }
 }
 
 fn ranges() -> impl Iterator<Item = (u64, u64)> {
@@ -109,6 +110,9 @@ fn questions() -> Vec<Call> {
         list.extend((1..3).map(|key| Call::Value { tank, at, key }));
         list.extend((0..3).map(|rank| Call::Mark { tank, at, rank }));
         list.extend((0..2).map(|rank| Call::Inherited { tank, at, rank }));
+    }
+    for (start, k) in [(0, 1), (1, 2), (0, 3), (2, 1), (PLACES, 1)] {
+        list.push(Call::Strip { tank, start, k, room: 96 });
     }
     for hold in 1..3 {
         list.extend((0..4).map(|runs| Call::Propose { tank, hold, runs }));

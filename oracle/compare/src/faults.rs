@@ -5,12 +5,14 @@ use std::collections::BTreeMap;
 
 use crate::answer::{Aged, Answer, Extent, Range, Report};
 use crate::call::Call;
-use crate::mark::{listed, Content, Id, Value};
+use crate::mark::{listed, Content, Id, Mark, Value};
 use crate::settings::{pairs_of, Kept};
+use crate::strip;
+use crate::tank::Stretch;
 use crate::tanks::Tanks;
 
 /// The name of a fault, and what it gets wrong.
-pub const FAULTS: [(&str, &str); 105] = [
+pub const FAULTS: [(&str, &str); 131] = [
     ("refusal1", "answers for tank 0 in place of refusal 1"),
     ("refusal2", "accepts settings that break the rule"),
     ("refusal3", "accepts an empty edit"),
@@ -113,6 +115,32 @@ pub const FAULTS: [(&str, &str); 105] = [
     ("propose-none", "proposes no plan where the unheld positions are 32 ranges or more"),
     ("propose-needless", "proposes the oldest stretch where the tank holds no more than asked"),
     ("propose-pending", "leaves a proposed plan pending"),
+    ("strip-position", "a cell has a letter of its first position that shows anything"),
+    ("strip-null", "gives a winning null a letter"),
+    ("strip-any", "gives any mark of a key its letter where it has a value"),
+    ("strip-last-key", "the last key wins in a cell"),
+    ("strip-seven", "looks at seven keys"),
+    ("strip-equal", "the last letter of equal keys counts"),
+    ("strip-cut", "leaves the position before the length out"),
+    ("strip-longer", "a cell has the first position of the next one too"),
+    ("strip-wraps", "a cell past 64 bits begins at the front again"),
+    ("strip-narrow", "takes the positions of a cell in 32 bits"),
+    ("strip-start", "refuses a start past the length by 4"),
+    ("strip-95", "takes a buffer of 95 bytes"),
+    ("strip-order", "gives 11 where 3 applies as well"),
+    ("legend-first", "begins with letters in place of digits"),
+    ("legend-key", "takes a letter for the key that stands there"),
+    ("legend-high", "drops the highest bit of a letter"),
+    ("legend-open", "forgets the legend at an opening"),
+    ("cnt-seven", "accepts another counter under a carried identity"),
+    ("cnt-order", "lists the marks of a key by their counters"),
+    ("cnt-winner", "shows the value of the mark of a key with the greatest counter"),
+    ("cnt-zero", "answers 0 for every counter"),
+    ("cnt-minus", "answers a counter without its minus"),
+    ("cnt-narrow", "keeps 16 bits of a counter"),
+    ("cnt-least", "does not take the least counter"),
+    ("cnt-most", "takes one more than the greatest counter"),
+    ("cnt-minus-zero", "takes a counter of -0"),
     ("body-lines", "does not count the newlines of bodies"),
     ("run-count", "counts one run too many in a tank of 100 runs or more"),
     ("malformed-line", "names the line after the malformed one"),
@@ -130,7 +158,27 @@ impl Faulty {
     pub fn new(fault: &str) -> Self {
         let known = fault.is_empty() || FAULTS.iter().any(|known| known.0 == fault);
         assert!(known, "no fault is called {fault}");
-        Self { tanks: Tanks::default(), fault: fault.into(), turn: 0, seen: BTreeMap::new() }
+        let mut tanks = Tanks::default();
+        if fault == "legend-first" {
+            tanks.legend.iter_mut().for_each(|place| place.1 += b'a' - b'0');
+        }
+        Self { tanks, fault: fault.into(), turn: 0, seen: BTreeMap::new() }
+    }
+
+    /// Faults in reading: it takes a line for another one of as many bytes.
+    pub fn misread(&self, mut input: Vec<u8>) -> Vec<u8> {
+        let (line, other) = match self.fault.as_str() {
+            "cnt-least" => ("\ncnt=-2147483648\n", "\ncnt=-214748364x\n"),
+            "cnt-most" => ("\ncnt=2147483648\n", "\ncnt=2147483647\n"),
+            "cnt-minus-zero" => ("\ncnt=-0\n", "\ncnt=10\n"),
+            _ => return input,
+        };
+        for at in 0..input.len() {
+            if input[at..].starts_with(line.as_bytes()) {
+                input[at..at + line.len()].copy_from_slice(other.as_bytes());
+            }
+        }
+        input
     }
 
     /// The line that it calls malformed after these calls.
@@ -162,6 +210,7 @@ impl Faulty {
         };
         self.afterwards(call, &before);
         let answer = self.proposed(call, answer);
+        let answer = self.stripped(call, answer);
         self.told(call, self.counted(call, &before, answer))
     }
 
@@ -210,6 +259,16 @@ impl Faulty {
                 self.seen.insert(place, mark.content);
                 None
             }
+            ("cnt-narrow", Call::Annotate { tank, start, end, mark }) => {
+                let content = Content { cnt: mark.content.cnt as i16 as i32, ..mark.content };
+                let mark = Mark { id: mark.id, content };
+                Some(self.tanks.call(&Call::Annotate {
+                    tank: *tank,
+                    start: *start,
+                    end: *end,
+                    mark,
+                }))
+            }
             ("age-over", Call::Age { tank, before, budget }) if *budget > 0 => {
                 let budget = budget.saturating_add(1);
                 Some(self.tanks.call(&Call::Age { tank: *tank, before: *before, budget }))
@@ -226,9 +285,10 @@ impl Faulty {
         }
     }
 
-    /// The same of what has to do with sets, logs and plans.
+    /// The same of what has to do with sets, logs, strips and plans.
     fn aside(&mut self, call: &Call) -> Option<Answer> {
         let kept = self.kept_instead(call).or_else(|| self.log_instead(call));
+        let kept = kept.or_else(|| self.strip_instead(call));
         kept.or_else(|| self.planned_instead(call))
     }
 
@@ -330,6 +390,95 @@ impl Faulty {
                 Answer::Plan(ranges)
             }
             (_, answer) => answer,
+        }
+    }
+
+    /// Faults in a strip that is told.
+    fn stripped(&self, call: &Call, answer: Answer) -> Answer {
+        let Call::Strip { tank, start, k, .. } = *call else { return answer };
+        let (tank, legend) = (&self.tanks.tanks[tank as usize], self.tanks.legend);
+        let first_cell = |start: u64, k: u64| strip::cells(tank, &legend, start, k)[0];
+        let cell = |cell: usize| (cell as u64).wrapping_mul(k).wrapping_add(start);
+        let past = |at: usize| start as u128 + at as u128 * k as u128 > u64::MAX as u128;
+        match self.fault.as_str() {
+            "strip-position" => self.cells(call, |part| {
+                let shown = |s: &Stretch, key: u16| tank.value(s.from, key).is_some();
+                let first = |s: &Stretch| legend.iter().find(|(key, _)| shown(s, *key));
+                part.iter().find_map(first).map(|found| found.1)
+            }),
+            "strip-null" => self.cells(call, |part| {
+                let won = |s: &Stretch, key: u16| tank.winning(s.from, key).is_some();
+                let found = legend.iter().find(|(key, _)| part.iter().any(|s| won(s, *key)));
+                found.map(|found| found.1)
+            }),
+            "strip-any" => self.cells(call, |part| {
+                let valued = |(id, content): (&Id, &Content), key: u16| {
+                    id.0 == key && content.value != Value::Null
+                };
+                let any = |s: &Stretch, key: u16| s.set.iter().any(|mark| valued(mark, key));
+                let found = legend.iter().find(|(key, _)| part.iter().any(|s| any(s, *key)));
+                found.map(|found| found.1)
+            }),
+            "strip-last-key" => {
+                let mut other = legend;
+                other.reverse();
+                Answer::Strip(strip::cells(tank, &other, start, k))
+            }
+            "strip-seven" => {
+                let mut other = legend;
+                other[7] = other[0];
+                Answer::Strip(strip::cells(tank, &other, start, k))
+            }
+            "strip-equal" => {
+                let last = |key: u16| legend.iter().rfind(|place| place.0 == key).copied();
+                let other = legend.map(|place| last(place.0).unwrap_or(place));
+                Answer::Strip(strip::cells(tank, &other, start, k))
+            }
+            "strip-cut" if tank.length > 0 => {
+                let mut other = tank.clone();
+                other.delete(tank.length - 1, tank.length);
+                Answer::Strip(strip::cells(&other, &legend, start, k))
+            }
+            "strip-longer" => Answer::Strip(std::array::from_fn(|at| {
+                if past(at) {
+                    return b'.';
+                }
+                first_cell(cell(at), k.saturating_add(1))
+            })),
+            "strip-wraps" => Answer::Strip(std::array::from_fn(|at| first_cell(cell(at), k))),
+            "strip-narrow" => Answer::Strip(strip::cells(tank, &legend, start, k as u32 as u64)),
+            "strip-start" if start > tank.length => Answer::Refused(4),
+            _ => answer,
+        }
+    }
+
+    /// A strip of letters for the stretches of each cell.
+    fn cells(&self, call: &Call, letter: impl Fn(&[Stretch]) -> Option<u8>) -> Answer {
+        let Call::Strip { tank, start, k, .. } = *call else { unreachable!("a strip") };
+        let tank = &self.tanks.tanks[tank as usize];
+        let place = |cell: usize| {
+            let place = start as u128 + cell as u128 * k as u128;
+            place.min(tank.length as u128) as u64
+        };
+        Answer::Strip(std::array::from_fn(|cell| {
+            letter(&tank.stretches(place(cell), place(cell + 1))).unwrap_or(b'.')
+        }))
+    }
+
+    /// The same of legends and of a strip's buffer.
+    fn strip_instead(&mut self, call: &Call) -> Option<Answer> {
+        match (self.fault.as_str(), call) {
+            ("legend-key", &Call::Legend { place, letter, .. }) => {
+                self.tanks.legend[place as usize].1 = letter;
+                Some(Answer::Accepted)
+            }
+            ("legend-high", &Call::Legend { place, key, letter }) => {
+                Some(self.tanks.call(&Call::Legend { place, key, letter: letter & 0x7f }))
+            }
+            ("strip-95", &Call::Strip { tank, start, k, room: 95 }) => {
+                Some(self.tanks.call(&Call::Strip { tank, start, k, room: 96 }))
+            }
+            _ => None,
         }
     }
 
@@ -470,6 +619,18 @@ impl Faulty {
         if nine && before.pooled() >= 511 {
             return Answer::Refused(10);
         }
+        if let (7, "cnt-seven", Call::Annotate { tank, mark, .. }) =
+            (number, self.fault.as_str(), call)
+        {
+            let known = before.tanks[*tank as usize].carried()[&mark.id];
+            if (Content { cnt: mark.content.cnt, ..known }) == mark.content {
+                return Answer::Accepted;
+            }
+        }
+        let short = matches!(call, Call::Strip { room: 0..96, .. });
+        if number == 3 && short && self.fault == "strip-order" {
+            return Answer::Refused(11);
+        }
         let opens = self.fault == "open-set-refused" && matches!(call, Call::OpenSet { .. });
         if self.fault != format!("refusal{number}") && !opens {
             return Answer::Refused(number);
@@ -532,6 +693,9 @@ impl Faulty {
                 self.tanks.kept.sets.extend(fifth);
             }
             ("plan-open", Call::Open { .. } | Call::OpenSet { .. }) => self.tanks.pending.clear(),
+            ("legend-open", Call::Open { .. } | Call::OpenSet { .. }) => {
+                self.tanks.legend = strip::FIRST;
+            }
             ("kept-open", Call::Open { .. }) | ("kept-open-set", Call::OpenSet { .. }) => {
                 self.tanks.kept = Kept::default();
             }
@@ -549,6 +713,12 @@ impl Faulty {
             }
             (_, _, answer) => answer,
         }
+    }
+
+    /// A counter that is told wrongly.
+    fn miscount(&self, mark: &mut Mark) {
+        let cnt = mark.content.cnt;
+        mark.content.cnt = if self.fault == "cnt-zero" { 0 } else { cnt.saturating_abs() };
     }
 
     /// Faults in what is told.
@@ -575,6 +745,23 @@ impl Faulty {
             ("set-order", _, Answer::Marks(mut marks)) => {
                 marks.sort_by_key(|mark| (mark.id.1, mark.id.2, mark.id.0));
                 Answer::Marks(marks)
+            }
+            ("cnt-order", _, Answer::Marks(mut marks)) => {
+                marks.sort_by_key(|mark| (mark.id.0, mark.content.cnt));
+                Answer::Marks(marks)
+            }
+            ("cnt-zero" | "cnt-minus", _, Answer::Marks(mut marks)) => {
+                marks.iter_mut().for_each(|mark| self.miscount(mark));
+                Answer::Marks(marks)
+            }
+            ("cnt-zero" | "cnt-minus", _, Answer::Mark(mut mark)) => {
+                self.miscount(&mut mark);
+                Answer::Mark(mark)
+            }
+            ("cnt-winner", Call::Value { at, key, .. }, Answer::Value(_)) => {
+                let of_key = state.at(*at).iter().filter(|(id, _)| id.0 == *key);
+                let most = of_key.max_by_key(|(_, content)| content.cnt);
+                most.map_or(Answer::None, |(_, content)| Answer::Value(content.value))
             }
             ("same-none", Call::Same { .. }, Answer::Marks(marks)) if marks.is_empty() => {
                 Answer::None

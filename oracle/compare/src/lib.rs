@@ -4,8 +4,10 @@
 //! - `tank`, `tanks`: the rules, as a model of positions.
 //! - `settings`: settings texts and the sets that are kept.
 //! - `log`: the edge boxes' log.
+//! - `strip`: the strip for the tanker bay.
 //! - `mirror`: the Rust beside the model, and the oracle domain.
-//! - `random`, `author`, `classes`, `exhaust`, `sets`, `logs`, `plans`, `text`: scripts.
+//! - `random`, `author`, `classes`, `exhaust`, `sets`, `logs`, `plans`, `strips`,
+//!   `counters`, `text`: scripts.
 //! - `console`, `check`, `shrink`, `tally`: running a console, comparing, making a finding small.
 //! - `faults`: wrong answers on purpose, to see that the comparison notices them.
 //! - `cases`: document 01's checked examples as calls.
@@ -18,6 +20,7 @@ pub mod cases;
 pub mod check;
 pub mod classes;
 pub mod console;
+pub mod counters;
 pub mod exhaust;
 pub mod faults;
 pub mod log;
@@ -33,6 +36,8 @@ pub mod script;
 pub mod sets;
 pub mod settings;
 pub mod shrink;
+pub mod strip;
+pub mod strips;
 pub mod tally;
 pub mod tank;
 pub mod tanks;

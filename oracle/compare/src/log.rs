@@ -71,7 +71,7 @@ mod tests {
 
     const LOG: &str =
         "op=insert\ntank=1\nat=0\nlen=5\nop=annotate\ntank=1\nstart=2\nend=4\nkey=7\n\
-        lamport=1\npeer=9\nflags=132\nkind=whole\nvalue=-5\nop=delete\ntank=1\nstart=0\nend=1\n";
+        lamport=1\npeer=9\ncnt=-4\nflags=132\nkind=whole\nvalue=-5\nop=delete\ntank=1\nstart=0\nend=1\n";
 
     fn after(reads: &[&[u8]]) -> (Answer, Answer, Tanks) {
         let mut tanks = Tanks::default();
@@ -88,7 +88,7 @@ mod tests {
     fn a_log_may_be_cut_anywhere() {
         let text = LOG.as_bytes();
         let whole = after(&[text]);
-        assert_eq!(whole.1, Answer::Report(Report { applied: 3, lines: 18, stopped: None }));
+        assert_eq!(whole.1, Answer::Report(Report { applied: 3, lines: 19, stopped: None }));
         for cut in 0..=text.len() {
             assert_eq!(after(&[&text[..cut], &text[cut..]]), whole);
         }
@@ -100,7 +100,7 @@ mod tests {
         for end in 0..text.len() {
             let lines = text[..end].iter().filter(|&&byte| byte == b'\n').count() as u64;
             let clean =
-                text[..end].is_empty() || [4, 14].contains(&lines) && text[end - 1] == b'\n';
+                text[..end].is_empty() || [4, 15].contains(&lines) && text[end - 1] == b'\n';
             let Answer::Report(report) = after(&[&text[..end]]).1 else { panic!("a report") };
             assert_eq!(report.stopped, (!clean).then_some((13, lines + 1)));
         }

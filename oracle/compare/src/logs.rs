@@ -7,7 +7,7 @@ use crate::random::Random;
 use crate::script::Script;
 
 /// What may stand in place of a line, with its newline or without.
-const LINES: [&str; 12] = [
+const LINES: [&str; 17] = [
     "",
     "\n",
     "op=insert\r\n",
@@ -19,11 +19,16 @@ const LINES: [&str; 12] = [
     "tank=08\n",
     "tank=18446744073709551616\n",
     "key=65536\n",
+    "cnt=-0\n",
+    "cnt=00\n",
+    "cnt=2147483647\n",
+    "cnt=2147483648\n",
+    "cnt=-2147483649\n",
     "value=-0\n",
 ];
 
 fn mark(value: Value) -> Mark {
-    Mark { id: (7, 1, 9), content: Content { flags: 0x84, value } }
+    Mark { id: (7, 1, 9), content: Content { cnt: i32::MIN, flags: 0x84, value } }
 }
 
 /// Edits of every kind of value, and one that is refused at its last line.

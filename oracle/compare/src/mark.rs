@@ -46,8 +46,10 @@ impl Value {
     }
 }
 
+/// What a mark holds beside its identity; the box's own counter has no part in any order.
 #[derive(Clone, Copy, Debug, PartialEq, Eq)]
 pub struct Content {
+    pub cnt: i32,
     pub flags: u8,
     pub value: Value,
 }

@@ -11,6 +11,7 @@ use original::{join_neighbours, LoroValue};
 use crate::answer::{Aged, Anchor, Answer, Extent, Listed, Range};
 use crate::call::Call;
 use crate::mark::{Content, Id, Mark, Value};
+use crate::strip::{self, Legend, CELLS};
 use crate::tank::Tank;
 use crate::tanks::Tanks;
 
@@ -50,10 +51,12 @@ impl Mirror {
                 self.tanks = fresh(self.joined);
                 return Said::Nothing;
             }
-            // The Rust has no settings, and nothing pending.
-            Call::Settings { .. } | Call::Set { .. } | Call::LogEnd | Call::Range { .. } => {
-                return Said::Nothing
-            }
+            // The Rust has no settings, nothing pending and no legend.
+            Call::Settings { .. }
+            | Call::Set { .. }
+            | Call::LogEnd
+            | Call::Range { .. }
+            | Call::Legend { .. } => return Said::Nothing,
             // Nor has it a log: the tanks leave the comparison.
             Call::Log { .. } => {
                 self.tanks = std::array::from_fn(|_| None);
@@ -75,6 +78,10 @@ impl Mirror {
                 self.tanks[place] = None;
             }
             return Said::Nothing;
+        }
+        if let Call::Strip { start, k, .. } = *call {
+            let told = || Answer::Strip(cells(&original.map, &before.legend, start, k));
+            return quietly(told).map_or_else(Said::Panic, Said::Answer);
         }
         quietly(|| original.answer(tank, call, answer)).unwrap_or_else(Said::Panic)
     }
@@ -126,6 +133,7 @@ pub fn inside(tank: &Tank, call: &Call) -> bool {
         | Call::Stretches { start, end, .. }
         | Call::StretchesNeeded { start, end, .. } => start < end && end < tank.length,
         Call::Insert { len, .. } => len >= 1,
+        Call::Strip { start, k, .. } => strip::end(start, k) < tank.length as u128,
         Call::Age { before, .. } => before < tank.length,
         Call::Remove { id, last, .. } => {
             let after = last + 1;
@@ -149,6 +157,7 @@ pub fn inside(tank: &Tank, call: &Call) -> bool {
         | Call::Log { .. }
         | Call::LogEnd
         | Call::Range { .. }
+        | Call::Legend { .. }
         | Call::Plan { .. }
         | Call::Propose { .. } => false,
     }
@@ -241,6 +250,22 @@ fn planned(map: &mut original::Tank, hold: u16, runs: u64, ranges: &[Range]) -> 
     Answer::Accepted
 }
 
+/// The Rust has no such call: in each cell the winner of a key is asked for at the first position of
+/// each of its elements. A winning null shows nothing, by the corrected rule.
+fn cells(map: &original::Tank, legend: &Legend, start: u64, k: u64) -> [u8; CELLS] {
+    let elements = joined(map.elements());
+    std::array::from_fn(|cell| {
+        let (from, to) = (start + cell as u64 * k, start + (cell as u64 + 1) * k);
+        let within = elements.iter().filter(|(first, end, _)| *first < to && from < *end);
+        let places: Vec<usize> = within.map(|(first, ..)| from.max(*first) as usize).collect();
+        let shows = |key: u16, at: usize| {
+            map.winner(at, key).is_some_and(|mark| mark.value != LoroValue::Null)
+        };
+        let first = legend.iter().find(|(key, _)| places.iter().any(|&at| shows(*key, at)));
+        first.map_or(b'.', |(_, letter)| *letter)
+    })
+}
+
 fn asked(map: &original::Tank, tank: &Tank, call: &Call) -> Said {
     let number = call.tank().expect("a question names a tank");
     Said::Answer(match *call {
@@ -322,14 +347,15 @@ fn listed(stretches: Vec<original::Stretch>) -> Vec<Listed> {
 fn ours(marks: Vec<original::Mark>) -> Vec<Mark> {
     let mark = |mark: original::Mark| Mark {
         id: mark.id,
-        content: Content { flags: mark.flags, value: our_value(&mark.value) },
+        content: Content { cnt: mark.cnt, flags: mark.flags, value: our_value(&mark.value) },
     };
     marks.into_iter().map(mark).collect()
 }
 
 fn theirs(mark: Mark) -> original::Mark {
     let Mark { id, content } = mark;
-    original::Mark { id, flags: content.flags, value: their_value(content.value) }
+    let Content { cnt, flags, value } = content;
+    original::Mark { id, cnt, flags, value: their_value(value) }
 }
 
 fn our_anchor(anchor: original::Anchor) -> Anchor {

@@ -12,7 +12,7 @@ use crate::tank::{Tank, LONGEST, T};
 const HOLD: u16 = 9;
 
 fn mark(key: u16, peer: u64, value: Value) -> Mark {
-    Mark { id: (key, 5, peer), content: Content { flags: 0x84, value } }
+    Mark { id: (key, 5, peer), content: Content { cnt: -(peer as i32), flags: 0x84, value } }
 }
 
 fn annotate(tank: u64, start: u64, end: u64, mark: Mark) -> Call {

@@ -68,6 +68,26 @@ impl Group {
             _ => 0,
         }
     }
+
+    /// What stands behind a field's name; nothing where it is malformed. A letter may be any byte.
+    fn take(&mut self, name: &str, rest: &[u8]) -> Option<()> {
+        if let ("letter", [letter]) = (name, rest) {
+            self.fields.push(Field::Letter(*letter));
+            return Some(());
+        }
+        let text = std::str::from_utf8(rest).ok()?;
+        match name {
+            "letter" => return None,
+            "kind" => {
+                self.kind =
+                    ["null", "bool", "whole", "decimal"].contains(&text).then(|| text.into())?
+            }
+            "value" => self.fields.push(Field::Value(value(&self.kind, text)?)),
+            "cnt" => self.fields.push(Field::Signed(i32::try_from(whole(text)?).ok()?)),
+            _ => self.fields.push(Field::Number(number(text, largest(name))?)),
+        }
+        Some(())
+    }
 }
 
 fn in_body(bytes: &[u8]) -> u64 {
@@ -79,9 +99,10 @@ pub fn taken(group: Option<Group>, line: &[u8]) -> Option<Step> {
     if line.len() > LONGEST_LINE {
         return None;
     }
-    let (name, text) = std::str::from_utf8(line).ok()?.split_once('=')?;
+    let equals = line.iter().position(|&byte| byte == b'=')?;
+    let (name, rest) = (std::str::from_utf8(&line[..equals]).ok()?, &line[equals + 1..]);
     let Some(mut group) = group else {
-        let shape = SHAPES.iter().position(|shape| name == "op" && shape.0 == text)?;
+        let shape = SHAPES.iter().position(|shape| name == "op" && shape.0.as_bytes() == rest)?;
         let fields = Vec::new();
         let group = Group { shape, lines: 0, fields, kind: String::new() };
         let whole = SHAPES[shape].1.is_empty();
@@ -91,14 +112,7 @@ pub fn taken(group: Option<Group>, line: &[u8]) -> Option<Step> {
     if names[group.lines] != name {
         return None;
     }
-    match name {
-        "kind" => {
-            group.kind =
-                ["null", "bool", "whole", "decimal"].contains(&text).then(|| text.into())?
-        }
-        "value" => group.fields.push(Field::Value(value(&group.kind, text)?)),
-        _ => group.fields.push(Field::Number(number(text, largest(name))?)),
-    }
+    group.take(name, rest)?;
     group.lines += 1;
     if group.lines == names.len() {
         return Some(Step::Whole(group));
@@ -111,6 +125,7 @@ fn largest(name: &str) -> u64 {
         "key" | "hold" => u16::MAX as u64,
         "lamport" => u32::MAX as u64,
         "flags" => u8::MAX as u64,
+        "place" => 7,
         "bytes" => LONGEST_BODY,
         _ => u64::MAX,
     }

@@ -6,17 +6,25 @@ use crate::logs;
 use crate::mark::{Content, Id, Mark, Value};
 use crate::plans;
 use crate::sets;
+use crate::strips;
 use crate::tank::{LONGEST, T};
 
 const ID: Id = (1, 5, 1);
 const NAN: Value = Value::Decimal(0x7ff8_0000_0000_0000);
 
 fn mark(number: u64) -> Mark {
-    Mark { id: (1, 5, number), content: Content { flags: 0x84, value: Value::Whole(-1) } }
+    Mark {
+        id: (1, 5, number),
+        content: Content { cnt: -(number as i32), flags: 0x84, value: Value::Whole(-1) },
+    }
 }
 
 fn with(value: Value, flags: u8) -> Mark {
-    Mark { id: ID, content: Content { flags, value } }
+    Mark { id: ID, content: Content { cnt: -1, flags, value } }
+}
+
+fn counted(cnt: i32) -> Mark {
+    Mark { id: ID, content: Content { cnt, ..mark(1).content } }
 }
 
 fn annotate(tank: u64, start: u64, end: u64, mark: Mark) -> Call {
@@ -52,6 +60,7 @@ fn every(tank: u64, start: u64, end: u64) -> Vec<Call> {
         Call::Range { start, end },
         Call::Plan { tank, hold: key, runs: 1 },
         Call::Propose { tank, hold: key, runs: len },
+        Call::Strip { tank, start, k: len, room: 96 },
     ]
 }
 
@@ -186,6 +195,41 @@ fn contents() -> Vec<Call> {
     calls
 }
 
+/// Another counter is another content, and has no part in identity and order.
+fn counters() -> Vec<Call> {
+    let tank = 0;
+    let mut calls = vec![Call::Open { settings: ROOMY }];
+    for cnt in [0, -1, i32::MIN, i32::MAX] {
+        calls.push(annotate(tank, 0, 4, counted(cnt)));
+        for other in [0, 1, -1, i32::MIN, i32::MAX] {
+            calls.push(annotate(tank, 2, 9, counted(other)));
+        }
+        calls.extend([Call::Marks { tank, at: 8 }, Call::Runs { tank }]);
+        calls.push(Call::Insert { tank, at: 3, len: 2 });
+        calls.push(Call::Mark { tank, at: 4, rank: 0 });
+        calls.push(Call::Inherited { tank, at: 4, rank: 0 });
+        calls.push(Call::Same { tank, start: 0, end: 11 });
+        calls.push(Call::Remove { tank, id: ID, last: 10 });
+    }
+    // 7 stands behind 6, 14 and 18.
+    calls.push(annotate(tank, 0, 4, counted(5)));
+    for (value, flags) in [(NAN, 0x84), (Value::Null, 0x41), (Value::Null, 0x82)] {
+        calls.push(annotate(tank, 0, 4, with(value, flags)));
+    }
+    // The counters go down where lamports and peers go up.
+    let later = |lamport: u32, peer: u64, cnt: i32| Mark {
+        id: (1, lamport, peer),
+        content: Content { cnt, flags: 0x84, value: Value::Whole(cnt as i64) },
+    };
+    calls.push(annotate(tank, 1, 3, later(5, 2, 4)));
+    calls.push(annotate(tank, 2, 3, later(6, 0, i32::MIN)));
+    calls.extend((0..4).map(|at| Call::Value { tank, at, key: 1 }));
+    calls.extend((0..4).map(|at| Call::Marks { tank, at }));
+    calls.extend((0..4).map(|rank| Call::Mark { tank, at: 2, rank }));
+    calls.extend([Call::Anchors { tank, room: 9 }, Call::Whole { tank, room: 30 }]);
+    calls
+}
+
 /// Refusal 9 of each edit, and refusal 11 of each list.
 fn limit() -> Vec<Call> {
     let tank = 0;
@@ -247,6 +291,7 @@ fn pool() -> Vec<Call> {
 }
 
 pub fn refusals() -> Vec<Call> {
-    let tanks = [openings(), ranges(), ageings(), longest(), contents(), limit(), pool()];
-    [tanks.concat(), plans::refused(), sets::refused(), logs::refused()].concat()
+    let tanks =
+        [openings(), ranges(), ageings(), longest(), contents(), counters(), limit(), pool()];
+    [tanks.concat(), plans::refused(), sets::refused(), logs::refused(), strips::refused()].concat()
 }

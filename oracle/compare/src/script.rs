@@ -35,13 +35,13 @@ impl Script {
     }
 
     /// Whether it may follow another script in one input: it starts anew and ends between groups.
-    /// An opening leaves the kept sets and the log, so a script that has to do with them goes alone,
-    /// and so does one that leaves ranges pending.
+    /// An opening leaves the kept sets, the log and the legend, so a script that has to do with them
+    /// goes alone, and so does one that leaves ranges pending.
     pub fn joins(&self) -> bool {
         let keeps = |call: &Call| {
             let sets =
                 matches!(call, Call::Settings { .. } | Call::Set { .. } | Call::OpenSet { .. });
-            sets || matches!(call, Call::Log { .. } | Call::LogEnd)
+            sets || matches!(call, Call::Log { .. } | Call::LogEnd | Call::Legend { .. })
         };
         let mut plans = self.calls.iter().rev();
         let last = plans.find(|call| matches!(call, Call::Range { .. } | Call::Plan { .. }));

@@ -119,7 +119,7 @@ fn asked(last: u64) -> impl Iterator<Item = Call> {
 
 /// Edits that meet each tank's limit, then what the tanks hold.
 fn limits() -> impl Iterator<Item = Call> {
-    let mark = Mark { id: (1, 5, 1), content: Content { flags: 0x84, value: Value::Null } };
+    let mark = Mark { id: (1, 5, 1), content: Content { cnt: 0, flags: 0x84, value: Value::Null } };
     let edit = move |(tank, place): (u64, u64)| {
         let start = 2 * place;
         Call::Annotate { tank, start, end: start + 1, mark }

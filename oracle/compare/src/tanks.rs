@@ -6,6 +6,7 @@ use crate::call::{Call, Settings};
 use crate::log::Log;
 use crate::mark::{listed, Mark, Set};
 use crate::settings::{self, Kept};
+use crate::strip::{self, Legend};
 use crate::tank::{self, Tank, LONGEST};
 
 /// Runs in all.
@@ -30,6 +31,7 @@ pub struct Tanks {
     pub log: Log,
     /// The ranges of the next plan; no more than `PENDING` are counted.
     pub pending: Vec<Range>,
+    pub legend: Legend,
 }
 
 impl Default for Tanks {
@@ -40,6 +42,7 @@ impl Default for Tanks {
             kept: Kept::default(),
             log: Log::default(),
             pending: Vec::new(),
+            legend: strip::FIRST,
         }
     }
 }
@@ -74,6 +77,10 @@ impl Tanks {
                 return self.kept.set(*number).map_or(Ok(Answer::None), |set| self.open(set))
             }
             Call::Range { start, end } => return Ok(self.range(*start, *end)),
+            Call::Legend { place, key, letter } => {
+                self.legend[*place as usize] = (*key, *letter);
+                return Ok(Answer::Accepted);
+            }
             Call::Plan { tank, hold, runs } => return self.plan(*tank, *hold, *runs),
             _ => {}
         }
@@ -246,12 +253,18 @@ impl Tanks {
                 position(at)?;
                 Answer::Extent(tank.find(at))
             }
+            Call::Strip { start, k, room, .. } => {
+                refuse_if(k == 0, 3)?;
+                refuse_if(room < strip::CELLS as u64, 11)?;
+                Answer::Strip(strip::cells(tank, &self.legend, start, k))
+            }
             Call::Propose { hold, runs, .. } => {
                 tank.proposed(hold, runs).map_or(Answer::None, Answer::Plan)
             }
             Call::Open { .. }
             | Call::Range { .. }
             | Call::Plan { .. }
+            | Call::Legend { .. }
             | Call::Settings { .. }
             | Call::Set { .. }
             | Call::OpenSet { .. }

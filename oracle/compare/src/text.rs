@@ -6,7 +6,7 @@ use crate::random::Random;
 use crate::script::Script;
 
 /// Lines that are malformed wherever they stand, or only where another is wanted.
-const LINES: [&str; 49] = [
+const LINES: [&str; 64] = [
     "",
     "op",
     "op=",
@@ -35,6 +35,10 @@ const LINES: [&str; 49] = [
     "lamport=4294967296",
     "flags=255",
     "flags=256",
+    "cnt=-2147483648",
+    "cnt=-0",
+    "cnt=2147483647",
+    "cnt=2147483648",
     "kind=Null",
     "kind=float",
     "bytes=0",
@@ -46,6 +50,17 @@ const LINES: [&str; 49] = [
     "hold=65535",
     "hold=65536",
     "runs=18446744073709551616",
+    "place=0",
+    "place=7",
+    "place=8",
+    "place=07",
+    "letter=",
+    "letter=a",
+    "letter==",
+    "letter=ab",
+    "letter=é",
+    "letter=\r",
+    "k=18446744073709551616",
     "value=0",
     "value=2",
     "value=-0",

@@ -5,8 +5,9 @@ use std::collections::BTreeSet;
 
 use compare::answer::Range;
 use compare::author::{identity, usual};
-use compare::mark::{Id, Mark, Value};
+use compare::mark::{Content, Id, Mark, Value};
 use compare::random::Random;
+use compare::strip::{self, Legend, CELLS};
 use compare::tank::{Tank, RANGES, T};
 
 type Positions = Vec<BTreeSet<Id>>;
@@ -262,5 +263,57 @@ fn a_comb_is_thinned_as_far_as_32_ranges_go() {
             let expected = least.map(|below| of_numbers(&unheld(&all, 3, below)));
             assert_eq!(tank.proposed(3, runs as u64), expected);
         }
+    }
+}
+
+/// The letter of the first key that some position of a cell shows, by looking at each position.
+fn cell(all: &Positions, legend: &Legend, from: usize, k: usize) -> u8 {
+    let winner = |at: usize, key: u16| all[at].iter().filter(|id| id.0 == key).max().copied();
+    let shows =
+        |at: usize, key: u16| winner(at, key).is_some_and(|id| usual(id).value != Value::Null);
+    let mut places = legend.iter();
+    let first =
+        places.find(|(key, _)| (from..from + k).any(|at| at < all.len() && shows(at, *key)));
+    first.map_or(b'.', |(_, letter)| *letter)
+}
+
+#[test]
+fn strips_mean_positions() {
+    let mut lettered = 0;
+    for seed in 0..200 {
+        let mut random = Random::new(seed);
+        let (mut tank, mut all) = short(&mut random);
+        let legend: Legend =
+            std::array::from_fn(|place| (random.below(6) as u16, b'a' + place as u8));
+        for _ in 0..20 {
+            edit(&mut random, &mut tank, &mut all);
+            for (start, k) in (0..8).flat_map(|start| [1, 2, 3, 5, 60].map(|k| (start, k))) {
+                let told = strip::cells(&tank, &legend, start as u64, k as u64);
+                let expected = std::array::from_fn(|at| cell(&all, &legend, start + at * k, k));
+                assert_eq!(told, expected);
+                lettered += (told != [b'.'; CELLS]) as u64;
+            }
+        }
+    }
+    assert!(lettered > 1000, "{lettered} strips had a letter");
+}
+
+/// A null, which `usual` gives few marks, and the sums that pass 64 bits.
+#[test]
+fn a_null_shows_nothing_and_nothing_comes_again_past_64_bits() {
+    let mut tank = Tank::default();
+    let mark = |lamport, value| Mark {
+        id: (3, lamport, 1),
+        content: Content { cnt: 0, flags: 0x84, value },
+    };
+    tank.annotate(0, 4, mark(1, Value::Bool(false)));
+    tank.annotate(2, 4, mark(2, Value::Null));
+    let told = |start, k| strip::cells(&tank, &strip::FIRST, start, k);
+    assert!(told(0, 1).starts_with(b"33.."));
+    assert!(told(2, 2).starts_with(b".."));
+    for (start, k) in [(0, u64::MAX), (1, 1 << 63), (0, 1 << 62), (u64::MAX, 1), (1 << 63, 1 << 63)]
+    {
+        let letters = told(start, k).iter().filter(|cell| **cell != b'.').count();
+        assert_eq!(letters, (start < 2) as usize, "{start} {k}");
     }
 }

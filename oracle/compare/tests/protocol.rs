@@ -1,5 +1,6 @@
 //! The console's lines: what is written is read back, and what is malformed is named.
 
+use compare::answer::Answer;
 use compare::call::{Call, SHAPES};
 use compare::classes::CLASSES;
 use compare::reader::read;
@@ -107,4 +108,54 @@ fn a_hold_key_has_16_bits_and_runs_have_64() {
     assert_eq!(malformed("65536", "1"), Some(3));
     assert_eq!(malformed("0", "18446744073709551616"), Some(4));
     assert_eq!(read(b"op=range\nstart=1\nend=0\n").calls, [Call::Range { start: 1, end: 0 }]);
+}
+
+#[test]
+fn a_letter_is_any_byte_but_a_newline_and_a_place_is_0_to_7() {
+    let group = |place: &str, letter: &[u8]| {
+        [format!("op=legend\nplace={place}\nkey=65535\nletter=").as_bytes(), letter, b"\n"].concat()
+    };
+    for byte in (0..=255).filter(|byte| *byte != b'\n') {
+        let call = Call::Legend { place: 7, key: u16::MAX, letter: byte };
+        assert_eq!(call.text(), group("7", &[byte]));
+        assert_eq!(read(&call.text()).calls, [call]);
+    }
+    assert_eq!(read(&group("8", b"a")).malformed, Some(2));
+    assert_eq!(read(&group("00", b"a")).malformed, Some(2));
+    assert_eq!(read(&group("0", b"")).malformed, Some(4));
+    assert_eq!(read(&group("0", b"\n")).malformed, Some(4));
+    assert_eq!(read(&group("0", b"ab")).malformed, Some(4));
+    assert_eq!(read(&group("0", "é".as_bytes())).malformed, Some(4));
+}
+
+#[test]
+fn a_strip_is_written_as_its_96_bytes() {
+    let cells: [u8; 96] = std::array::from_fn(|cell| 200 + cell as u8 % 50);
+    let bytes = Answer::Strip(cells).bytes();
+    assert_eq!(bytes, [b"strip=", &cells[..], b"\n"].concat());
+}
+
+#[test]
+fn a_counter_has_32_bits_and_a_sign() {
+    let group = |cnt: &str| {
+        format!(
+            "op=annotate\ntank=0\nstart=0\nend=1\nkey=1\nlamport=2\npeer=3\ncnt={cnt}\nflags=132\nkind=null\nvalue=\n"
+        )
+    };
+    for cnt in [0, 1, -1, i32::MAX, i32::MIN] {
+        let read = read(group(&cnt.to_string()).as_bytes());
+        let [Call::Annotate { mark, .. }] = read.calls[..] else { panic!("an annotate") };
+        assert_eq!(mark.content.cnt, cnt);
+        assert_eq!(read.calls[0].text(), group(&cnt.to_string()).into_bytes());
+        let lines = Answer::Mark(mark).to_string();
+        assert_eq!(
+            lines,
+            format!("key=1\nlamport=2\npeer=3\ncnt={cnt}\nflags=132\nkind=null\nvalue=\n")
+        );
+    }
+    for cnt in ["", "-", "-0", "00", "+1", "2147483648", "-2147483649", "4294967295", "1 "] {
+        assert_eq!(read(group(cnt).as_bytes()).malformed, Some(8), "{cnt}");
+    }
+    let old = group("0").replace("cnt=0\n", "");
+    assert_eq!(read(old.as_bytes()).malformed, Some(8));
 }

@@ -13,7 +13,7 @@ use compare::mirror::hush;
 use compare::script::Script;
 use compare::shrink::shrink;
 use compare::tally::Tally;
-use compare::{cases, logs, plans, refusals, sets, text};
+use compare::{cases, counters, logs, plans, refusals, sets, strips, text};
 
 const USE: &str = "\
 compare CONSOLE [--quick | --long] [--seeds A..B] [--calls N] [--only CLASS | --without CLASS]
@@ -27,7 +27,7 @@ CONSOLE       the console to compare: call scripts in, answers out
 --seeds A..B  random scripts with these seeds, in place of the round's own
 --calls N     so many calls in a random script, in place of the round's own
 --only CLASS  one class alone: a class of random scripts, or cases, refusals, settings,
-              logs, planned, text, exhaust
+              logs, planned, letters, counters, text, exhaust
 --without CLASS
               all classes but one
 
@@ -138,6 +138,8 @@ impl Round {
         part("settings", &mut sets::scripts().into_iter())?;
         part("logs", &mut logs::scripts().into_iter())?;
         part("planned", &mut plans::scripts())?;
+        part("letters", &mut std::iter::once(fixed("letters", strips::letters())))?;
+        part("counters", &mut counters::scripts())?;
         for class in &CLASSES {
             part(class.name, &mut self.seeds.clone().map(|seed| class.script(seed, self.calls)))?;
         }

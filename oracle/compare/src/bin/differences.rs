@@ -47,11 +47,11 @@ fn show(name: &str, rules: String, rust: String) {
 }
 
 fn our_mark(id: Id) -> Mark {
-    Mark { id, content: Content { flags: 0x84, value: Value::Bool(true) } }
+    Mark { id, content: Content { cnt: 0, flags: 0x84, value: Value::Bool(true) } }
 }
 
 fn mark(id: Id) -> original::Mark {
-    original::Mark { id, flags: 0x84, value: LoroValue::Bool(true) }
+    original::Mark { id, cnt: 0, flags: 0x84, value: LoroValue::Bool(true) }
 }
 
 fn annotate(start: u64, end: u64, id: Id) -> Call {
@@ -294,7 +294,7 @@ fn anchors() {
 }
 
 fn contents() {
-    let other = Mark { id: A, content: Content { flags: 0x84, value: Value::Bool(false) } };
+    let other = Mark { id: A, content: Content { cnt: 0, flags: 0x84, value: Value::Bool(false) } };
     let theirs = original::Mark { value: LoroValue::Bool(false), ..mark(A) };
     let second = Call::Annotate { tank: 0, start: 3, end: 9, mark: other };
     show(
@@ -306,7 +306,18 @@ fn contents() {
             [4, 8].map(|at| tank.winner(at, 1).map(|mark| mark.value))
         }),
     );
-    let nan = Content { flags: 0x84, value: Value::Decimal(f64::NAN.to_bits()) };
+    let counted = Mark { id: A, content: Content { cnt: 1, ..our_mark(A).content } };
+    let second = Call::Annotate { tank: 0, start: 3, end: 9, mark: counted };
+    show(
+        "A with cnt 0 on 0..5, A with cnt 1 on 3..9: counters at 4 and at 8",
+        rules(&[annotate(0, 5, A), second]),
+        rust(|tank| {
+            tank.annotate(0..5, &mark(A));
+            tank.annotate(3..9, &original::Mark { cnt: 1, ..mark(A) });
+            [4, 8].map(|at| tank.winner(at, 1).map(|mark| mark.cnt))
+        }),
+    );
+    let nan = Content { cnt: 0, flags: 0x84, value: Value::Decimal(f64::NAN.to_bits()) };
     let call = Call::Annotate { tank: 0, start: 0, end: 5, mark: Mark { id: A, content: nan } };
     show(
         "A with a NaN on 0..5: the value at 0",

@@ -80,7 +80,7 @@ fn page() -> String {
 
 fn annotate(text: &mut String, house: &mut [Tank; 8], tank: usize, range: Range<usize>, key: u16) {
     let Range { start, end } = range;
-    let mark = Mark { id: (key, 5, 1), flags: 0x84, value: LoroValue::Bool(true) };
+    let mark = Mark { id: (key, 5, 1), cnt: 0, flags: 0x84, value: LoroValue::Bool(true) };
     house[tank].annotate(start..end, &mark);
     writeln!(text, "annotate tank={tank} start={start} end={end} key={key} number=0").unwrap();
 }

@@ -24,10 +24,10 @@ fn main() -> io::Result<()> {
     let mut input = Vec::new();
     io::stdin().lock().read_to_end(&mut input)?;
     let mut output = BufWriter::new(io::stdout().lock());
-    let read = reader::read(&input);
     let mut console = Faulty::new(fault);
+    let read = reader::read(&console.misread(input));
     for call in &read.calls {
-        write!(output, "{}", console.call(call))?;
+        output.write_all(&console.call(call).bytes())?;
     }
     if let Some(line) = read.malformed {
         writeln!(output, "malformed={}", console.malformed(line, &read.calls))?;

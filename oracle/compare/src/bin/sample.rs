@@ -19,7 +19,7 @@ use compare::settings::text_of;
 use compare::tally::Tally;
 
 /// How many scripts of each class stand in the sample, and how many calls each has.
-const SHARE: [(&str, u64, usize); 10] = [
+const SHARE: [(&str, u64, usize); 11] = [
     ("inside", 5, 150),
     ("dense", 4, 120),
     ("short", 3, 120),
@@ -30,6 +30,7 @@ const SHARE: [(&str, u64, usize); 10] = [
     ("many", 1, 30),
     ("wild", 1, 160),
     ("plans", 2, 150),
+    ("strips", 1, 200),
 ];
 
 /// The seed of the first script of each class.
@@ -77,13 +78,13 @@ fn malformed() -> Script {
 
 fn write(folder: &Path, name: &str, script: &Script, tally: &mut Tally) {
     let expected = answers(0, script, tally).unwrap_or_else(|found| panic!("{found:?}"));
-    let mut output = String::new();
+    let mut output = Vec::new();
     for entry in &expected {
-        output += &entry.answer;
+        output.extend(&entry.answer);
         tally.count(entry.kind.clone(), entry.rust);
     }
     tally.scripts += 1;
-    output += &script.ending();
+    output.extend(script.ending().bytes());
     fs::create_dir_all(folder).expect("a folder to write to");
     fs::write(folder.join(format!("{name}.calls")), script.text()).expect("the calls");
     fs::write(folder.join(format!("{name}.answers")), output).expect("the answers");
@@ -150,5 +151,7 @@ fn wanted() -> Vec<&'static str> {
         "plan: accepted",
         "propose: a plan",
         "propose: none",
+        "legend: accepted",
+        "strip: a strip",
     ]
 }

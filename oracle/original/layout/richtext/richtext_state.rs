@@ -8,7 +8,7 @@ use std::sync::Arc;
 use loro_common::LoroValue;
 
 use super::config::{StyleConfig, StyleConfigMap};
-use super::style_range_map::{StyleRangeMap, Styles};
+use super::style_range_map::{StyleRangeMap, StyleValue, Styles};
 use super::{AnchorType, StyleKey, StyleOp, TextStyleInfoFlag};
 
 #[derive(Debug)]
@@ -20,6 +20,7 @@ pub type Id = (u16, u32, u64);
 #[derive(Debug, Clone, PartialEq)]
 pub struct Mark {
     pub id: Id,
+    pub cnt: i32,
     pub flags: u8,
     pub value: LoroValue,
 }
@@ -41,7 +42,7 @@ pub fn op(mark: &Mark) -> Arc<StyleOp> {
     Arc::new(StyleOp {
         lamport: mark.id.1,
         peer: mark.id.2,
-        cnt: 0,
+        cnt: mark.cnt,
         key: mark.id.0.to_string().into(),
         value: mark.value.clone(),
         info: TextStyleInfoFlag::from_byte(mark.flags),
@@ -57,7 +58,7 @@ fn id_of(op: &StyleOp) -> Id {
 }
 
 fn mark_of(op: &StyleOp) -> Mark {
-    Mark { id: id_of(op), flags: op.info.to_byte(), value: op.value.clone() }
+    Mark { id: id_of(op), cnt: op.cnt, flags: op.info.to_byte(), value: op.value.clone() }
 }
 
 /// The original's map, and every mark that was ever handed to it.
@@ -73,8 +74,9 @@ impl Tank {
     }
 
     /// The marks of a set, by key, lamport, peer. The original shows only the last one of a key
-    /// (`get`), so each known mark is put into a copy: the copy stays equal exactly where the
-    /// mark was there, with this content.
+    /// (`get`), so each known mark is put into a copy, which stays equal exactly where one of its
+    /// identity was there. The set made anew of them has to be equal too: that looks at every
+    /// field of an op, its counter among them.
     fn marks(&self, styles: &Styles) -> Vec<Mark> {
         let carried = |op: &&Arc<StyleOp>| match styles.get(&op.get_style_key()) {
             Some(set) => {
@@ -84,9 +86,14 @@ impl Tank {
             }
             None => false,
         };
-        let marks: Vec<Mark> = self.known.values().filter(carried).map(|op| mark_of(op)).collect();
-        debug_assert_eq!(format!("{styles:?}").matches("StyleOp {").count(), marks.len());
-        marks
+        let ops: Vec<&Arc<StyleOp>> = self.known.values().filter(carried).collect();
+        for (key, set) in styles.iter() {
+            let mut anew = StyleValue::default();
+            let of_key = ops.iter().filter(|op| op.get_style_key() == *key);
+            of_key.for_each(|op| anew.insert((*op).clone()));
+            assert!(anew == *set, "{set:?} holds another mark than was handed to it");
+        }
+        ops.into_iter().map(|op| mark_of(op)).collect()
     }
 
     pub fn annotate(&mut self, range: Range<usize>, mark: &Mark) {
@@ -106,7 +113,7 @@ impl Tank {
 
     /// The original looks for an equal lamport and peer under the key, so any content will do.
     pub fn remove(&mut self, id: Id, last: usize) -> usize {
-        let op = op(&Mark { id, flags: 0, value: LoroValue::Null });
+        let op = op(&Mark { id, cnt: 0, flags: 0, value: LoroValue::Null });
         self.map.remove_style_scanning_backward(&op, last)
     }
 
