@@ -13,11 +13,11 @@ pub struct OriginalSide;
 
 fn mark(number: u64) -> Arc<StyleOp> {
     let id = (number as u16 + 1, number as u32 + 10, 1);
-    op(&Mark { id, flags: 0x84, value: LoroValue::I64(number as i64 + 1) })
+    op(&Mark { id, cnt: 0, flags: 0x84, value: LoroValue::I64(number as i64 + 1) })
 }
 
 fn extra() -> Arc<StyleOp> {
-    op(&Mark { id: (EXTRA, 1, 1), flags: 0x84, value: LoroValue::Null })
+    op(&Mark { id: (EXTRA, 1, 1), cnt: 0, flags: 0x84, value: LoroValue::Null })
 }
 
 /// The tank that the work starts from.
