@@ -1,8 +1,10 @@
 -- A call is performed as one of its op.
 use mathlib.Core.Path.{_≡_, refl, sym, ap, subst, _∙_}
-use mathlib.Core.List.{List}
+use mathlib.Core.Bool.{true, false, false≢true, true≢false}
+use mathlib.Core.List.{List, []}
 use Prim.Native.Nat.{ℕ}
 use Rattle.tanks.specs.declared.Tanks.{Tanks}
+use Rattle.tanks.specs.House.{House}
 use Rattle.tanks.specs.Pool.{meaning, Sound}
 use Rattle.script.specs.declared.Both.{Both}
 use Rattle.script.specs.declared.Call.{Call}
@@ -18,7 +20,7 @@ use Rattle.clerk.specs.declared.Done.{Done}
 use Rattle.clerk.specs.declared.Moved.{Moved}
 use Rattle.clerk.specs.declared.Noted.{Noted}
 use Rattle.clerk.specs.declared.Side.{Side}
-use Rattle.clerk.specs.Calls.{answerSays, listingSays, Changes}
+use Rattle.clerk.specs.Calls.{answerSays, listingSays, asking, askingSays, Changes}
 use Rattle.clerk.specs.Desk.{Settled, textHouse, textSide, textSays, deskSide, deskSays, bothHouse, bothSide, bothSays, afterOp, sideAfter, saysOf, Notes, Moves, Performs}
 
 -- ---- The arms of each group
@@ -34,6 +36,14 @@ module _ (s : Tanks) (c : Call) {d out : List ℕ} {at : ℕ} where
   -- of `listed`
   pub as-listed : {k : ℕ} {l m : Listing} → l ≡ m → Adds d at (listingSays m (meaning s) c) k out → Adds d at (listingSays l (meaning s) c) k out
   as-listed {k} e p = subst (λ (o : Listing). Adds d at (listingSays o (meaning s) c) k out) (sym e) p
+
+-- of `told`
+pub as-told : (s : Tanks) (c : Call) {d out : List ℕ} {at k : ℕ} {op o : Op} → op ≡ o → Adds d at (askingSays o (meaning s) c) k out → Adds d at (askingSays op (meaning s) c) k out
+as-told s c {d} {out} {at} {k} e p = subst (λ (o : Op). Adds d at (askingSays o (meaning s) c) k out) (sym e) p
+
+-- and where nothing is asked
+pub untold : (s : Tanks) (c : Call) {d : List ℕ} {at : ℕ} {op o : Op} → op ≡ o → askingSays o (meaning s) c ≡ [] → Adds d at (askingSays op (meaning s) c) at d
+untold s c {d} {at} {op} {o} e none = as-told s c e (subst (λ (p : Pieces). Adds d at p at d) (sym none) (no-piece d at))
 
 -- of `take_text`
 pub as-text : (s : Tanks) (side : Side) (c : Call) (body : List ℕ) {d out : List ℕ} {at : ℕ} {r : Moved} {x y : Text} → x ≡ y
@@ -61,15 +71,19 @@ module _ (s : Tanks) (side : Side) (c : Call) (body : List ℕ) {d out : List �
   unfolding afterOp sideAfter saysOf
   changes e kept p = as-op e (record { sound = p .sound; settled = kept; is = p .is; keeps = refl; answer = p .answer })
 
-  -- a question leaves all as it was
-  pub asked : {k : ℕ} {q : Question} → c .op ≡ Op.Question q → Sound s → Settled side → Adds d at (answerSays q (meaning s) c) k out → Performs (c .op) s side c body d at (record { tanks = s; side = side; at = k }) out
-  unfolding afterOp sideAfter saysOf
-  asked e ok kept says = as-op e (record { sound = ok; settled = kept; is = refl; keeps = refl; answer = says })
+  -- what only asks leaves all as it was
+  only-asks : {k : ℕ} (op : Op) → asking op ≡ true → Sound s → Settled side → Adds d at (askingSays op (meaning s) c) k out → Performs op s side c body d at (record { tanks = s; side = side; at = k }) out
+  unfolding afterOp sideAfter saysOf asking askingSays
+  only-asks Op.Nothing e ok kept says = absurd (false≢true e)
+  only-asks (Op.Change x) e ok kept says = absurd (false≢true e)
+  only-asks (Op.Question q) e ok kept says = record { sound = ok; settled = kept; is = refl; keeps = refl; answer = says }
+  only-asks (Op.Listing l) e ok kept says = record { sound = ok; settled = kept; is = refl; keeps = refl; answer = says }
+  only-asks (Op.Text x) e ok kept says = absurd (false≢true e)
+  only-asks (Op.Desk x) e ok kept says = absurd (false≢true e)
+  only-asks (Op.Both b) e ok kept says = absurd (false≢true e)
 
-  -- and so does one for a list
-  pub listed : {k : ℕ} {l : Listing} → c .op ≡ Op.Listing l → Sound s → Settled side → Adds d at (listingSays l (meaning s) c) k out → Performs (c .op) s side c body d at (record { tanks = s; side = side; at = k }) out
-  unfolding afterOp sideAfter saysOf
-  listed e ok kept says = as-op e (record { sound = ok; settled = kept; is = refl; keeps = refl; answer = says })
+  pub told : {k : ℕ} → asking (c .op) ≡ true → Sound s → Settled side → Adds d at (askingSays (c .op) (meaning s) c) k out → Performs (c .op) s side c body d at (record { tanks = s; side = side; at = k }) out
+  told e = only-asks (c .op) e
 
   -- a text
   pub texted : {r : Moved} {x : Text} → c .op ≡ Op.Text x → Moves (textHouse x (meaning s) side c body) (textSide x (meaning s) side c body) (textSays x (meaning s) side c body) d at r out → Performs (c .op) s side c body d at r out
@@ -82,11 +96,24 @@ module _ (s : Tanks) (side : Side) (c : Call) (body : List ℕ) {d out : List �
   noted e ok p = as-op e (record { sound = ok; settled = p .settled; is = refl; keeps = p .is; answer = p .answer })
 
   -- what has to do with both
-  pub moved : {r : Moved} {b : Both} → c .op ≡ Op.Both b → Moves (bothHouse b (meaning s) side c) (bothSide b (meaning s) side c) (bothSays b (meaning s) side c) d at r out → Performs (c .op) s side c body d at r out
+  pub both : {r : Moved} {b : Both} → c .op ≡ Op.Both b → Moves (bothHouse b (meaning s) side c) (bothSide b (meaning s) side c) (bothSays b (meaning s) side c) d at r out → Performs (c .op) s side c body d at r out
   unfolding afterOp sideAfter saysOf
-  moved e p = as-op e p
+  both e p = as-op e p
+
+-- what a call hands back, by its parts
+pub as-moved : {house : House} {side : Side} {says : Pieces} {d out : List ℕ} {at : ℕ} {r q : Moved} → r ≡ q → Moves house side says d at q out → Moves house side says d at r out
+as-moved {house} {side} {says} {d} {out} {at} e p = subst (λ (x : Moved). Moves house side says d at x out) (sym e) p
 
 -- where no op is named nothing is done, and nothing said
 pub none : (s : Tanks) (side : Side) (c : Call) (body d : List ℕ) (at : ℕ) → c .op ≡ Op.Nothing → Sound s → Settled side → Performs (c .op) s side c body d at (record { tanks = s; side = side; at = at }) d
 unfolding afterOp sideAfter saysOf
 none s side c body d at e ok kept = as-op s side c body e (record { sound = ok; settled = kept; is = refl; keeps = refl; answer = no-piece d at })
+
+-- an op that asks is none of the others
+pub no-question : {op : Op} {q : Question} → op ≡ Op.Question q → asking op ≡ false → {P : Type 0} → P
+unfolding asking
+no-question e n = absurd (true≢false (sym (ap asking e) ∙ n))
+
+pub no-listing : {op : Op} {l : Listing} → op ≡ Op.Listing l → asking op ≡ false → {P : Type 0} → P
+unfolding asking
+no-listing e n = absurd (true≢false (sym (ap asking e) ∙ n))

@@ -1,5 +1,6 @@
 -- What a call that has to do with the tanks alone does to them, and what it answers: a row for each op.
 use mathlib.Core.Path.{_≡_}
+use mathlib.Core.Bool.{Bool, true, false}
 use mathlib.Core.List.{List, [], _∷_, _++_}
 use Prim.Native.Nat.{ℕ, _+_}
 use lib.ListN.{length}
@@ -18,6 +19,7 @@ use Rattle.ask.specs.Asks.{askAt, valueAsked, marksAsked, markAsked, stretchAsk
 use Rattle.script.specs.declared.Call.{Call}
 use Rattle.script.specs.declared.Change.{Change}
 use Rattle.script.specs.declared.Listing.{Listing}
+use Rattle.script.specs.declared.Op.{Op}
 use Rattle.script.specs.declared.Question.{Question}
 use Rattle.script.specs.Args.{numberAt, keyAt, markOf, identityOf}
 use Rattle.text.specs.Bytes.{bytes}
@@ -121,6 +123,27 @@ listingSays Listing.StretchesNeeded h c = neededSays (rangeNeededAsked h (tankFo
 listingSays Listing.Whole h c = wholeSays h (tankFor c) (numberAt c 1)
 listingSays Listing.WholeNeeded h c = neededSays (wholeNeededAsked h (tankFor c))
 listingSays Listing.Anchors h c = askAt h (tankFor c) (refusedSays 1) (λ v. orRefused (anchorsNumber (numberAt c 1) v) (allAnchorsSay v))
+
+-- ---- Any op
+-- does it only ask?
+unfoldable pub asking : Op → Bool
+asking Op.Nothing = false
+asking (Op.Change e) = false
+asking (Op.Question q) = true
+asking (Op.Listing l) = true
+asking (Op.Text x) = false
+asking (Op.Desk d) = false
+asking (Op.Both b) = false
+
+-- what is answered by those that do; the others are not among these
+unfoldable pub askingSays : Op → House → Call → Pieces
+askingSays Op.Nothing h c = []
+askingSays (Op.Change e) h c = []
+askingSays (Op.Question q) h c = answerSays q h c
+askingSays (Op.Listing l) h c = listingSays l h c
+askingSays (Op.Text x) h c = []
+askingSays (Op.Desk d) h c = []
+askingSays (Op.Both b) h c = []
 
 -- a call that changes the tanks: the next state, and its answer behind what waits
 pub record Changes (e : Change) (s : Tanks) (c : Call) (buffer : List ℕ) (at : ℕ) (r : Done) (out : List ℕ) : Type 0 where

@@ -14,8 +14,8 @@ ghost use Rattle.script.specs.Lines.{stateOf};
 ghost use Rattle.script.specs.Bodies.{Fits};
 ghost use Rattle.tanks.specs.Pool.{Sound, meaning};
 ghost use Rattle.answers.specs.Waiting.{Adds, pieceRoom};
-ghost use Rattle.clerk.specs.Calls.{answerSays, listingSays, Changes};
-ghost use Rattle.clerk.specs.Desk.{emptySide, Settled, textHouse, textSide, textSays, deskSide, deskSays, bothHouse, bothSide, bothSays, Notes, Moves};
+ghost use Rattle.clerk.specs.Calls.{answerSays, listingSays, asking, askingSays, Changes};
+ghost use Rattle.clerk.specs.Desk.{emptySide, Settled, textHouse, textSide, textSays, deskSide, deskSays, bothHouse, bothSide, bothSays, Notes, Moves, Performs};
 ghost use Rattle.clerk.specs.Course.{malformedSays, Eats, Closes, Reads, Runs, RunsWhole};
 use answers::say;
 use edits::aged;
@@ -111,6 +111,16 @@ pub fn standing(tanks: Tanks, inlet: Inlet, side: Side, at: usize, over: bool) -
     Eaten {
         tanks: tanks,
         stand: stand,
+    }
+}
+
+fn moving(tanks: Tanks, side: Side, at: usize) -> Moved
+    ensures { λ r. ⌜ r ≡ record { tanks = tanks; side = side; at = at } ⌝ }
+{
+    Moved {
+        tanks: tanks,
+        side: side,
+        at: at,
     }
 }
 
@@ -240,6 +250,66 @@ fn on_both(s: Tanks, side: Side, b: Both, call: Call, out: &mut [u8], at: usize)
     }
 }
 
+// Does a call only ask?
+fn asks(call: Call) -> bool
+    ensures { λ r. ⌜ r ≡ asking (call .op) ⌝ }
+{
+    let op = call.op;
+    match op {
+        Op::Nothing => false,
+        Op::Change(_) => false,
+        Op::Question(_) => true,
+        Op::Listing(_) => true,
+        Op::Text(_) => false,
+        Op::Desk(_) => false,
+        Op::Both(_) => false,
+    }
+}
+
+// One that only asks: its answer, and no state is handed back.
+fn told(s: Tanks, call: Call, out: &mut [u8], at: usize) -> usize
+    requires { ⌜ Sound s ⌝ }
+    requires { ⌜ pieceRoom ≤ length (now out) ⌝ }
+    ensures { λ k. ⌜ Adds (now (out .entry)) at (askingSays (call .op) (meaning s) call) k (now (out .exit)) ⌝ }
+{
+    let op = call.op;
+    match op {
+        Op::Nothing => at,
+        Op::Change(_) => at,
+        Op::Question(q) => answer(s, q, call, out, at),
+        Op::Listing(l) => listed(s, l, call, out, at),
+        Op::Text(_) => at,
+        Op::Desk(_) => at,
+        Op::Both(_) => at,
+    }
+}
+
+// Any other, with the body behind it where it has one.
+fn perform(s: Tanks, side: Side, call: Call, body: &[u8], out: &mut [u8], at: usize) -> Moved
+    requires { ⌜ (Sound s) × Settled side × (asking (call .op) ≡ false) ⌝ }
+    requires { ⌜ pieceRoom ≤ length (now out) ⌝ }
+    ensures { λ r. ⌜ Performs (call .op) s side call (now (body .entry)) (now (out .entry)) at r (now (out .exit)) ⌝ }
+{
+    let op = call.op;
+    match op {
+        Op::Nothing => moving(s, side, at),
+        Op::Change(e) => {
+            let d = change(s, e, call, out, at);
+            let changed = d.tanks;
+            moving(changed, side, d.at)
+        }
+        Op::Question(_) => moving(s, side, at),
+        Op::Listing(_) => moving(s, side, at),
+        Op::Text(x) => take_text(s, side, x, call, body, out, at),
+        Op::Desk(d) => {
+            let n = at_desk(side, d, call, out, at);
+            let kept = n.side;
+            moving(s, kept, n.at)
+        }
+        Op::Both(b) => on_both(s, side, b, call, out, at),
+    }
+}
+
 // The number of the line at which the run ends.
 fn put_bad(out: &mut [u8], at: usize, r: Reader) -> usize
     requires { ⌜ pieceRoom ≤ length (now out) ⌝ }
@@ -274,44 +344,16 @@ pub fn eat(bytes: &[u8], s: Tanks, stand: Stand, body: &mut [u8], out: &mut [u8]
             }
             Event::Call => {
                 let call = t.call;
-                let op = call.op;
-                match op {
-                    Op::Nothing => {}
-                    Op::Change(e) => {
-                        let d = change(tanks, e, call, out, at);
-                        let changed = d.tanks;
-                        tanks = changed;
-                        at = d.at;
-                    }
-                    Op::Question(q) => {
-                        at = answer(tanks, q, call, out, at);
-                    }
-                    Op::Listing(l) => {
-                        at = listed(tanks, l, call, out, at);
-                    }
-                    Op::Text(x) => {
-                        let size = t.size;
-                        let d = take_text(tanks, side, x, call, &body[..size], out, at);
-                        let next = d.tanks;
-                        tanks = next;
-                        let kept = d.side;
-                        side = kept;
-                        at = d.at;
-                    }
-                    Op::Desk(k) => {
-                        let d = at_desk(side, k, call, out, at);
-                        let kept = d.side;
-                        side = kept;
-                        at = d.at;
-                    }
-                    Op::Both(b) => {
-                        let d = on_both(tanks, side, b, call, out, at);
-                        let next = d.tanks;
-                        tanks = next;
-                        let kept = d.side;
-                        side = kept;
-                        at = d.at;
-                    }
+                if asks(call) {
+                    at = told(tanks, call, out, at);
+                } else {
+                    let size = t.size;
+                    let d = perform(tanks, side, call, &body[..size], out, at);
+                    let next = d.tanks;
+                    tanks = next;
+                    let kept = d.side;
+                    side = kept;
+                    at = d.at;
                 }
             }
         }
