@@ -6,8 +6,9 @@ use mathlib.Core.List.{List, [], _∷_, map}
 use lib.Dec.{eqb}
 use lib.ListN.{length, replicate}
 use Rattle.styles.specs.declared.Mark.{Mark}
+use Rattle.styles.specs.declared.Party.the-variants.{Plant}
 use Rattle.styles.specs.Order.{numbers, stands}
-use Rattle.styles.specs.Marks.{Above, Sorted, member, placeOf, only, sameContent, hasKey, winner}
+use Rattle.styles.specs.Marks.{Above, Sorted, insertMark, member, placeOf, only, sameContent, hasKey, winner}
 use Rattle.styles.specs.Bits.{pick, withBit}
 use Rattle.runs.specs.Runs.{total, setAt, changing}
 use Rattle.runs.proofs.Copies.{joinRun, pushRun, copyRuns, altered, deleted, inserted}
@@ -15,7 +16,7 @@ use Rattle.runs.specs.Gather.{gather}
 use Rattle.runs.specs.Positions.{anyAt, stretchTo, allAt}
 use Rattle.runs.specs.Scan.{commonAt}
 use Rattle.runs.specs.Positions.{sumBelow}
-use Rattle.tank.specs.Rules.{View, Edit, annotating, inserting, deleting, removing, inherited, forInsert, backFrom, empty, over, long, madeFlag, retiredFlag, markNumber, ownNumber, clash, clashes, full, refusal}
+use Rattle.tank.specs.Rules.{View, Edit, annotating, inserting, deleting, removing, shownTo, passesShare, crowded, needs, inherited, forInsert, backFrom, barred, empty, over, long, madeFlag, retiredFlag, markNumber, ownNumber, clash, clashes, full, refusal}
 use Rattle.tank.proofs.Counted.{counted}
 use Rattle.tank.proofs.OnRuns.{known, numberOn, runsAfter, touchedAfter}
 use Rattle.lists.specs.Anchors.{anchors, anchorsOf}
@@ -41,8 +42,8 @@ sorted = ((refl, (refl, tt)), ((refl, tt), (tt, tt)))
 -- ---- what a call answers, by its number and the tank
 unfoldable replyOn : ℕ → Edit → View → Answer
 replyOn n (annotating a b m) v = taken
-replyOn n (inserting pos len) v = gives (cond (eqb n 0) (forInsert pos v) [])
-replyOn n (deleting a b) v = taken
+replyOn n (inserting who pos len) v = gives (cond (eqb n 0) (forInsert pos (shownTo who v)) [])
+replyOn n (deleting who a b) v = taken
 replyOn n (removing id last) v = begins (cond (eqb n 0) (backFrom id last v) 0)
 
 unfoldable answerOn : ℕ → Edit → View → Answer
@@ -52,8 +53,8 @@ answerOn n e v = cond (eqb n 0) (replyOn n e v) (refused n)
 answer-by : (h : House) (t : ℕ) (e : Edit) → answer h t e ≡ answerOn (refusalAt h t e) e (tankAt h t)
 unfolding answerOn reply insertedSetAt removedFirstAt
 answer-by h t (annotating a b m) = refl
-answer-by h t (inserting pos len) = refl
-answer-by h t (deleting a b) = refl
+answer-by h t (inserting who pos len) = refl
+answer-by h t (deleting who a b) = refl
 answer-by h t (removing id last) = refl
 
 -- ---- a line computed on runs
@@ -69,7 +70,7 @@ finds st ks (made t e says look) =
     made t e (answerOn (numberAt st abc ks t e) e (viewOn abc (keptAt ks t))) (lookOn (keptAt (allAfter st abc ks t e) t))
 finds st ks (would t e n) = would t e (length (keptAfter abc e (keptAt ks t) .runs))
 finds st ks (runsAre ns sum) = runsAre (map (heldOn ks) tankNumbers) (claims st (heldOn ks) 8)
-finds st ks (containsKey t a b key says) = containsKey t a b key (cond (noTank t) (Refused 1) (rangeContainsKey a b key (viewOn abc (keptAt ks t))))
+finds st ks (containsKey t a b key says) = containsKey t a b key (cond (noTank t) (Refused 1) (rangeContainsKey a b key (shownTo Plant (viewOn abc (keptAt ks t)))))
 finds st ks (wins t key p ws) = wins t key p (winners key p (length ws) (viewOn abc (keptAt ks t)))
 finds st ks (anchored t xs) = anchored t (anchorsOn abc (keptAt ks t .runs))
 
@@ -138,8 +139,8 @@ module _ (st : List Setting) (w : Way) (f : AllFit abc (w .kept)) where
       let e = held-on abc sorted st ks f in
       record { says = (ap (λ g. map g tankNumbers) e ∙ a, ap (λ g. claims st g 8) e ∙ b); left = refl; fits = f }
   line-stands (containsKey t a b key says) m q =
-      let r : cond (noTank t) (Refused 1) (rangeContainsKey a b key (viewOn abc (keptAt ks t))) ≡ says = cc in
-      record { says = ap (λ v. cond (noTank t) (Refused 1) (rangeContainsKey a b key v)) (tank-on abc sorted st ks t) ∙ r; left = refl; fits = f }
+      let r : cond (noTank t) (Refused 1) (rangeContainsKey a b key (shownTo Plant (viewOn abc (keptAt ks t)))) ≡ says = cc in
+      record { says = ap (λ v. cond (noTank t) (Refused 1) (rangeContainsKey a b key (shownTo Plant v))) (tank-on abc sorted st ks t) ∙ r; left = refl; fits = f }
   line-stands (wins t key p ws) m q =
       let r : winners key p (length ws) (viewOn abc (keptAt ks t)) ≡ ws = cc in
       record { says = ap (winners key p (length ws)) (tank-on abc sorted st ks t) ∙ r; left = refl; fits = f }
@@ -227,5 +228,5 @@ unfolding table found claimed abc accepted allAt sumBelow
     numberAt allAfter step steps tried may judgement known numberOn runsAfter touchedAfter ranges rangeOf anchorsOn edges anchorsOf
     altered deleted inserted copyRuns pushRun joinRun changing gather commonAt setAt total
     pick withBit placeOf member stands numbers clash sameContent only hasKey winner winners
-    refusal empty over long ownNumber markNumber madeFlag retiredFlag clashes full forInsert inherited backFrom stretchTo anyAt yesNo yesNoRefusal
+    refusal barred shownTo passesShare crowded needs insertMark empty over long ownNumber markNumber madeFlag retiredFlag clashes full forInsert inherited backFrom stretchTo anyAt yesNo yesNoRefusal
 examples = all-hold table refl

@@ -10,22 +10,25 @@ use native.Mathlib.Omega.{arith}
 use lib.Dec.{leb}
 use lib.ListN.{length, replicate}
 use Rattle.styles.specs.declared.Mark.{Mark}
+use Rattle.styles.specs.declared.Party.the-variants.{Plant}
 use Rattle.styles.specs.declared.Styles.{Styles}
 use Rattle.styles.specs.Answers.{stylesOf}
-use Rattle.runs.specs.Positions.{allAt, sumBelow}
+use Rattle.styles.specs.Marks.{only, ofParty}
+use Rattle.runs.specs.Positions.{within, allAt, sumBelow}
 use Rattle.richtext.specs.declared.AnchorType.the-variants.{Start, End}
 use Rattle.lists.specs.declared.Listed.{Listed}
 use Rattle.lists.specs.Anchors.{anchorOf, anchors}
 use Rattle.questions.specs.declared.SetAsked.{SetAsked}
-use Rattle.questions.specs.Questions.{positionRefusal, setOf}
-use Rattle.tank.specs.Rules.{freshView, Edit, annotating, inserting, whenAccepted}
+use Rattle.questions.specs.Questions.{positionRefusal, setOf, stylesAt}
+use Rattle.tank.specs.Rules.{View, freshView, Edit, annotating, inserting, shownTo, whenAccepted}
 use Rattle.tank.proofs.Calls.{when-refused}
+use Rattle.laws.proofs.Cases.{cond-by}
 use Rattle.tanks.specs.declared.Count.{Count}
 use Rattle.tanks.specs.declared.Inserted.{Inserted}
 use Rattle.tanks.specs.declared.Setting.{Setting}
 use Rattle.tanks.specs.declared.Tanks.{Tanks}
 use Rattle.tanks.specs.Settings.{accepted}
-use Rattle.tanks.specs.House.{House, tankAt, held, opening, askNumber, refusalAt, afterAt, insertedSetAt, afterAll}
+use Rattle.tanks.specs.House.{House, tankAt, held, shownAt, opening, askNumber, refusalAt, afterAt, insertedSetAt, afterAll}
 use Rattle.tanks.specs.Pool.{meaning}
 use Rattle.tanks.specs.Answers.{countSaid}
 use Rattle.tanks.specs.Contracts.{CalledAt, Calls, counts}
@@ -43,7 +46,7 @@ abbrev marking : Edit
 marking = annotating 10 20 A
 
 abbrev filling : Edit
-filling = inserting 15 4
+filling = inserting Plant 15 4
 
 -- the house before the first, between them, and after the second
 abbrev before : House
@@ -105,13 +108,26 @@ between-anchors : length (anchors (tankAt between 0)) ≡ 2
 unfolding AllSaid Says leaves
 between-anchors = ap length (second-example .1 .0)
 
+-- all its marks are the plant's
+plant-marks : (p : ℕ) → ofParty Plant (marksAt (on 10 20 (A ∷ []) ∷ []) p) ≡ marksAt (on 10 20 (A ∷ []) ∷ []) p
+unfolding marksAt only
+plant-marks p = cond-by (λ (ms : List Mark). ofParty Plant ms ≡ ms) (within 10 20 p) {x = A ∷ []} {y = []} refl refl
+
+between-shown : shownAt between Plant 0 ≡ tankAt between 0
+unfolding shownTo
+between-shown = λ i. record {
+  length = tankAt between 0 .length;
+  touched = tankAt between 0 .touched;
+  at = λ p. (ap (ofParty Plant) (between-at p) ∙ plant-marks p ∙ sym (between-at p)) i;
+}
+
 filling-number : refusalAt between 0 filling ≡ 0
 unfolding AllSaid Says leaves reply
-filling-number = sym (told (refusalAt between 0 filling) (gives (insertedSetAt between 0 15 4)) refl) ∙ ap numberIn (third-example .1 .0 .0)
+filling-number = sym (told (refusalAt between 0 filling) (gives (insertedSetAt between 0 Plant 15 4)) refl) ∙ ap numberIn (third-example .1 .0 .0)
 
-filling-set : insertedSetAt between 0 15 4 ≡ A ∷ []
+filling-set : insertedSetAt between 0 Plant 15 4 ≡ A ∷ []
 unfolding AllSaid Says leaves reply
-filling-set = sym (set-told (refusalAt between 0 filling) (insertedSetAt between 0 15 4) filling-number) ∙ ap setIn (third-example .1 .0 .0)
+filling-set = sym (set-told (refusalAt between 0 filling) (insertedSetAt between 0 Plant 15 4) filling-number) ∙ ap setIn (third-example .1 .0 .0)
 
 behind-at : (p : ℕ) → tankAt behind 0 .at p ≡ marksAt (on 10 24 (A ∷ []) ∷ []) p
 unfolding AllSaid Says leaves
@@ -128,9 +144,9 @@ refuses-every-edit s next n e c wrong = wrong (c .number-is ∙ ap (λ (h : Hous
 
 -- ---- A program that inherits nothing
 -- the insertion lies between two positions that carry A: neither is the set that it answers empty, nor are the new positions bare
-pub inherits-nothing : (s : Tanks) (r : Inserted) → meaning s ≡ between → r .styles ≡ stylesOf (insertedSetAt (meaning s) 0 15 4) → r .styles ≢ stylesOf []
+pub inherits-nothing : (s : Tanks) (r : Inserted) → meaning s ≡ between → r .styles ≡ stylesOf (insertedSetAt (meaning s) 0 Plant 15 4) → r .styles ≢ stylesOf []
 inherits-nothing s r e c wrong =
-    let f : stylesOf (A ∷ []) ≡ stylesOf [] = sym (c ∙ ap stylesOf (ap (λ (h : House). insertedSetAt h 0 15 4) e ∙ filling-set)) ∙ wrong in
+    let f : stylesOf (A ∷ []) ≡ stylesOf [] = sym (c ∙ ap stylesOf (ap (λ (h : House). insertedSetAt h 0 Plant 15 4) e ∙ filling-set)) ∙ wrong in
     absurd (omega (arith, ap (λ (x : Styles). x .count) f))
 
 pub inherits-nowhere : (s next : Tanks) (n : ℕ) → meaning s ≡ between → CalledAt s 0 filling n next → tankAt (meaning next) 0 .at 15 ≢ []
@@ -162,13 +178,13 @@ invents-runs s r e c k other wrong =
     let f : Count.Counts 3 ≡ Count.Counts k = sym (c ∙ ap Count.Counts (ap (λ (h : House). held h 0) e ∙ between-runs)) ∙ wrong in
     other (sym (ap (λ (x : Count). countSaid x .value) f))
 
-pub invents-marks : (s : Tanks) (r : SetAsked) → meaning s ≡ between → r ≡ marksAsked (meaning s) 0 15 → (k : ℕ) → k ≢ 1 → r .styles .count ≢ k
+pub invents-marks : (s : Tanks) (r : SetAsked) → meaning s ≡ between → r ≡ marksAsked (meaning s) 0 Plant 15 → (k : ℕ) → k ≢ 1 → r .styles .count ≢ k
 unfolding marksAt positionRefusal
 invents-marks s r e c k other wrong =
     let q : positionRefusal 15 (tankAt between 0) ≡ 0 = ap (λ (l : ℕ). cond (leb l 15) 4 0) between-length in
-    let f : r ≡ setOf 0 (A ∷ []) = c ∙ ap (λ (h : House). marksAsked h 0 15) e ∙ ap₂ setOf q (between-at 15) in
+    let f : r ≡ setOf 0 (A ∷ []) = c ∙ ap (λ (h : House). marksAsked h 0 Plant 15) e ∙ ap (stylesAt 15) between-shown ∙ ap₂ setOf q (between-at 15) in
     other (sym wrong ∙ ap (λ (x : SetAsked). x .styles .count) f)
 
-pub invents-anchors : (s : Tanks) (r : Listed) → meaning s ≡ between → r ≡ anchorsNeededAsked (meaning s) 0 → (k : ℕ) → k ≢ 2 → r .count ≢ k
+pub invents-anchors : (s : Tanks) (r : Listed) → meaning s ≡ between → r ≡ anchorsNeededAsked (meaning s) 0 Plant → (k : ℕ) → k ≢ 2 → r .count ≢ k
 invents-anchors s r e c k other wrong =
-    other (sym wrong ∙ ap (λ (x : Listed). x .count) (c ∙ ap (λ (h : House). anchorsNeededAsked h 0) e) ∙ between-anchors)
+    other (sym wrong ∙ ap (λ (x : Listed). x .count) (c ∙ ap (λ (h : House). anchorsNeededAsked h 0 Plant) e) ∙ ap (λ (v : View). length (anchors v)) between-shown ∙ between-anchors)

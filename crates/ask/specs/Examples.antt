@@ -6,6 +6,7 @@ use mathlib.Core.Bool.{cond}
 use mathlib.Core.List.{List, [], _∷_, _++_, map}
 use lib.ListN.{length, replicate}
 use Rattle.styles.specs.declared.Mark.{Mark}
+use Rattle.styles.specs.declared.Party.the-variants.{Plant}
 use Rattle.styles.specs.declared.Value.the-variants.{Null}
 use Rattle.styles.specs.declared.Winner.{Winner}
 use Rattle.styles.specs.declared.Winner.the-variants.{Shows}
@@ -35,8 +36,8 @@ pub data Answer : Type 0 where
 -- what an accepted call answers: an insertion its set, a removal the first position, annotate and delete no more than accepted
 unfoldable pub reply : House → ℕ → Edit → Answer
 reply h t (annotating a b m) = taken
-reply h t (inserting pos len) = gives (insertedSetAt h t pos len)
-reply h t (deleting a b) = taken
+reply h t (inserting who pos len) = gives (insertedSetAt h t who pos len)
+reply h t (deleting who a b) = taken
 reply h t (removing id last) = begins (removedFirstAt h t id last)
 
 -- what a call answers: its refusal's number, or what an accepted call does
@@ -95,7 +96,7 @@ Says (given cs) h = Unit {0}
 Says (made t e says seen) h = (answer h t e ≡ says) × Looks seen (tankAt (afterAt h t e) t)
 Says (would t e n) h = (refusal e (tankAt h t) ≡ 0) × (runsHeld (after e (tankAt h t)) ≡ n)
 Says (runsAre ns sum) h = (map (held h) tankNumbers ≡ ns) × (claims (h .settings) (held h) 8 ≡ sum)
-Says (containsKey t a b key says) h = keyAsked h t a b key ≡ says
+Says (containsKey t a b key says) h = keyAsked h t Plant a b key ≡ says
 Says (wins t key p ws) h = winners key p (length ws) (tankAt h t) ≡ ws
 Says (anchored t xs) h = anchors (tankAt h t) ≡ xs
 
@@ -134,7 +135,7 @@ AllHold (c ∷ cs) = Holds c × AllHold cs
 -- ---- How the table writes it
 -- marks by key, lamport and peer; the flag byte, the counter and the value play no part
 abbrev pub mark : ℕ → ℕ → ℕ → Mark
-mark key lamport peer = record { key = key; flags = 0x84; lamport = lamport; cnt = int.pos 0; peer = peer; value = Null }
+mark key lamport peer = record { key = key; flags = 0x84; party = Plant; lamport = lamport; cnt = int.pos 0; peer = peer; value = Null }
 
 -- A = (key 1, lamport 5, peer 1)
 abbrev pub A : Mark
@@ -192,31 +193,31 @@ unfoldable pub table : List Case
 unfolding dots laying
 table =
     -- 1. Insert 5, len 3: empty set, length T.
-    alone (edit (inserting 5 3) (gives []) (look freshLength 1 []) ∷ [])
+    alone (edit (inserting Plant 5 3) (gives []) (look freshLength 1 []) ∷ [])
     -- 2. A on 10..20: 3 runs, start at 10, end at 19.
     ∷ alone (first-A ∷ anchored 0 (anchorOf 10 Start A ∷ anchorOf 19 End A ∷ []) ∷ [])
     -- 3. Then insert 15, len 4: {A}, A on 10..24, length 4611686018427387907.
-    ∷ alone (first-A ∷ edit (inserting 15 4) (gives (A ∷ [])) (look 4611686018427387907 3 (on 10 24 (A ∷ []) ∷ [])) ∷ [])
+    ∷ alone (first-A ∷ edit (inserting Plant 15 4) (gives (A ∷ [])) (look 4611686018427387907 3 (on 10 24 (A ∷ []) ∷ [])) ∷ [])
     -- 4. Instead insert 10, len 4: empty, A on 14..24, 3 runs.
-    ∷ alone (first-A ∷ edit (inserting 10 4) (gives []) (look 4611686018427387907 3 (on 14 24 (A ∷ []) ∷ [])) ∷ [])
+    ∷ alone (first-A ∷ edit (inserting Plant 10 4) (gives []) (look 4611686018427387907 3 (on 14 24 (A ∷ []) ∷ [])) ∷ [])
     -- 5. A on 10..20, C on 15..25: 5 runs. Insert 15, len 2: {A}, still 5.
     ∷ alone
     (first-A
     ∷ edit (annotating 15 25 C) taken (look freshLength 5 (on 10 15 (A ∷ []) ∷ on 15 20 (A ∷ C ∷ []) ∷ on 20 25 (C ∷ []) ∷ []))
-    ∷ edit (inserting 15 2) (gives (A ∷ [])) (look 4611686018427387905 5 (on 10 17 (A ∷ []) ∷ on 17 22 (A ∷ C ∷ []) ∷ on 22 27 (C ∷ []) ∷ []))
+    ∷ edit (inserting Plant 15 2) (gives (A ∷ [])) (look 4611686018427387905 5 (on 10 17 (A ∷ []) ∷ on 17 22 (A ∷ C ∷ []) ∷ on 22 27 (C ∷ []) ∷ []))
     ∷ [])
     -- 6. A on 10..20, C on 20..30: 4 runs. Insert 20, len 1: empty, 5 runs.
     ∷ alone
     (first-A
     ∷ edit (annotating 20 30 C) taken (look freshLength 4 (on 10 20 (A ∷ []) ∷ on 20 30 (C ∷ []) ∷ []))
-    ∷ edit (inserting 20 1) (gives []) (look 4611686018427387904 5 (on 10 20 (A ∷ []) ∷ on 21 31 (C ∷ []) ∷ []))
+    ∷ edit (inserting Plant 20 1) (gives []) (look 4611686018427387904 5 (on 10 20 (A ∷ []) ∷ on 21 31 (C ∷ []) ∷ []))
     ∷ [])
     -- 7. A and B on 10..20: B wins key 1.
     ∷ alone
     (first-A ∷ edit (annotating 10 20 B) taken (look freshLength 3 (on 10 20 (A ∷ B ∷ []) ∷ [])) ∷ wins 0 1 10 (replicate 10 (Shows B)) ∷ [])
     -- 8. A on 10..20, delete 10..20: 1 run, length 4611686018427387893. Insert 0, len 10: length T.
     ∷ alone
-    (first-A ∷ edit (deleting 10 20) taken (look 4611686018427387893 1 []) ∷ edit (inserting 0 10) (gives []) (look freshLength 1 []) ∷ [])
+    (first-A ∷ edit (deleting Plant 10 20) taken (look 4611686018427387893 1 []) ∷ edit (inserting Plant 0 10) (gives []) (look freshLength 1 []) ∷ [])
     -- 9. A on 10..20, remove from 19: answer 10, 1 run.
     ∷ alone (first-A ∷ edit (removing (idOf A) 19) (begins 10) (look freshLength 1 []) ∷ [])
     -- 10. Remove from 14 instead: answer 10, A on 15..20.

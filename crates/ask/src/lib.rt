@@ -7,10 +7,9 @@ ghost use Rattle.lists.specs.Lists.{rangeList, wholeList, rangeNumber, wholeNum
 ghost use Rattle.runs.specs.Stretches.{inFront};
 ghost use Rattle.lists.specs.Anchors.{anchors, anchorsNumber};
 ghost use Rattle.windows.specs.Windows.{windows};
-ghost use Rattle.tanks.specs.Contracts.{Taken};
 ghost use Rattle.tanks.specs.House.{askNumber};
 ghost use Rattle.tanks.specs.Pool.{meaning, Sound};
-ghost use Rattle.ask.specs.Asks.{askAt, noList, valueAsked, marksAsked, markAsked, stretchAsked, inheritAsked, inheritedAsked, keyAsked, allValueAsked, sameAsked, rangeNeededAsked, wholeNeededAsked, anchorsNeededAsked};
+ghost use Rattle.ask.specs.Asks.{askAt, ShownIn, noList, valueAsked, marksAsked, markAsked, stretchAsked, inheritAsked, inheritedAsked, keyAsked, allValueAsked, sameAsked, rangeNeededAsked, wholeNeededAsked, anchorsNeededAsked};
 use lists::Listed;
 use lists::anchors::Anchor;
 use questions::Asked;
@@ -19,127 +18,156 @@ use questions::SetAsked;
 use questions::Shared;
 use questions::Shown;
 use questions::Told;
+use styles::Party;
 use styles::Value;
 use tank::Tank;
 use tanks::Tanks;
 
-// The value shown for a key at a position.
-pub fn value_at(s: Tanks, tank: u64, pos: u64, key: u16) -> Shown
+// A tank's number, and the party that asks.
+pub struct Spot {
+    pub tank: u64,
+    pub who: Party,
+}
+
+// What a party is shown of the tank; where there is no such tank, of a fresh one. A tank that the other party has no mark in is handed on without
+// another copy.
+pub fn shown(s: Tanks, tank: u64, who: Party) -> Tank
     requires { ⌜ Sound s ⌝ }
-    ensures { λ r. ⌜ r ≡ valueAsked (meaning s) tank pos key ⌝ }
+    ensures { λ r. ⌜ ShownIn s tank who r ⌝ }
+{
+    let t = s.take(tank as usize);
+    if t.shared(who) {
+        return t.only(who);
+    }
+    t
+}
+
+// The value shown for a key at a position.
+pub fn value_at(s: Tanks, tank: u64, who: Party, pos: u64, key: u16) -> Shown
+    requires { ⌜ Sound s ⌝ }
+    ensures { λ r. ⌜ r ≡ valueAsked (meaning s) tank who pos key ⌝ }
 {
     if 8 <= tank {
         return Shown::Refused(1);
     }
-    questions::value_at(s.take(tank as usize), pos, key)
+    questions::value_at(shown(s, tank, who), pos, key)
 }
 
 // The marks that a position carries.
-pub fn styles_at(s: Tanks, tank: u64, pos: u64) -> SetAsked
+pub fn styles_at(s: Tanks, tank: u64, who: Party, pos: u64) -> SetAsked
     requires { ⌜ Sound s ⌝ }
-    ensures { λ r. ⌜ r ≡ marksAsked (meaning s) tank pos ⌝ }
+    ensures { λ r. ⌜ r ≡ marksAsked (meaning s) tank who pos ⌝ }
 {
     if 8 <= tank {
         return questions::no_set(1);
     }
-    questions::styles_at(s.take(tank as usize), pos)
+    questions::styles_at(shown(s, tank, who), pos)
 }
 
 // The mark of a rank at a position.
-pub fn style_at(s: Tanks, tank: u64, pos: u64, rank: u64) -> Asked
+pub fn style_at(s: Tanks, tank: u64, who: Party, pos: u64, rank: u64) -> Asked
     requires { ⌜ Sound s ⌝ }
-    ensures { λ r. ⌜ r ≡ markAsked (meaning s) tank pos rank ⌝ }
+    ensures { λ r. ⌜ r ≡ markAsked (meaning s) tank who pos rank ⌝ }
 {
     if 8 <= tank {
         return Asked::Refused(1);
     }
-    questions::style_at(s.take(tank as usize), pos, rank)
+    questions::style_at(shown(s, tank, who), pos, rank)
 }
 
 // From where to where the marks of a position hold.
-pub fn stretch_at(s: Tanks, tank: u64, pos: u64) -> Extent
+pub fn stretch_at(s: Tanks, tank: u64, who: Party, pos: u64) -> Extent
     requires { ⌜ Sound s ⌝ }
-    ensures { λ r. ⌜ r ≡ stretchAsked (meaning s) tank pos ⌝ }
+    ensures { λ r. ⌜ r ≡ stretchAsked (meaning s) tank who pos ⌝ }
 {
     if 8 <= tank {
         return questions::no_extent(1);
     }
-    questions::stretch_at(s.take(tank as usize), pos)
+    questions::stretch_at(shown(s, tank, who), pos)
 }
 
 // The marks that an insertion would get.
-pub fn get_styles_for_insert(s: Tanks, tank: u64, pos: u64) -> SetAsked
+pub fn get_styles_for_insert(s: Tanks, tank: u64, who: Party, pos: u64) -> SetAsked
     requires { ⌜ Sound s ⌝ }
-    ensures { λ r. ⌜ r ≡ inheritAsked (meaning s) tank pos ⌝ }
+    ensures { λ r. ⌜ r ≡ inheritAsked (meaning s) tank who pos ⌝ }
 {
     if 8 <= tank {
         return questions::no_set(1);
     }
-    questions::get_styles_for_insert(s.take(tank as usize), pos)
+    questions::get_styles_for_insert(shown(s, tank, who), pos)
 }
 
 // The mark of a rank among those that an insertion would get.
-pub fn style_for_insert(s: Tanks, tank: u64, pos: u64, rank: u64) -> Asked
+pub fn style_for_insert(s: Tanks, tank: u64, who: Party, pos: u64, rank: u64) -> Asked
     requires { ⌜ Sound s ⌝ }
-    ensures { λ r. ⌜ r ≡ inheritedAsked (meaning s) tank pos rank ⌝ }
+    ensures { λ r. ⌜ r ≡ inheritedAsked (meaning s) tank who pos rank ⌝ }
 {
     if 8 <= tank {
         return Asked::Refused(1);
     }
-    questions::style_for_insert(s.take(tank as usize), pos, rank)
+    questions::style_for_insert(shown(s, tank, who), pos, rank)
 }
 
 // Has any position of start .. end a mark with the key?
-pub fn range_contains_key(s: Tanks, tank: u64, start: u64, end: u64, key: u16) -> Told
+pub fn range_contains_key(s: Tanks, tank: u64, who: Party, start: u64, end: u64, key: u16) -> Told
     requires { ⌜ Sound s ⌝ }
-    ensures { λ r. ⌜ r ≡ keyAsked (meaning s) tank start end key ⌝ }
+    ensures { λ r. ⌜ r ≡ keyAsked (meaning s) tank who start end key ⌝ }
 {
     if 8 <= tank {
         return Told::Refused(1);
     }
-    questions::range_contains_key(s.take(tank as usize), start, end, key)
+    questions::range_contains_key(shown(s, tank, who), start, end, key)
 }
 
 // Does every position of start .. end show the value for the key?
 pub fn range_has_key_value(
     s: Tanks,
     tank: u64,
+    who: Party,
     start: u64,
     end: u64,
     key: u16,
     value: Value,
 ) -> Told
     requires { ⌜ Sound s ⌝ }
-    ensures { λ r. ⌜ r ≡ allValueAsked (meaning s) tank start end key value ⌝ }
+    ensures { λ r. ⌜ r ≡ allValueAsked (meaning s) tank who start end key value ⌝ }
 {
     if 8 <= tank {
         return Told::Refused(1);
     }
-    questions::range_has_key_value(s.take(tank as usize), start, end, key, value)
+    questions::range_has_key_value(shown(s, tank, who), start, end, key, value)
 }
 
 // The marks that all positions of start .. end share.
-pub fn get_styles_of_range(s: Tanks, tank: u64, start: u64, end: u64) -> Shared
+pub fn get_styles_of_range(s: Tanks, tank: u64, who: Party, start: u64, end: u64) -> Shared
     requires { ⌜ Sound s ⌝ }
-    ensures { λ r. ⌜ r ≡ sameAsked (meaning s) tank start end ⌝ }
+    ensures { λ r. ⌜ r ≡ sameAsked (meaning s) tank who start end ⌝ }
 {
     if 8 <= tank {
         return questions::not_shared(1);
     }
-    questions::get_styles_of_range(s.take(tank as usize), start, end)
+    questions::get_styles_of_range(shown(s, tank, who), start, end)
 }
 
 // Which of eight keys is the first that shows a value in each window of k positions from `start` on, 8 for none: every place of `out` is a window,
 // and positions past the length show nothing. Returns 0; or 1 where there is no such tank, and then it writes nothing.
-pub fn first_shown(s: Tanks, tank: u64, keys: [u16; 8], start: u64, k: u64, out: &mut [u64]) -> u64
+pub fn first_shown(
+    s: Tanks,
+    tank: u64,
+    who: Party,
+    keys: [u16; 8],
+    start: u64,
+    k: u64,
+    out: &mut [u64],
+) -> u64
     requires { ⌜ Sound s ⌝ }
     ensures { λ r. ⌜ r ≡ askNumber tank ⌝ }
-    ensures { λ r. ⌜ now (out .exit) ≡ askAt (meaning s) tank (now (out .entry)) (λ v. windows v keys start k (length (now (out .entry)))) ⌝ }
+    ensures { λ r. ⌜ now (out .exit) ≡ askAt (meaning s) tank who (now (out .entry)) (λ v. windows v keys start k (length (now (out .entry)))) ⌝ }
 {
     if 8 <= tank {
         return 1;
     }
-    windows::first_shown(s.take(tank as usize), keys, start, k, out);
+    windows::first_shown(shown(s, tank, who), keys, start, k, out);
     0
 }
 
@@ -164,108 +192,116 @@ fn counted(count: usize) -> Listed
 }
 
 // How many u64 the list of stretches over start .. end takes.
-pub fn stretches_needed(s: Tanks, tank: u64, start: u64, end: u64) -> Listed
+pub fn stretches_needed(s: Tanks, tank: u64, who: Party, start: u64, end: u64) -> Listed
     requires { ⌜ Sound s ⌝ }
-    ensures { λ r. ⌜ r ≡ rangeNeededAsked (meaning s) tank start end ⌝ }
+    ensures { λ r. ⌜ r ≡ rangeNeededAsked (meaning s) tank who start end ⌝ }
 {
     if 8 <= tank {
         return no_list();
     }
-    lists::stretches_needed(s.take(tank as usize), start, end)
+    lists::stretches_needed(shown(s, tank, who), start, end)
 }
 
 // How many u64 the list of the whole tank takes.
-pub fn whole_needed(s: Tanks, tank: u64) -> Listed
+pub fn whole_needed(s: Tanks, tank: u64, who: Party) -> Listed
     requires { ⌜ Sound s ⌝ }
-    ensures { λ r. ⌜ r ≡ wholeNeededAsked (meaning s) tank ⌝ }
+    ensures { λ r. ⌜ r ≡ wholeNeededAsked (meaning s) tank who ⌝ }
 {
     if 8 <= tank {
         return no_list();
     }
-    counted(lists::whole_needed(s.take(tank as usize)))
+    counted(lists::whole_needed(shown(s, tank, who)))
 }
 
 // How many anchors the tank has.
-pub fn anchors_needed(s: Tanks, tank: u64) -> Listed
+pub fn anchors_needed(s: Tanks, tank: u64, who: Party) -> Listed
     requires { ⌜ Sound s ⌝ }
-    ensures { λ r. ⌜ r ≡ anchorsNeededAsked (meaning s) tank ⌝ }
+    ensures { λ r. ⌜ r ≡ anchorsNeededAsked (meaning s) tank who ⌝ }
 {
     if 8 <= tank {
         return no_list();
     }
-    counted(lists::anchors::anchors_needed(s.take(tank as usize)))
+    counted(lists::anchors::anchors_needed(shown(s, tank, who)))
 }
 
 // The stretches over start .. end, at the front of a lent buffer.
-pub fn list_range(s: Tanks, tank: u64, start: u64, end: u64, out: &mut [u64]) -> Listed
+pub fn list_range(s: Tanks, tank: u64, who: Party, start: u64, end: u64, out: &mut [u64]) -> Listed
     requires { ⌜ Sound s ⌝ }
-    ensures { λ r. ⌜ r ≡ askAt (meaning s) tank noList (λ v. filledBeside (rangeNumber start end (length (now (out .entry))) v) (rangeList start end v)) ⌝ }
-    ensures { λ r. ⌜ now (out .exit) ≡ askAt (meaning s) tank (now (out .entry)) (λ v. inFront (unlessRefused (rangeNumber start end (length (now (out .entry))) v) (rangeList start end v)) (now (out .entry))) ⌝ }
+    ensures { λ r. ⌜ r ≡ askAt (meaning s) tank who noList (λ v. filledBeside (rangeNumber start end (length (now (out .entry))) v) (rangeList start end v)) ⌝ }
+    ensures { λ r. ⌜ now (out .exit) ≡ askAt (meaning s) tank who (now (out .entry)) (λ v. inFront (unlessRefused (rangeNumber start end (length (now (out .entry))) v) (rangeList start end v)) (now (out .entry))) ⌝ }
 {
     if 8 <= tank {
         return no_list();
     }
-    lists::list_range(s.take(tank as usize), start, end, out)
+    lists::list_range(shown(s, tank, who), start, end, out)
 }
 
 // The marked stretches of the whole tank, at the front of a lent buffer.
-pub fn list_whole(s: Tanks, tank: u64, out: &mut [u64]) -> Listed
+pub fn list_whole(s: Tanks, tank: u64, who: Party, out: &mut [u64]) -> Listed
     requires { ⌜ Sound s ⌝ }
-    ensures { λ r. ⌜ r ≡ askAt (meaning s) tank noList (λ v. filledBeside (wholeNumber (length (now (out .entry))) v) (wholeList v)) ⌝ }
-    ensures { λ r. ⌜ now (out .exit) ≡ askAt (meaning s) tank (now (out .entry)) (λ v. inFront (unlessRefused (wholeNumber (length (now (out .entry))) v) (wholeList v)) (now (out .entry))) ⌝ }
+    ensures { λ r. ⌜ r ≡ askAt (meaning s) tank who noList (λ v. filledBeside (wholeNumber (length (now (out .entry))) v) (wholeList v)) ⌝ }
+    ensures { λ r. ⌜ now (out .exit) ≡ askAt (meaning s) tank who (now (out .entry)) (λ v. inFront (unlessRefused (wholeNumber (length (now (out .entry))) v) (wholeList v)) (now (out .entry))) ⌝ }
 {
     if 8 <= tank {
         return no_list();
     }
-    lists::list_whole(s.take(tank as usize), out)
+    lists::list_whole(shown(s, tank, who), out)
 }
 
 // The stretches over start .. end: the front part of `out` that they fill, and the empty part where `list_range` refuses.
-pub fn iter_range(s: Tanks, tank: u64, start: u64, end: u64, out: &mut [u64]) -> &mut [u64]
+pub fn iter_range(
+    s: Tanks,
+    tank: u64,
+    who: Party,
+    start: u64,
+    end: u64,
+    out: &mut [u64],
+) -> &mut [u64]
     requires { ⌜ Sound s ⌝ }
-    ensures { λ r. ⌜ now r ≡ askAt (meaning s) tank [] (λ v. unlessRefused (rangeNumber start end (length (now (out .entry))) v) (rangeList start end v)) ⌝ }
+    ensures { λ r. ⌜ now r ≡ askAt (meaning s) tank who [] (λ v. unlessRefused (rangeNumber start end (length (now (out .entry))) v) (rangeList start end v)) ⌝ }
     ensures { λ r. ⌜ ptr r ≡ ptr (out .entry) ⌝ }
 {
-    let listed = list_range(s, tank, start, end, out);
+    let listed = list_range(s, tank, who, start, end, out);
     let n = listed.count;
     &mut out[..n]
 }
 
 // The marked stretches of the whole tank: the front part of `out` that they fill, and the empty part where `list_whole` refuses.
-pub fn iter(s: Tanks, tank: u64, out: &mut [u64]) -> &mut [u64]
+pub fn iter(s: Tanks, tank: u64, who: Party, out: &mut [u64]) -> &mut [u64]
     requires { ⌜ Sound s ⌝ }
-    ensures { λ r. ⌜ now r ≡ askAt (meaning s) tank [] (λ v. unlessRefused (wholeNumber (length (now (out .entry))) v) (wholeList v)) ⌝ }
+    ensures { λ r. ⌜ now r ≡ askAt (meaning s) tank who [] (λ v. unlessRefused (wholeNumber (length (now (out .entry))) v) (wholeList v)) ⌝ }
     ensures { λ r. ⌜ ptr r ≡ ptr (out .entry) ⌝ }
 {
-    let whole = list_whole(s, tank, out);
+    let whole = list_whole(s, tank, who, out);
     let filled = whole.count;
     &mut out[..filled]
 }
 
 // The refusal of the tank's number: 1, or 0 for none.
-fn missing(tank: u64) -> u64
-    ensures { λ r. ⌜ r ≡ askNumber tank ⌝ }
+fn missing(spot: Spot) -> u64
+    ensures { λ r. ⌜ r ≡ askNumber (spot .tank) ⌝ }
 {
-    if 8 <= tank {
+    if 8 <= spot.tank {
         return 1;
     }
     0
 }
 
-// The tank on its own; where there is no such tank, a fresh one, whose list is then refused.
-fn own(s: Tanks, tank: u64) -> Tank
+// What the party is shown of the tank; where there is no such tank, a fresh one, whose list is then refused.
+fn own(s: Tanks, spot: Spot) -> Tank
     requires { ⌜ Sound s ⌝ }
-    ensures { λ r. ⌜ Taken s tank r ⌝ }
+    ensures { λ r. ⌜ ShownIn s (spot .tank) (spot .who) r ⌝ }
 {
-    s.take(tank as usize)
+    let who = spot.who;
+    shown(s, spot.tank, who)
 }
 
-// The tank's anchors, at the front of `out`. Records past the count stay; a refusal writes nothing.
-pub fn iter_anchors(s: Tanks, tank: u64, out: &mut [Anchor]) -> Listed
+// The anchors of the party's marks, at the front of `out`. Records past the count stay; a refusal writes nothing.
+pub fn iter_anchors(s: Tanks, spot: Spot, out: &mut [Anchor]) -> Listed
     requires { ⌜ Sound s ⌝ }
-    ensures { λ r. ⌜ (r ≡ askAt (meaning s) tank noList (λ v. filledBeside (anchorsNumber (length (now (out .entry))) v) (anchors v))) × (now (out .exit) ≡ askAt (meaning s) tank (now (out .entry)) (λ v. inFront (unlessRefused (anchorsNumber (length (now (out .entry))) v) (anchors v)) (now (out .entry)))) ⌝ }
+    ensures { λ r. ⌜ (r ≡ askAt (meaning s) (spot .tank) (spot .who) noList (λ v. filledBeside (anchorsNumber (length (now (out .entry))) v) (anchors v))) × (now (out .exit) ≡ askAt (meaning s) (spot .tank) (spot .who) (now (out .entry)) (λ v. inFront (unlessRefused (anchorsNumber (length (now (out .entry))) v) (anchors v)) (now (out .entry)))) ⌝ }
 {
-    let t = own(s, tank);
-    let number = missing(tank);
+    let t = own(s, spot);
+    let number = missing(spot);
     lists::anchors::iter_anchors(t, number, out)
 }

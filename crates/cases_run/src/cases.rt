@@ -9,6 +9,7 @@ use crate::print::say_shown;
 use crate::print::say_tank;
 use crate::print::say_told;
 use styles::Mark;
+use styles::Party;
 use styles::Value;
 use tank::Tank;
 
@@ -16,6 +17,7 @@ fn mark(key: u16, lamport: u32, peer: u64) -> Mark {
     Mark {
         key: key,
         flags: 0x84,
+        party: Party::Plant,
         lamport: lamport,
         cnt: 0,
         peer: peer,
@@ -37,9 +39,11 @@ fn c() -> Mark {
 
 // The mark with yes or no for its value.
 fn saying(m: Mark, b: bool) -> Mark {
+    let party = m.party;
     Mark {
         key: m.key,
         flags: m.flags,
+        party: party,
         lamport: m.lamport,
         cnt: m.cnt,
         peer: m.peer,
@@ -106,7 +110,7 @@ fn insert(t: Tank, pos: u64, len: u64) -> Tank
     requires { ⌜ Sound t ⌝ }
     ensures { λ r. ⌜ Sound r ⌝ }
 {
-    let r = t.insert(pos, len);
+    let r = t.insert(Party::Plant, pos, len);
     say(b"insert ");
     say_number(pos);
     say(b", len ");
@@ -122,7 +126,7 @@ fn delete(t: Tank, start: u64, end: u64) -> Tank
     requires { ⌜ Sound t ⌝ }
     ensures { λ r. ⌜ Sound r ⌝ }
 {
-    let r = t.delete(start, end);
+    let r = t.delete(Party::Plant, start, end);
     say(b"delete ");
     say_number(start);
     say(b"..");

@@ -8,16 +8,17 @@ use native.Mathlib.Omega.{arith}
 use lib.Dec.{eqb, ltb}
 use lib.ListN.{length, take, length-take}
 use borrow.Author.Tests.{lt-ltb, le-ltb, le-leb, lt-leb}
+use Rattle.styles.specs.declared.Party.{Party}
 use Rattle.runs.specs.Stretches.{inFront}
 use Rattle.lists.specs.declared.Listed.{Listed}
 use Rattle.lists.specs.declared.anchors.Anchor.{Anchor}
 use Rattle.lists.specs.Lists.{rangeList, wholeList, rangeRefusal, listRefusal, rangeNumber, wholeNumber, unlessRefused, filledBeside}
 use Rattle.lists.specs.Anchors.{anchors, anchorsNeeded, anchorsNumber}
 use Rattle.lists.proofs.ListLaws.{empty-list}
-use Rattle.tank.specs.Rules.{View}
+use Rattle.tank.specs.Rules.{View, shownTo}
 use Rattle.tank.proofs.Calls.{asked-over}
 use Rattle.tanks.specs.declared.Tanks.{Tanks}
-use Rattle.tanks.specs.House.{House, noTank, tankAt}
+use Rattle.tanks.specs.House.{House, noTank, shownAt}
 use Rattle.tanks.specs.Pool.{meaning, Sound}
 use Rattle.ask.specs.Asks.{askAt, noList}
 use Rattle.ask.proofs.AskLaws.{asked-part, asked-count}
@@ -36,12 +37,12 @@ least-room lower room n h =
     ]
 
 -- `lent` places are lent where a call names `room`
-module _ (s : Tanks) (ok : Sound s) (t room lent : ℕ) (least : lent ≡ min room 1536) (h : t < 8) where
+module _ (who : Party) (s : Tanks) (ok : Sound s) (t room lent : ℕ) (least : lent ≡ min room 1536) (h : t < 8) where
   -- a range past the end is refused by 4 before any room is asked for
-  pub range-room : (a b : ℕ) → rangeNumber a b lent (tankAt (meaning s) t) ≡ rangeNumber a b room (tankAt (meaning s) t)
-  unfolding rangeRefusal listRefusal
+  pub range-room : (a b : ℕ) → rangeNumber a b lent (shownAt (meaning s) who t) ≡ rangeNumber a b room (shownAt (meaning s) who t)
+  unfolding rangeRefusal listRefusal shownTo
   range-room a b =
-      let v = tankAt (meaning s) t in
+      let v = shownAt (meaning s) who t in
       ap (λ (n : ℕ). rangeNumber a b n v) least
       ∙ elim (decLt (v .length) b) [
         | yes k ↦
@@ -49,13 +50,13 @@ module _ (s : Tanks) (ok : Sound s) (t room lent : ℕ) (least : lent ≡ min ro
               | yes l ↦ rw (asked-over a b 0 v l k)
               | no l ↦ least-room (rangeRefusal a b v) room (length (rangeList a b v)) (omega (arith, ap length (empty-list a b v (omega arith))))
             ]
-        | no k ↦ least-room (rangeRefusal a b v) room (length (rangeList a b v)) (omega (arith, most-range s ok t h a b (omega arith)))
+        | no k ↦ least-room (rangeRefusal a b v) room (length (rangeList a b v)) (omega (arith, most-range s ok t h who a b (omega arith)))
       ]
 
-  pub whole-room : wholeNumber lent (tankAt (meaning s) t) ≡ wholeNumber room (tankAt (meaning s) t)
+  pub whole-room : wholeNumber lent (shownAt (meaning s) who t) ≡ wholeNumber room (shownAt (meaning s) who t)
   whole-room =
-      ap (λ (n : ℕ). wholeNumber n (tankAt (meaning s) t)) least
-      ∙ least-room 0 room (length (wholeList (tankAt (meaning s) t))) (omega (arith, most-whole s ok t h))
+      ap (λ (n : ℕ). wholeNumber n (shownAt (meaning s) who t)) least
+      ∙ least-room 0 room (length (wholeList (shownAt (meaning s) who t))) (omega (arith, most-whole s ok t h who))
 
 -- ---- what a list of stretches says
 said-by : (b : Bool) (n t : ℕ) (ys part : List ℕ) (l : Listed) → l ≡ cond b noList (filledBeside n ys) → part ≡ cond b [] (unlessRefused n ys) → orRefused (l .number) (listSays t part) ≡ cond b (refusedSays 1) (orRefused n (listSays t ys))
@@ -68,21 +69,21 @@ said-by false n t ys part l e g =
     only-given false = refl
 
 -- `near` judges by the room that is lent, `far` by the room that the call names
-module _ (h : House) (t : ℕ) (near far : View → ℕ) (xs : View → List ℕ) (same : t < 8 → near (tankAt h t) ≡ far (tankAt h t)) (out : List ℕ) (l : Listed) (last : List ℕ)
-    (said : (l ≡ askAt h t noList (λ v. filledBeside (near v) (xs v))) × (last ≡ askAt h t out (λ v. inFront (unlessRefused (near v) (xs v)) out))) where
-  far-says : askAt h t (refusedSays 1) (λ v. orRefused (near v) (listSays t (xs v))) ≡ askAt h t (refusedSays 1) (λ v. orRefused (far v) (listSays t (xs v)))
+module _ (h : House) (t : ℕ) (who : Party) (near far : View → ℕ) (xs : View → List ℕ) (same : t < 8 → near (shownAt h who t) ≡ far (shownAt h who t)) (out : List ℕ) (l : Listed) (last : List ℕ)
+    (said : (l ≡ askAt h t who noList (λ v. filledBeside (near v) (xs v))) × (last ≡ askAt h t who out (λ v. inFront (unlessRefused (near v) (xs v)) out))) where
+  far-says : askAt h t who (refusedSays 1) (λ v. orRefused (near v) (listSays t (xs v))) ≡ askAt h t who (refusedSays 1) (λ v. orRefused (far v) (listSays t (xs v)))
   far-says =
       elim (decLt t 8) [
-        | yes k ↦ ap (λ (n : ℕ). cond (noTank t) (refusedSays 1) (orRefused n (listSays t (xs (tankAt h t))))) (same k)
+        | yes k ↦ ap (λ (n : ℕ). cond (noTank t) (refusedSays 1) (orRefused n (listSays t (xs (shownAt h who t))))) (same k)
         | no k ↦ rw (le-leb 8 t (omega arith))
       ]
 
-  pub list-said : orRefused (l .number) (listSays t (take (l .count) last)) ≡ askAt h t (refusedSays 1) (λ v. orRefused (far v) (listSays t (xs v)))
-  list-said = said-by (noTank t) (near (tankAt h t)) t (xs (tankAt h t)) (take (l .count) last) l (said .0) (asked-part h t near xs out l last said) ∙ far-says
+  pub list-said : orRefused (l .number) (listSays t (take (l .count) last)) ≡ askAt h t who (refusedSays 1) (λ v. orRefused (far v) (listSays t (xs v)))
+  list-said = said-by (noTank t) (near (shownAt h who t)) t (xs (shownAt h who t)) (take (l .count) last) l (said .0) (asked-part h t who near xs out l last said) ∙ far-says
 
   -- the list is within what was lent
   pub list-inside : l .count ≤ length last
-  list-inside = omega (arith, asked-count h t near xs out l last said, length-take (l .count) last)
+  list-inside = omega (arith, asked-count h t who near xs out l last said, length-take (l .count) last)
 
 -- ---- anchors
 -- one anchor more is said
@@ -99,14 +100,14 @@ unfolding flatMap
 anchor-none left e = ap anchorsSay e
 
 -- no such tank
-pub anchors-1 : (h : House) (t room : ℕ) → 8 ≤ t → refusedSays 1 ≡ askAt h t (refusedSays 1) (λ v. orRefused (anchorsNumber room v) (allAnchorsSay v))
-anchors-1 h t room k = rw (le-leb 8 t k)
+pub anchors-1 : (who : Party) (h : House) (t room : ℕ) → 8 ≤ t → refusedSays 1 ≡ askAt h t who (refusedSays 1) (λ v. orRefused (anchorsNumber room v) (allAnchorsSay v))
+anchors-1 who h t room k = rw (le-leb 8 t k)
 
 -- too little room, or all of them
-module _ (h : House) (t : ℕ) (l : Listed) (k : t < 8) (said : l ≡ askAt h t noList anchorsNeeded) where
-  pub counted : l .count ≡ length (anchors (tankAt h t))
-  counted = ap (λ (x : Listed). x .count) (said ∙ ap (λ (b : Bool). cond b noList (anchorsNeeded (tankAt h t))) (lt-leb 8 t k))
+module _ (who : Party) (h : House) (t : ℕ) (l : Listed) (k : t < 8) (said : l ≡ askAt h t who noList anchorsNeeded) where
+  pub counted : l .count ≡ length (anchors (shownAt h who t))
+  counted = ap (λ (x : Listed). x .count) (said ∙ ap (λ (b : Bool). cond b noList (anchorsNeeded (shownAt h who t))) (lt-leb 8 t k))
 
-  pub anchors-by : (room : ℕ) (b : Bool) → ltb room (l .count) ≡ b → orRefused (cond b 11 0) (allAnchorsSay (tankAt h t)) ≡ askAt h t (refusedSays 1) (λ v. orRefused (anchorsNumber room v) (allAnchorsSay v))
+  pub anchors-by : (room : ℕ) (b : Bool) → ltb room (l .count) ≡ b → orRefused (cond b 11 0) (allAnchorsSay (shownAt h who t)) ≡ askAt h t who (refusedSays 1) (λ v. orRefused (anchorsNumber room v) (allAnchorsSay v))
   unfolding listRefusal
-  anchors-by room b e = sym (ap₂ (λ (none little : Bool). cond none (refusedSays 1) (orRefused (cond little 11 0) (allAnchorsSay (tankAt h t)))) (lt-leb 8 t k) (ap (ltb room) (sym counted) ∙ e))
+  anchors-by room b e = sym (ap₂ (λ (none little : Bool). cond none (refusedSays 1) (orRefused (cond little 11 0) (allAnchorsSay (shownAt h who t)))) (lt-leb 8 t k) (ap (ltb room) (sym counted) ∙ e))

@@ -3,6 +3,8 @@ use mathlib.Core.Path.{_≡_, refl, sym, ap, subst, _∙_}
 use mathlib.Core.Bool.{true, false, false≢true, true≢false}
 use mathlib.Core.List.{List, []}
 use Prim.Native.Nat.{ℕ}
+use Rattle.styles.specs.declared.Party.{Party}
+use Rattle.styles.specs.declared.Party.the-variants.{Plant}
 use Rattle.tanks.specs.declared.Tanks.{Tanks}
 use Rattle.tanks.specs.House.{House}
 use Rattle.tanks.specs.Pool.{meaning, Sound}
@@ -20,30 +22,35 @@ use Rattle.clerk.specs.declared.Done.{Done}
 use Rattle.clerk.specs.declared.Moved.{Moved}
 use Rattle.clerk.specs.declared.Noted.{Noted}
 use Rattle.clerk.specs.declared.Side.{Side}
-use Rattle.clerk.specs.Calls.{answerSays, listingSays, asking, askingSays, Changes}
+use Rattle.clerk.specs.Calls.{changed, changeSays, answerSays, listingSays, asking, askingSays, Changes}
 use Rattle.clerk.specs.Desk.{Settled, textHouse, textSide, textSays, deskSide, deskSays, bothHouse, bothSide, bothSays, afterOp, sideAfter, saysOf, Notes, Moves, Performs}
 
 -- ---- The arms of each group
 -- of `change`
-pub as-change : {s : Tanks} {c : Call} {d out : List ℕ} {at : ℕ} {r : Done} {e f : Change} → e ≡ f → Changes f s c d at r out → Changes e s c d at r out
-as-change {s} {c} {d} {out} {at} {r} e p = subst (λ (o : Change). Changes o s c d at r out) (sym e) p
+pub as-change : {s : Tanks} {who : Party} {c : Call} {d out : List ℕ} {at : ℕ} {r : Done} {e f : Change} → e ≡ f → Changes f s who c d at r out → Changes e s who c d at r out
+as-change {s} {who} {c} {d} {out} {at} {r} e p = subst (λ (o : Change). Changes o s who c d at r out) (sym e) p
 
-module _ (s : Tanks) (c : Call) {d out : List ℕ} {at : ℕ} where
+-- an opening is the same whoever calls for it
+pub any-opens : {s : Tanks} {who : Party} {c : Call} {d out : List ℕ} {at : ℕ} {r : Done} → Changes Change.Open s Plant c d at r out → Changes Change.Open s who c d at r out
+unfolding changed changeSays
+any-opens p = record { sound = p .sound; is = p .is; answer = p .answer }
+
+module _ (s : Tanks) (who : Party) (c : Call) {d out : List ℕ} {at : ℕ} where
   -- of `answer`
-  pub as-answer : {k : ℕ} {q p : Question} → q ≡ p → Adds d at (answerSays p (meaning s) c) k out → Adds d at (answerSays q (meaning s) c) k out
-  as-answer {k} e p = subst (λ (o : Question). Adds d at (answerSays o (meaning s) c) k out) (sym e) p
+  pub as-answer : {k : ℕ} {q p : Question} → q ≡ p → Adds d at (answerSays p (meaning s) who c) k out → Adds d at (answerSays q (meaning s) who c) k out
+  as-answer {k} e p = subst (λ (o : Question). Adds d at (answerSays o (meaning s) who c) k out) (sym e) p
 
   -- of `listed`
-  pub as-listed : {k : ℕ} {l m : Listing} → l ≡ m → Adds d at (listingSays m (meaning s) c) k out → Adds d at (listingSays l (meaning s) c) k out
-  as-listed {k} e p = subst (λ (o : Listing). Adds d at (listingSays o (meaning s) c) k out) (sym e) p
+  pub as-listed : {k : ℕ} {l m : Listing} → l ≡ m → Adds d at (listingSays m (meaning s) who c) k out → Adds d at (listingSays l (meaning s) who c) k out
+  as-listed {k} e p = subst (λ (o : Listing). Adds d at (listingSays o (meaning s) who c) k out) (sym e) p
 
 -- of `told`
-pub as-told : (s : Tanks) (c : Call) {d out : List ℕ} {at k : ℕ} {op o : Op} → op ≡ o → Adds d at (askingSays o (meaning s) c) k out → Adds d at (askingSays op (meaning s) c) k out
-as-told s c {d} {out} {at} {k} e p = subst (λ (o : Op). Adds d at (askingSays o (meaning s) c) k out) (sym e) p
+pub as-told : (s : Tanks) (who : Party) (c : Call) {d out : List ℕ} {at k : ℕ} {op o : Op} → op ≡ o → Adds d at (askingSays o (meaning s) who c) k out → Adds d at (askingSays op (meaning s) who c) k out
+as-told s who c {d} {out} {at} {k} e p = subst (λ (o : Op). Adds d at (askingSays o (meaning s) who c) k out) (sym e) p
 
 -- and where nothing is asked
-pub untold : (s : Tanks) (c : Call) {d : List ℕ} {at : ℕ} {op o : Op} → op ≡ o → askingSays o (meaning s) c ≡ [] → Adds d at (askingSays op (meaning s) c) at d
-untold s c {d} {at} {op} {o} e none = as-told s c e (subst (λ (p : Pieces). Adds d at p at d) (sym none) (no-piece d at))
+pub untold : (s : Tanks) (who : Party) (c : Call) {d : List ℕ} {at : ℕ} {op o : Op} → op ≡ o → askingSays o (meaning s) who c ≡ [] → Adds d at (askingSays op (meaning s) who c) at d
+untold s who c {d} {at} {op} {o} e none = as-told s who c e (subst (λ (p : Pieces). Adds d at p at d) (sym none) (no-piece d at))
 
 -- of `take_text`
 pub as-text : (s : Tanks) (side : Side) (c : Call) (body : List ℕ) {d out : List ℕ} {at : ℕ} {r : Moved} {x y : Text} → x ≡ y
@@ -67,12 +74,12 @@ module _ (s : Tanks) (side : Side) (c : Call) (body : List ℕ) {d out : List �
   as-op {r} e p = subst (λ (o : Op). Performs o s side c body d at r out) (sym e) p
 
   -- a change leaves what is kept as it was
-  pub changes : {r : Done} {e : Change} → c .op ≡ Op.Change e → Settled side → Changes e s c d at r out → Performs (c .op) s side c body d at (record { tanks = r .tanks; side = side; at = r .at }) out
+  pub changes : {r : Done} {e : Change} → c .op ≡ Op.Change e → Settled side → Changes e s (side .party) c d at r out → Performs (c .op) s side c body d at (record { tanks = r .tanks; side = side; at = r .at }) out
   unfolding afterOp sideAfter saysOf
   changes e kept p = as-op e (record { sound = p .sound; settled = kept; is = p .is; keeps = refl; answer = p .answer })
 
   -- what only asks leaves all as it was
-  only-asks : {k : ℕ} (op : Op) → asking op ≡ true → Sound s → Settled side → Adds d at (askingSays op (meaning s) c) k out → Performs op s side c body d at (record { tanks = s; side = side; at = k }) out
+  only-asks : {k : ℕ} (op : Op) → asking op ≡ true → Sound s → Settled side → Adds d at (askingSays op (meaning s) (side .party) c) k out → Performs op s side c body d at (record { tanks = s; side = side; at = k }) out
   unfolding afterOp sideAfter saysOf asking askingSays
   only-asks Op.Nothing e ok kept says = absurd (false≢true e)
   only-asks (Op.Change x) e ok kept says = absurd (false≢true e)
@@ -82,7 +89,7 @@ module _ (s : Tanks) (side : Side) (c : Call) (body : List ℕ) {d out : List �
   only-asks (Op.Desk x) e ok kept says = absurd (false≢true e)
   only-asks (Op.Both b) e ok kept says = absurd (false≢true e)
 
-  pub told : {k : ℕ} → asking (c .op) ≡ true → Sound s → Settled side → Adds d at (askingSays (c .op) (meaning s) c) k out → Performs (c .op) s side c body d at (record { tanks = s; side = side; at = k }) out
+  pub told : {k : ℕ} → asking (c .op) ≡ true → Sound s → Settled side → Adds d at (askingSays (c .op) (meaning s) (side .party) c) k out → Performs (c .op) s side c body d at (record { tanks = s; side = side; at = k }) out
   told e = only-asks (c .op) e
 
   -- a text

@@ -4,6 +4,7 @@ use mathlib.Core.Bool.{Bool, true, false}
 use mathlib.Core.List.{List, [], _∷_, _++_}
 use Prim.Native.Nat.{ℕ, _+_}
 use lib.ListN.{length}
+use Rattle.styles.specs.declared.Party.{Party}
 use Rattle.styles.specs.Answers.{stylesOf}
 use Rattle.lists.specs.Lists.{rangeList, wholeList, rangeNumber, wholeNumber}
 use Rattle.lists.specs.Anchors.{anchors, anchorsNumber}
@@ -13,7 +14,7 @@ use Rattle.tanks.specs.declared.Tanks.{Tanks}
 use Rattle.tanks.specs.House.{House, tankAt, held, openNumber, opening, askNumber, refusalAt, afterAt, insertedSetAt, removedFirstAt}
 use Rattle.tanks.specs.Pool.{meaning, Sound}
 use Rattle.tanks.specs.Contracts.{counts, says}
-use Rattle.night.specs.Ageings.{ageNumber, agedHouse, droppedAt, remainingAt}
+use Rattle.night.specs.Ageings.{ageNumberBy, agedHouseBy, droppedBy, remainingBy}
 use Rattle.night.specs.Proposing.{proposalAt}
 use Rattle.ask.specs.Asks.{askAt, valueAsked, marksAsked, markAsked, stretchAsked, inheritAsked, inheritedAsked, keyAsked, allValueAsked, sameAsked, rangeNeededAsked, wholeNeededAsked}
 use Rattle.script.specs.declared.Call.{Call}
@@ -48,21 +49,21 @@ settingAt c i = record { share = numberAt c i; limit = numberAt c (i + 1) }
 abbrev pub settingsOf : Call → List Setting
 settingsOf c = settingAt c 0 ∷ settingAt c 2 ∷ settingAt c 4 ∷ settingAt c 6 ∷ settingAt c 8 ∷ settingAt c 10 ∷ settingAt c 12 ∷ settingAt c 14 ∷ []
 
--- the edits, as the rules have them: a mark on a range
-abbrev pub annotation : Call → Edit
-annotation c = annotating (startIn c) (endIn c) (markOf c)
+-- the edits by a party, as the rules have them: a mark on a range
+abbrev pub annotation : Party → Call → Edit
+annotation who c = annotating (startIn c) (endIn c) (markOf who c)
 
 -- so many new positions at a place
-abbrev pub insertion : Call → Edit
-insertion c = inserting (numberAt c 1) (numberAt c 2)
+abbrev pub insertion : Party → Call → Edit
+insertion who c = inserting who (numberAt c 1) (numberAt c 2)
 
 -- a range less
-abbrev pub deletion : Call → Edit
-deletion c = deleting (startIn c) (endIn c)
+abbrev pub deletion : Party → Call → Edit
+deletion who c = deleting who (startIn c) (endIn c)
 
 -- a mark taken off, backward from a last position
-abbrev pub removal : Call → Edit
-removal c = removing (identityOf c) (numberAt c 4)
+abbrev pub removal : Party → Call → Edit
+removal who c = removing (identityOf who c) (numberAt c 4)
 
 -- up to where an ageing goes
 abbrev pub beforeIn : Call → ℕ
@@ -72,57 +73,57 @@ beforeIn c = numberAt c 1
 abbrev pub budgetIn : Call → ℕ
 budgetIn c = numberAt c 2
 
--- ---- The eight tanks after it: a row for each op that changes them; a question leaves them as they were
-unfoldable pub changed : Change → House → Call → House
-changed Change.Open h c = opening (settingsOf c)
-changed Change.Annotate h c = afterAt h (tankFor c) (annotation c)
-changed Change.Insert h c = afterAt h (tankFor c) (insertion c)
-changed Change.Delete h c = afterAt h (tankFor c) (deletion c)
-changed Change.Remove h c = afterAt h (tankFor c) (removal c)
-changed Change.Age h c = agedHouse h (tankFor c) (beforeIn c) (budgetIn c)
+-- ---- The eight tanks after a call by a party: a row for each op that changes them; a question leaves them as they were
+unfoldable pub changed : Change → House → Party → Call → House
+changed Change.Open h who c = opening (settingsOf c)
+changed Change.Annotate h who c = afterAt h (tankFor c) (annotation who c)
+changed Change.Insert h who c = afterAt h (tankFor c) (insertion who c)
+changed Change.Delete h who c = afterAt h (tankFor c) (deletion who c)
+changed Change.Remove h who c = afterAt h (tankFor c) (removal who c)
+changed Change.Age h who c = agedHouseBy h (tankFor c) who (beforeIn c) (budgetIn c)
 
 -- ---- Its answer
--- the marked stretches of a tank, where there is room for so many numbers
-unfoldable pub wholeSays : House → ℕ → ℕ → Pieces
-wholeSays h t room = askAt h t (refusedSays 1) (λ v. orRefused (wholeNumber room v) (listSays t (wholeList v)))
+-- the marked stretches that a party is shown of a tank, where there is room for so many numbers
+unfoldable pub wholeSays : House → Party → ℕ → ℕ → Pieces
+wholeSays h who t room = askAt h t who (refusedSays 1) (λ v. orRefused (wholeNumber room v) (listSays t (wholeList v)))
 
 -- the count of a tank's anchors, and all of them
 abbrev pub allAnchorsSay : View → Pieces
 allAnchorsSay v = lineSays (bytes "anchors=") (length (anchors v)) ++ anchorsSay (anchors v)
 
 -- of a call that changes the tanks: a row for each op
-unfoldable pub changeSays : Change → House → Call → Pieces
-changeSays Change.Open h c = acceptedSays (openNumber (settingsOf c))
-changeSays Change.Annotate h c = acceptedSays (refusalAt h (tankFor c) (annotation c))
-changeSays Change.Insert h c = orRefused (refusalAt h (tankFor c) (insertion c)) (stylesSay (stylesOf (insertedSetAt h (tankFor c) (numberAt c 1) (numberAt c 2))))
-changeSays Change.Delete h c = acceptedSays (refusalAt h (tankFor c) (deletion c))
-changeSays Change.Remove h c = firstSays (refusalAt h (tankFor c) (removal c)) (removedFirstAt h (tankFor c) (identityOf c) (numberAt c 4))
-changeSays Change.Age h c =
-    agedSays (ageNumber h (tankFor c) (beforeIn c) (budgetIn c)) (droppedAt h (tankFor c) (beforeIn c) (budgetIn c)) (remainingAt h (tankFor c) (beforeIn c) (budgetIn c))
+unfoldable pub changeSays : Change → House → Party → Call → Pieces
+changeSays Change.Open h who c = acceptedSays (openNumber (settingsOf c))
+changeSays Change.Annotate h who c = acceptedSays (refusalAt h (tankFor c) (annotation who c))
+changeSays Change.Insert h who c = orRefused (refusalAt h (tankFor c) (insertion who c)) (stylesSay (stylesOf (insertedSetAt h (tankFor c) who (numberAt c 1) (numberAt c 2))))
+changeSays Change.Delete h who c = acceptedSays (refusalAt h (tankFor c) (deletion who c))
+changeSays Change.Remove h who c = firstSays (refusalAt h (tankFor c) (removal who c)) (removedFirstAt h (tankFor c) (identityOf who c) (numberAt c 4))
+changeSays Change.Age h who c =
+    agedSays (ageNumberBy h (tankFor c) who (beforeIn c) (budgetIn c)) (droppedBy h (tankFor c) who (beforeIn c) (budgetIn c)) (remainingBy h (tankFor c) who (beforeIn c) (budgetIn c))
 
--- of one that asks
-unfoldable pub answerSays : Question → House → Call → Pieces
-answerSays Question.Length h c = countSays (bytes "length=") (counts (askNumber (tankFor c)) (tankAt h (tankFor c) .length))
-answerSays Question.Touched h c = touchedSays (says (askNumber (tankFor c)) (tankAt h (tankFor c) .touched))
-answerSays Question.Runs h c = countSays (bytes "runs=") (counts (askNumber (tankFor c)) (held h (tankFor c)))
-answerSays Question.Value h c = shownSays (valueAsked h (tankFor c) (numberAt c 1) (keyAt c 2))
-answerSays Question.HasKey h c = toldSays (keyAsked h (tankFor c) (startIn c) (endIn c) (keyAt c 3))
-answerSays Question.AllValue h c = toldSays (allValueAsked h (tankFor c) (startIn c) (endIn c) (keyAt c 3) (c .value))
-answerSays Question.Same h c = sharedSays (sameAsked h (tankFor c) (startIn c) (endIn c))
-answerSays Question.Marks h c = setSays (marksAsked h (tankFor c) (numberAt c 1))
-answerSays Question.Inherit h c = setSays (inheritAsked h (tankFor c) (numberAt c 1))
-answerSays Question.Mark h c = askedSays (markAsked h (tankFor c) (numberAt c 1) (numberAt c 2))
-answerSays Question.Inherited h c = askedSays (inheritedAsked h (tankFor c) (numberAt c 1) (numberAt c 2))
-answerSays Question.Find h c = extentSays (stretchAsked h (tankFor c) (numberAt c 1))
-answerSays Question.Propose h c = proposalSays (proposalAt h (tankFor c) (keyAt c 1) (numberAt c 2))
+-- of one that asks: length, touched, runs and proposals are alike for both parties
+unfoldable pub answerSays : Question → House → Party → Call → Pieces
+answerSays Question.Length h who c = countSays (bytes "length=") (counts (askNumber (tankFor c)) (tankAt h (tankFor c) .length))
+answerSays Question.Touched h who c = touchedSays (says (askNumber (tankFor c)) (tankAt h (tankFor c) .touched))
+answerSays Question.Runs h who c = countSays (bytes "runs=") (counts (askNumber (tankFor c)) (held h (tankFor c)))
+answerSays Question.Value h who c = shownSays (valueAsked h (tankFor c) who (numberAt c 1) (keyAt c 2))
+answerSays Question.HasKey h who c = toldSays (keyAsked h (tankFor c) who (startIn c) (endIn c) (keyAt c 3))
+answerSays Question.AllValue h who c = toldSays (allValueAsked h (tankFor c) who (startIn c) (endIn c) (keyAt c 3) (c .value))
+answerSays Question.Same h who c = sharedSays (sameAsked h (tankFor c) who (startIn c) (endIn c))
+answerSays Question.Marks h who c = setSays (marksAsked h (tankFor c) who (numberAt c 1))
+answerSays Question.Inherit h who c = setSays (inheritAsked h (tankFor c) who (numberAt c 1))
+answerSays Question.Mark h who c = askedSays (markAsked h (tankFor c) who (numberAt c 1) (numberAt c 2))
+answerSays Question.Inherited h who c = askedSays (inheritedAsked h (tankFor c) who (numberAt c 1) (numberAt c 2))
+answerSays Question.Find h who c = extentSays (stretchAsked h (tankFor c) who (numberAt c 1))
+answerSays Question.Propose h who c = proposalSays (proposalAt h (tankFor c) (keyAt c 1) (numberAt c 2))
 
 -- of one that asks for a list
-unfoldable pub listingSays : Listing → House → Call → Pieces
-listingSays Listing.Stretches h c = askAt h (tankFor c) (refusedSays 1) (λ v. orRefused (rangeNumber (startIn c) (endIn c) (numberAt c 3) v) (listSays (tankFor c) (rangeList (startIn c) (endIn c) v)))
-listingSays Listing.StretchesNeeded h c = neededSays (rangeNeededAsked h (tankFor c) (startIn c) (endIn c))
-listingSays Listing.Whole h c = wholeSays h (tankFor c) (numberAt c 1)
-listingSays Listing.WholeNeeded h c = neededSays (wholeNeededAsked h (tankFor c))
-listingSays Listing.Anchors h c = askAt h (tankFor c) (refusedSays 1) (λ v. orRefused (anchorsNumber (numberAt c 1) v) (allAnchorsSay v))
+unfoldable pub listingSays : Listing → House → Party → Call → Pieces
+listingSays Listing.Stretches h who c = askAt h (tankFor c) who (refusedSays 1) (λ v. orRefused (rangeNumber (startIn c) (endIn c) (numberAt c 3) v) (listSays (tankFor c) (rangeList (startIn c) (endIn c) v)))
+listingSays Listing.StretchesNeeded h who c = neededSays (rangeNeededAsked h (tankFor c) who (startIn c) (endIn c))
+listingSays Listing.Whole h who c = wholeSays h who (tankFor c) (numberAt c 1)
+listingSays Listing.WholeNeeded h who c = neededSays (wholeNeededAsked h (tankFor c) who)
+listingSays Listing.Anchors h who c = askAt h (tankFor c) who (refusedSays 1) (λ v. orRefused (anchorsNumber (numberAt c 1) v) (allAnchorsSay v))
 
 -- ---- Any op
 -- does it only ask?
@@ -136,17 +137,17 @@ asking (Op.Desk d) = false
 asking (Op.Both b) = false
 
 -- what is answered by those that do; the others are not among these
-unfoldable pub askingSays : Op → House → Call → Pieces
-askingSays Op.Nothing h c = []
-askingSays (Op.Change e) h c = []
-askingSays (Op.Question q) h c = answerSays q h c
-askingSays (Op.Listing l) h c = listingSays l h c
-askingSays (Op.Text x) h c = []
-askingSays (Op.Desk d) h c = []
-askingSays (Op.Both b) h c = []
+unfoldable pub askingSays : Op → House → Party → Call → Pieces
+askingSays Op.Nothing h who c = []
+askingSays (Op.Change e) h who c = []
+askingSays (Op.Question q) h who c = answerSays q h who c
+askingSays (Op.Listing l) h who c = listingSays l h who c
+askingSays (Op.Text x) h who c = []
+askingSays (Op.Desk d) h who c = []
+askingSays (Op.Both b) h who c = []
 
 -- a call that changes the tanks: the next state, and its answer behind what waits
-pub record Changes (e : Change) (s : Tanks) (c : Call) (buffer : List ℕ) (at : ℕ) (r : Done) (out : List ℕ) : Type 0 where
+pub record Changes (e : Change) (s : Tanks) (who : Party) (c : Call) (buffer : List ℕ) (at : ℕ) (r : Done) (out : List ℕ) : Type 0 where
   pub sound : Sound (r .tanks)
-  pub is : meaning (r .tanks) ≡ changed e (meaning s) c
-  pub answer : Adds buffer at (changeSays e (meaning s) c) (r .at) out
+  pub is : meaning (r .tanks) ≡ changed e (meaning s) who c
+  pub answer : Adds buffer at (changeSays e (meaning s) who c) (r .at) out

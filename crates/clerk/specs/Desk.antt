@@ -15,19 +15,21 @@ use Rattle.log.specs.Log as logs
 use Rattle.night.specs.declared.Plan.{Plan}
 use Rattle.night.specs.declared.Range.{Range}
 use Rattle.night.specs.Plans.{range, planOf}
-use Rattle.night.specs.Planning.{planNumber, houseAfterPlan}
+use Rattle.night.specs.Planning.{planNumberBy, houseAfterPlanBy}
 use Rattle.tanks.specs.declared.Tanks.{Tanks}
 use Rattle.strip.specs.declared.legend.Legend.{Legend}
 use Rattle.strip.specs.Legend.{firstLegend, withLetter}
 use Rattle.strip.specs.Strip.{strip, stripNumber}
-use Rattle.tanks.specs.House.{House, tankAt, openNumber, opening}
+use Rattle.styles.specs.declared.Party.{Party}
+use Rattle.styles.specs.declared.Party.the-variants.{Plant}
+use Rattle.tanks.specs.House.{House, shownAt, openNumber, opening}
 use Rattle.tanks.specs.Pool.{meaning, Sound}
 use Rattle.script.specs.declared.Both.{Both}
 use Rattle.script.specs.declared.Call.{Call}
 use Rattle.script.specs.declared.Desk.{Desk}
 use Rattle.script.specs.declared.Op.{Op}
 use Rattle.script.specs.declared.Text.{Text}
-use Rattle.script.specs.Args.{numberAt, keyAt}
+use Rattle.script.specs.Args.{numberAt, keyAt, partyBy}
 use Rattle.answers.specs.Waiting.{Pieces, Adds}
 use Rattle.answers.specs.Replies.{noneSays, acceptedSays, foundSays, takenSays, reportSays, rangeCountSays, stripSays}
 use Rattle.clerk.specs.declared.Moved.{Moved}
@@ -36,25 +38,29 @@ use Rattle.clerk.specs.declared.Side.{Side}
 use Rattle.clerk.specs.Calls.{changed, changeSays, answerSays, listingSays}
 
 -- ---- What is kept
--- nothing yet, and the legend that a strip has before one is said
+-- nothing yet, the legend that a strip has before one is said, and calls as the plant
 abbrev pub emptySide : Side
-emptySide = record { sets = keeping.keptNone; log = logs.fresh; pending = planOf []; legend = firstLegend }
+emptySide = record { sets = keeping.keptNone; log = logs.fresh; pending = planOf []; legend = firstLegend; party = Plant }
 
 -- other sets of settings
 abbrev pub withSets : Side → Kept → Side
-withSets side kept = record { sets = kept; log = side .log; pending = side .pending; legend = side .legend }
+withSets side kept = record { sets = kept; log = side .log; pending = side .pending; legend = side .legend; party = side .party }
 
 -- another log
 abbrev pub withLog : Side → Log → Side
-withLog side l = record { sets = side .sets; log = l; pending = side .pending; legend = side .legend }
+withLog side l = record { sets = side .sets; log = l; pending = side .pending; legend = side .legend; party = side .party }
 
 -- other pending ranges
 abbrev pub withPending : Side → Plan → Side
-withPending side plan = record { sets = side .sets; log = side .log; pending = plan; legend = side .legend }
+withPending side plan = record { sets = side .sets; log = side .log; pending = plan; legend = side .legend; party = side .party }
 
 -- another legend
 abbrev pub withLegend : Side → Legend → Side
-withLegend side l = record { sets = side .sets; log = side .log; pending = side .pending; legend = l }
+withLegend side l = record { sets = side .sets; log = side .log; pending = side .pending; legend = l; party = side .party }
+
+-- another party that calls are made as
+abbrev pub withParty : Side → Party → Side
+withParty side who = record { sets = side .sets; log = side .log; pending = side .pending; legend = side .legend; party = who }
 
 -- one more range behind those of a plan: the 33rd makes a plan that is too long, and no more are counted
 unfoldable pub oneMore : Plan → Range → Plan
@@ -108,6 +114,7 @@ deskSide Desk.Set side c = side
 deskSide Desk.LogEnd side c = withLog side logs.fresh
 deskSide Desk.Range side c = withPending side (morePending side c)
 deskSide Desk.Legend side c = withLegend side (legendFor side c)
+deskSide Desk.Party side c = withParty side (partyBy (numberAt c 0))
 
 -- its answer
 unfoldable pub deskSays : Desk → Side → Call → Pieces
@@ -115,17 +122,18 @@ deskSays Desk.Set side c = foundSays (setFor side c)
 deskSays Desk.LogEnd side c = reportSays (logs.atEnd (side .log))
 deskSays Desk.Range side c = rangeCountSays (morePending side c .count)
 deskSays Desk.Legend side c = acceptedSays 0
+deskSays Desk.Party side c = acceptedSays 0
 
 -- ---- Calls that have to do with that and with the tanks
--- the strip of a tank with a legend, where there is room for so many bytes
+-- the strip of a tank with a legend, as the plant is shown it, where there is room for so many bytes
 abbrev pub stripFor : House → Legend → Call → Pieces
 stripFor h l c =
-    stripSays (stripNumber (numberAt c 0) (numberAt c 2) (numberAt c 3)) (strip (tankAt h (numberAt c 0)) (l .keys) (l .letters) (numberAt c 1) (numberAt c 2))
+    stripSays (stripNumber (numberAt c 0) (numberAt c 2) (numberAt c 3)) (strip (shownAt h Plant (numberAt c 0)) (l .keys) (l .letters) (numberAt c 1) (numberAt c 2))
 
 -- the tanks after it: those that opening with a kept set hands back, refused or not; without one they stay
 unfoldable pub bothHouse : Both → House → Side → Call → House
 bothHouse Both.OpenSet h side c = cond (setFor side c .found) (opening (setFor side c .settings)) h
-bothHouse Both.Plan h side c = houseAfterPlan h (numberAt c 0) (keyAt c 1) (numberAt c 2) (side .pending)
+bothHouse Both.Plan h side c = houseAfterPlanBy h (numberAt c 0) (side .party) (keyAt c 1) (numberAt c 2) (side .pending)
 bothHouse Both.Strip h side c = h
 
 -- what is kept after it: a plan leaves none pending, accepted or not
@@ -137,14 +145,14 @@ bothSide Both.Strip h side c = side
 -- its answer
 unfoldable pub bothSays : Both → House → Side → Call → Pieces
 bothSays Both.OpenSet h side c = cond (setFor side c .found) (acceptedSays (openNumber (setFor side c .settings))) noneSays
-bothSays Both.Plan h side c = acceptedSays (planNumber h (numberAt c 0) (keyAt c 1) (numberAt c 2) (side .pending))
+bothSays Both.Plan h side c = acceptedSays (planNumberBy h (numberAt c 0) (side .party) (keyAt c 1) (numberAt c 2) (side .pending))
 bothSays Both.Strip h side c = stripFor h (side .legend) c
 
--- ---- Any call, with the body behind it where it has one
+-- ---- Any call, with the body behind it where it has one, as the party that is kept
 -- the eight tanks after it
 unfoldable pub afterOp : Op → House → Side → Call → List ℕ → House
 afterOp Op.Nothing h side c body = h
-afterOp (Op.Change e) h side c body = changed e h c
+afterOp (Op.Change e) h side c body = changed e h (side .party) c
 afterOp (Op.Question q) h side c body = h
 afterOp (Op.Listing l) h side c body = h
 afterOp (Op.Text x) h side c body = textHouse x h side c body
@@ -164,9 +172,9 @@ sideAfter (Op.Both b) h side c body = bothSide b h side c
 -- its answer
 unfoldable pub saysOf : Op → House → Side → Call → List ℕ → Pieces
 saysOf Op.Nothing h side c body = []
-saysOf (Op.Change e) h side c body = changeSays e h c
-saysOf (Op.Question q) h side c body = answerSays q h c
-saysOf (Op.Listing l) h side c body = listingSays l h c
+saysOf (Op.Change e) h side c body = changeSays e h (side .party) c
+saysOf (Op.Question q) h side c body = answerSays q h (side .party) c
+saysOf (Op.Listing l) h side c body = listingSays l h (side .party) c
 saysOf (Op.Text x) h side c body = textSays x h side c body
 saysOf (Op.Desk d) h side c body = deskSays d side c
 saysOf (Op.Both b) h side c body = bothSays b h side c

@@ -8,7 +8,7 @@ ghost use Rattle.log.specs.Log as logs;
 ghost use Rattle.tanks.specs.Pool.{Sound, meaning};
 ghost use Rattle.answers.specs.Waiting.{pieceRoom};
 ghost use Rattle.answers.specs.Replies.{takenSays, reportSays};
-ghost use Rattle.clerk.specs.Desk.{Settled, withSets, withLog, withPending, oneMore, takenFrom, logRead, deskSide, deskSays, bothHouse, bothSide, bothSays, Notes, Moves};
+ghost use Rattle.clerk.specs.Desk.{Settled, withSets, withLog, withPending, withParty, oneMore, takenFrom, logRead, deskSide, deskSays, bothHouse, bothSide, bothSays, Notes, Moves};
 use super::Moved;
 use super::Noted;
 use super::Side;
@@ -23,6 +23,8 @@ use night::Plan;
 use night::Range;
 use script::Call;
 use script::key_of;
+use script::party_of;
+use styles::Party;
 use tanks::Tanks;
 
 // Other sets, and all else as it was: the one place where what is kept is made anew for them.
@@ -32,11 +34,13 @@ fn with_sets(side: Side, sets: settings_text::Kept) -> Side
     let log = side.log;
     let pending = side.pending;
     let legend = side.legend;
+    let party = side.party;
     Side {
         sets: sets,
         log: log,
         pending: pending,
         legend: legend,
+        party: party,
     }
 }
 
@@ -47,11 +51,13 @@ fn with_log(side: Side, log: Log) -> Side
     let sets = side.sets;
     let pending = side.pending;
     let legend = side.legend;
+    let party = side.party;
     Side {
         sets: sets,
         log: log,
         pending: pending,
         legend: legend,
+        party: party,
     }
 }
 
@@ -62,11 +68,30 @@ fn with_pending(side: Side, plan: Plan) -> Side
     let sets = side.sets;
     let log = side.log;
     let legend = side.legend;
+    let party = side.party;
     Side {
         sets: sets,
         log: log,
         pending: plan,
         legend: legend,
+        party: party,
+    }
+}
+
+// Another party that the calls which follow are made as.
+fn with_party(side: Side, who: Party) -> Side
+    ensures { λ r. ⌜ r ≡ withParty side who ⌝ }
+{
+    let sets = side.sets;
+    let log = side.log;
+    let pending = side.pending;
+    let legend = side.legend;
+    Side {
+        sets: sets,
+        log: log,
+        pending: pending,
+        legend: legend,
+        party: who,
     }
 }
 
@@ -115,6 +140,19 @@ pub fn set(side: Side, call: Call, out: &mut [u8], at: usize) -> Noted
     Noted { side: side, at: k }
 }
 
+// As whom the calls that follow are made.
+pub fn party(side: Side, call: Call, out: &mut [u8], at: usize) -> Noted
+    requires { ⌜ Settled side ⌝ }
+    requires { ⌜ pieceRoom ≤ length (now out) ⌝ }
+    ensures { λ r. ⌜ Notes (deskSide desks.Desk.Party side call) (deskSays desks.Desk.Party side call) (now (out .entry)) at r (now (out .exit)) ⌝ }
+{
+    let n = call.numbers;
+    let who = party_of(n[0]);
+    let next = with_party(side, who);
+    let k = accept(out, at, 0);
+    Noted { side: next, at: k }
+}
+
 // One more pending range.
 pub fn range(side: Side, call: Call, out: &mut [u8], at: usize) -> Noted
     requires { ⌜ Settled side ⌝ }
@@ -143,7 +181,8 @@ pub fn plan(s: Tanks, side: Side, call: Call, out: &mut [u8], at: usize) -> Move
 {
     let n = call.numbers;
     let pending = side.pending;
-    let e = night::apply_plan(s, n[0], key_of(n[1]), n[2], pending);
+    let who = side.party;
+    let e = night::apply_plan(s, n[0], who, key_of(n[1]), n[2], pending);
     let t = e.tanks;
     let k = accept(out, at, e.number);
     let next = with_pending(side, night::empty_plan());

@@ -4,6 +4,7 @@ ghost use Prim.Native.Nat.{_≤_};
 ghost use lib.ListN.{length};
 ghost use Rattle.script.specs.declared.Change as changes;
 ghost use Rattle.answers.specs.Waiting.{pieceRoom};
+ghost use Rattle.styles.specs.declared.Party.the-variants.{Plant};
 ghost use Rattle.tanks.specs.Pool.{Sound};
 ghost use Rattle.clerk.specs.Calls.{Changes, settingsOf};
 use super::Done;
@@ -12,6 +13,7 @@ use answers::aged_or;
 use answers::first_or;
 use answers::set_or;
 use script::Call;
+use styles::Party;
 use tanks::Setting;
 use tanks::Tanks;
 
@@ -56,7 +58,7 @@ fn settings(call: Call) -> [Setting; 8]
 
 pub fn opened(s: Tanks, call: Call, out: &mut [u8], at: usize) -> Done
     requires { ⌜ pieceRoom ≤ length (now out) ⌝ }
-    ensures { λ r. ⌜ Changes changes.Change.Open s call (now (out .entry)) at r (now (out .exit)) ⌝ }
+    ensures { λ r. ⌜ Changes changes.Change.Open s Plant call (now (out .entry)) at r (now (out .exit)) ⌝ }
 {
     let o = tanks::open(settings(call));
     let t = o.tanks;
@@ -64,62 +66,62 @@ pub fn opened(s: Tanks, call: Call, out: &mut [u8], at: usize) -> Done
     Done { tanks: t, at: k }
 }
 
-pub fn annotated(s: Tanks, call: Call, out: &mut [u8], at: usize) -> Done
+pub fn annotated(s: Tanks, who: Party, call: Call, out: &mut [u8], at: usize) -> Done
     requires { ⌜ Sound s ⌝ }
     requires { ⌜ pieceRoom ≤ length (now out) ⌝ }
-    ensures { λ r. ⌜ Changes changes.Change.Annotate s call (now (out .entry)) at r (now (out .exit)) ⌝ }
+    ensures { λ r. ⌜ Changes changes.Change.Annotate s who call (now (out .entry)) at r (now (out .exit)) ⌝ }
 {
     let n = call.numbers;
-    let e = s.annotate(n[0], n[1], n[2], script::mark_of(call));
+    let e = s.annotate(n[0], n[1], n[2], script::mark_of(who, call));
     let t = e.tanks;
     let k = accept(out, at, e.number);
     Done { tanks: t, at: k }
 }
 
-pub fn inserted(s: Tanks, call: Call, out: &mut [u8], at: usize) -> Done
+pub fn inserted(s: Tanks, who: Party, call: Call, out: &mut [u8], at: usize) -> Done
     requires { ⌜ Sound s ⌝ }
     requires { ⌜ pieceRoom ≤ length (now out) ⌝ }
-    ensures { λ r. ⌜ Changes changes.Change.Insert s call (now (out .entry)) at r (now (out .exit)) ⌝ }
+    ensures { λ r. ⌜ Changes changes.Change.Insert s who call (now (out .entry)) at r (now (out .exit)) ⌝ }
 {
     let n = call.numbers;
-    let e = s.insert(n[0], n[1], n[2]);
+    let e = s.insert(n[0], who, n[1], n[2]);
     let t = e.tanks;
     let m = e.styles;
     let k = set_or(out, at, e.number, m);
     Done { tanks: t, at: k }
 }
 
-pub fn deleted(s: Tanks, call: Call, out: &mut [u8], at: usize) -> Done
+pub fn deleted(s: Tanks, who: Party, call: Call, out: &mut [u8], at: usize) -> Done
     requires { ⌜ Sound s ⌝ }
     requires { ⌜ pieceRoom ≤ length (now out) ⌝ }
-    ensures { λ r. ⌜ Changes changes.Change.Delete s call (now (out .entry)) at r (now (out .exit)) ⌝ }
+    ensures { λ r. ⌜ Changes changes.Change.Delete s who call (now (out .entry)) at r (now (out .exit)) ⌝ }
 {
     let n = call.numbers;
-    let e = s.delete(n[0], n[1], n[2]);
+    let e = s.delete(n[0], who, n[1], n[2]);
     let t = e.tanks;
     let k = accept(out, at, e.number);
     Done { tanks: t, at: k }
 }
 
-pub fn removed(s: Tanks, call: Call, out: &mut [u8], at: usize) -> Done
+pub fn removed(s: Tanks, who: Party, call: Call, out: &mut [u8], at: usize) -> Done
     requires { ⌜ Sound s ⌝ }
     requires { ⌜ pieceRoom ≤ length (now out) ⌝ }
-    ensures { λ r. ⌜ Changes changes.Change.Remove s call (now (out .entry)) at r (now (out .exit)) ⌝ }
+    ensures { λ r. ⌜ Changes changes.Change.Remove s who call (now (out .entry)) at r (now (out .exit)) ⌝ }
 {
     let n = call.numbers;
-    let e = s.remove_style_scanning_backward(n[0], script::identity_of(call), n[4]);
+    let e = s.remove_style_scanning_backward(n[0], script::identity_of(who, call), n[4]);
     let t = e.tanks;
     let k = first_or(out, at, e.number, e.first);
     Done { tanks: t, at: k }
 }
 
-pub fn aged(s: Tanks, call: Call, out: &mut [u8], at: usize) -> Done
+pub fn aged(s: Tanks, who: Party, call: Call, out: &mut [u8], at: usize) -> Done
     requires { ⌜ Sound s ⌝ }
     requires { ⌜ pieceRoom ≤ length (now out) ⌝ }
-    ensures { λ r. ⌜ Changes changes.Change.Age s call (now (out .entry)) at r (now (out .exit)) ⌝ }
+    ensures { λ r. ⌜ Changes changes.Change.Age s who call (now (out .entry)) at r (now (out .exit)) ⌝ }
 {
     let n = call.numbers;
-    let e = night::age(s, n[0], n[1], n[2]);
+    let e = night::age(s, n[0], who, n[1], n[2]);
     let t = e.tanks;
     let k = aged_or(out, at, e.number, e.dropped, e.remaining);
     Done { tanks: t, at: k }

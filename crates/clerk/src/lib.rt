@@ -41,6 +41,7 @@ use script::Reader;
 use script::Text;
 use settings_text::Kept;
 use strip::legend::Legend;
+use styles::Party;
 use tanks::Setting;
 use tanks::Tanks;
 
@@ -51,12 +52,13 @@ pub struct Done {
 }
 
 // What is kept beside the tanks: the last four sets of settings that were read, the log that is under way, the
-// ranges that wait for a plan, and the legend of strips.
+// ranges that wait for a plan, the legend of strips, and as whom calls are made.
 pub struct Side {
     pub sets: Kept,
     pub log: Log,
     pub pending: Plan,
     pub legend: Legend,
+    pub party: Party,
 }
 
 // What is kept after a call, and how much of the output waits.
@@ -124,7 +126,7 @@ fn moving(tanks: Tanks, side: Side, at: usize) -> Moved
     }
 }
 
-// Nothing kept yet, and the legend that a strip has before one is said.
+// Nothing kept yet, the legend that a strip has before one is said, and calls as the plant.
 pub fn empty() -> Side
     ensures { λ r. ⌜ (r ≡ emptySide) × Settled r ⌝ }
 {
@@ -137,61 +139,62 @@ pub fn empty() -> Side
         log: log,
         pending: pending,
         legend: legend,
+        party: Party::Plant,
     }
 }
 
-// A call that changes the tanks: the state after it, and its answer in the output.
-fn change(s: Tanks, e: Change, call: Call, out: &mut [u8], at: usize) -> Done
+// A call by a party that changes the tanks: the state after it, and its answer in the output.
+fn change(s: Tanks, e: Change, who: Party, call: Call, out: &mut [u8], at: usize) -> Done
     requires { ⌜ Sound s ⌝ }
     requires { ⌜ pieceRoom ≤ length (now out) ⌝ }
-    ensures { λ r. ⌜ Changes e s call (now (out .entry)) at r (now (out .exit)) ⌝ }
+    ensures { λ r. ⌜ Changes e s who call (now (out .entry)) at r (now (out .exit)) ⌝ }
 {
     match e {
         Change::Open => opened(s, call, out, at),
-        Change::Annotate => annotated(s, call, out, at),
-        Change::Insert => inserted(s, call, out, at),
-        Change::Delete => deleted(s, call, out, at),
-        Change::Remove => removed(s, call, out, at),
-        Change::Age => aged(s, call, out, at),
+        Change::Annotate => annotated(s, who, call, out, at),
+        Change::Insert => inserted(s, who, call, out, at),
+        Change::Delete => deleted(s, who, call, out, at),
+        Change::Remove => removed(s, who, call, out, at),
+        Change::Age => aged(s, who, call, out, at),
     }
 }
 
 // A call that asks leaves the state as it was, and so does not hand it back: the answer is in the output.
-fn answer(s: Tanks, q: Question, call: Call, out: &mut [u8], at: usize) -> usize
+fn answer(s: Tanks, q: Question, who: Party, call: Call, out: &mut [u8], at: usize) -> usize
     requires { ⌜ Sound s ⌝ }
     requires { ⌜ pieceRoom ≤ length (now out) ⌝ }
-    ensures { λ r. ⌜ Adds (now (out .entry)) at (answerSays q (meaning s) call) r (now (out .exit)) ⌝ }
+    ensures { λ r. ⌜ Adds (now (out .entry)) at (answerSays q (meaning s) who call) r (now (out .exit)) ⌝ }
 {
     match q {
         Question::Length => asking::length(s, call, out, at),
         Question::Touched => asking::touched(s, call, out, at),
         Question::Runs => asking::runs(s, call, out, at),
-        Question::Value => asking::value(s, call, out, at),
-        Question::HasKey => asking::has_key(s, call, out, at),
-        Question::AllValue => asking::all_value(s, call, out, at),
-        Question::Same => asking::same(s, call, out, at),
-        Question::Marks => asking::marks(s, call, out, at),
-        Question::Inherit => asking::inherit(s, call, out, at),
-        Question::Mark => asking::mark(s, call, out, at),
-        Question::Inherited => asking::inherited(s, call, out, at),
-        Question::Find => asking::find(s, call, out, at),
+        Question::Value => asking::value(s, who, call, out, at),
+        Question::HasKey => asking::has_key(s, who, call, out, at),
+        Question::AllValue => asking::all_value(s, who, call, out, at),
+        Question::Same => asking::same(s, who, call, out, at),
+        Question::Marks => asking::marks(s, who, call, out, at),
+        Question::Inherit => asking::inherit(s, who, call, out, at),
+        Question::Mark => asking::mark(s, who, call, out, at),
+        Question::Inherited => asking::inherited(s, who, call, out, at),
+        Question::Find => asking::find(s, who, call, out, at),
         Question::Propose => asking::propose(s, call, out, at),
     }
 }
 
 // One that asks for a list.
-fn listed(s: Tanks, l: Listing, call: Call, out: &mut [u8], at: usize) -> usize
+fn listed(s: Tanks, l: Listing, who: Party, call: Call, out: &mut [u8], at: usize) -> usize
     requires { ⌜ Sound s ⌝ }
     requires { ⌜ pieceRoom ≤ length (now out) ⌝ }
-    ensures { λ r. ⌜ Adds (now (out .entry)) at (listingSays l (meaning s) call) r (now (out .exit)) ⌝ }
+    ensures { λ r. ⌜ Adds (now (out .entry)) at (listingSays l (meaning s) who call) r (now (out .exit)) ⌝ }
 {
     let n = call.numbers;
     match l {
-        Listing::Stretches => listing::stretches(s, call, out, at),
-        Listing::StretchesNeeded => listing::stretches_needed(s, call, out, at),
-        Listing::Whole => whole(s, n[0], n[1], out, at),
-        Listing::WholeNeeded => listing::whole_needed(s, call, out, at),
-        Listing::Anchors => listing::anchors(s, call, out, at),
+        Listing::Stretches => listing::stretches(s, who, call, out, at),
+        Listing::StretchesNeeded => listing::stretches_needed(s, who, call, out, at),
+        Listing::Whole => whole(s, who, n[0], n[1], out, at),
+        Listing::WholeNeeded => listing::whole_needed(s, who, call, out, at),
+        Listing::Anchors => listing::anchors(s, who, call, out, at),
     }
 }
 
@@ -234,6 +237,7 @@ fn at_desk(side: Side, d: Desk, call: Call, out: &mut [u8], at: usize) -> Noted
         Desk::LogEnd => desk::end_log(side, out, at),
         Desk::Range => desk::range(side, call, out, at),
         Desk::Legend => strips::legend(side, call, out, at),
+        Desk::Party => desk::party(side, call, out, at),
     }
 }
 
@@ -266,18 +270,18 @@ fn asks(call: Call) -> bool
     }
 }
 
-// One that only asks: its answer, and no state is handed back.
-fn told(s: Tanks, call: Call, out: &mut [u8], at: usize) -> usize
+// One that only asks, by a party: its answer, and no state is handed back.
+fn told(s: Tanks, who: Party, call: Call, out: &mut [u8], at: usize) -> usize
     requires { ⌜ Sound s ⌝ }
     requires { ⌜ pieceRoom ≤ length (now out) ⌝ }
-    ensures { λ k. ⌜ Adds (now (out .entry)) at (askingSays (call .op) (meaning s) call) k (now (out .exit)) ⌝ }
+    ensures { λ k. ⌜ Adds (now (out .entry)) at (askingSays (call .op) (meaning s) who call) k (now (out .exit)) ⌝ }
 {
     let op = call.op;
     match op {
         Op::Nothing => at,
         Op::Change(_) => at,
-        Op::Question(q) => answer(s, q, call, out, at),
-        Op::Listing(l) => listed(s, l, call, out, at),
+        Op::Question(q) => answer(s, q, who, call, out, at),
+        Op::Listing(l) => listed(s, l, who, call, out, at),
         Op::Text(_) => at,
         Op::Desk(_) => at,
         Op::Both(_) => at,
@@ -294,7 +298,8 @@ fn perform(s: Tanks, side: Side, call: Call, body: &[u8], out: &mut [u8], at: us
     match op {
         Op::Nothing => moving(s, side, at),
         Op::Change(e) => {
-            let d = change(s, e, call, out, at);
+            let who = side.party;
+            let d = change(s, e, who, call, out, at);
             let changed = d.tanks;
             moving(changed, side, d.at)
         }
@@ -345,7 +350,8 @@ pub fn eat(bytes: &[u8], s: Tanks, stand: Stand, body: &mut [u8], out: &mut [u8]
             Event::Call => {
                 let call = t.call;
                 if asks(call) {
-                    at = told(tanks, call, out, at);
+                    let who = side.party;
+                    at = told(tanks, who, call, out, at);
                 } else {
                     let size = t.size;
                     let d = perform(tanks, side, call, &body[..size], out, at);

@@ -5,7 +5,7 @@ ghost use lib.ListN.{length, take};
 ghost use Rattle.script.specs.declared.Listing as listings;
 ghost use Rattle.script.specs.Args.{numberAt};
 ghost use Rattle.tank.specs.State as state;
-ghost use Rattle.tanks.specs.House.{tankAt};
+ghost use Rattle.tanks.specs.House.{shownAt};
 ghost use Rattle.tanks.specs.Pool.{Sound, meaning};
 ghost use Rattle.lists.specs.Anchors.{anchors, Stands, rest};
 ghost use Rattle.answers.specs.Waiting.{Adds, pieceRoom};
@@ -19,6 +19,7 @@ use answers::say;
 use lists::anchors::AnchorCursor;
 use lists::anchors::NextAnchor;
 use script::Call;
+use styles::Party;
 use tank::Tank;
 use tanks::Tanks;
 
@@ -33,80 +34,96 @@ fn places(room: u64) -> usize
 }
 
 // The stretches over a range, in a lent part as long as the call has room.
-fn range_in(s: Tanks, call: Call, part: &mut [u64], out: &mut [u8], at: usize) -> usize
+fn range_in(s: Tanks, who: Party, call: Call, part: &mut [u64], out: &mut [u8], at: usize) -> usize
     requires { ⌜ Sound s ⌝ }
     requires { ⌜ (length (now part) ≡ min (numberAt call 3) 1536) × (pieceRoom ≤ length (now out)) ⌝ }
-    ensures { λ r. ⌜ Adds (now (out .entry)) at (listingSays listings.Listing.Stretches (meaning s) call) r (now (out .exit)) ⌝ }
+    ensures { λ r. ⌜ Adds (now (out .entry)) at (listingSays listings.Listing.Stretches (meaning s) who call) r (now (out .exit)) ⌝ }
 {
     let n = call.numbers;
-    let l = ask::list_range(s, n[0], n[1], n[2], part);
+    let l = ask::list_range(s, n[0], who, n[1], n[2], part);
     put_list(out, at, n[0], l, part)
 }
 
-fn range_of(s: Tanks, call: Call, buf: &mut [u64], out: &mut [u8], at: usize) -> usize
+fn range_of(s: Tanks, who: Party, call: Call, buf: &mut [u64], out: &mut [u8], at: usize) -> usize
     requires { ⌜ Sound s ⌝ }
     requires { ⌜ (1536 ≤ length (now buf)) × (pieceRoom ≤ length (now out)) ⌝ }
-    ensures { λ r. ⌜ Adds (now (out .entry)) at (listingSays listings.Listing.Stretches (meaning s) call) r (now (out .exit)) ⌝ }
+    ensures { λ r. ⌜ Adds (now (out .entry)) at (listingSays listings.Listing.Stretches (meaning s) who call) r (now (out .exit)) ⌝ }
 {
     let n = call.numbers;
     let k = places(n[3]);
-    range_in(s, call, &mut buf[..k], out, at)
+    range_in(s, who, call, &mut buf[..k], out, at)
 }
 
-pub fn stretches(s: Tanks, call: Call, out: &mut [u8], at: usize) -> usize
+pub fn stretches(s: Tanks, who: Party, call: Call, out: &mut [u8], at: usize) -> usize
     requires { ⌜ Sound s ⌝ }
     requires { ⌜ pieceRoom ≤ length (now out) ⌝ }
-    ensures { λ r. ⌜ Adds (now (out .entry)) at (listingSays listings.Listing.Stretches (meaning s) call) r (now (out .exit)) ⌝ }
+    ensures { λ r. ⌜ Adds (now (out .entry)) at (listingSays listings.Listing.Stretches (meaning s) who call) r (now (out .exit)) ⌝ }
 {
     let mut buf = [0u64; 1536];
-    range_of(s, call, &mut buf, out, at)
+    range_of(s, who, call, &mut buf, out, at)
 }
 
-pub fn stretches_needed(s: Tanks, call: Call, out: &mut [u8], at: usize) -> usize
+pub fn stretches_needed(s: Tanks, who: Party, call: Call, out: &mut [u8], at: usize) -> usize
     requires { ⌜ Sound s ⌝ }
     requires { ⌜ pieceRoom ≤ length (now out) ⌝ }
-    ensures { λ r. ⌜ Adds (now (out .entry)) at (listingSays listings.Listing.StretchesNeeded (meaning s) call) r (now (out .exit)) ⌝ }
+    ensures { λ r. ⌜ Adds (now (out .entry)) at (listingSays listings.Listing.StretchesNeeded (meaning s) who call) r (now (out .exit)) ⌝ }
 {
     let n = call.numbers;
-    put_needed(out, at, ask::stretches_needed(s, n[0], n[1], n[2]))
+    put_needed(out, at, ask::stretches_needed(s, n[0], who, n[1], n[2]))
 }
 
 // The marked stretches of a tank, likewise.
-fn whole_in(s: Tanks, tank: u64, room: u64, part: &mut [u64], out: &mut [u8], at: usize) -> usize
+fn whole_in(
+    s: Tanks,
+    who: Party,
+    tank: u64,
+    room: u64,
+    part: &mut [u64],
+    out: &mut [u8],
+    at: usize,
+) -> usize
     requires { ⌜ Sound s ⌝ }
     requires { ⌜ (length (now part) ≡ min room 1536) × (pieceRoom ≤ length (now out)) ⌝ }
-    ensures { λ r. ⌜ Adds (now (out .entry)) at (wholeSays (meaning s) tank room) r (now (out .exit)) ⌝ }
+    ensures { λ r. ⌜ Adds (now (out .entry)) at (wholeSays (meaning s) who tank room) r (now (out .exit)) ⌝ }
 {
-    let l = ask::list_whole(s, tank, part);
+    let l = ask::list_whole(s, tank, who, part);
     put_list(out, at, tank, l, part)
 }
 
-fn whole_of(s: Tanks, tank: u64, room: u64, buf: &mut [u64], out: &mut [u8], at: usize) -> usize
+fn whole_of(
+    s: Tanks,
+    who: Party,
+    tank: u64,
+    room: u64,
+    buf: &mut [u64],
+    out: &mut [u8],
+    at: usize,
+) -> usize
     requires { ⌜ Sound s ⌝ }
     requires { ⌜ (1536 ≤ length (now buf)) × (pieceRoom ≤ length (now out)) ⌝ }
-    ensures { λ r. ⌜ Adds (now (out .entry)) at (wholeSays (meaning s) tank room) r (now (out .exit)) ⌝ }
+    ensures { λ r. ⌜ Adds (now (out .entry)) at (wholeSays (meaning s) who tank room) r (now (out .exit)) ⌝ }
 {
     let k = places(room);
-    whole_in(s, tank, room, &mut buf[..k], out, at)
+    whole_in(s, who, tank, room, &mut buf[..k], out, at)
 }
 
 // The marked stretches of a tank, as they are listed where there is room for so many numbers.
-pub fn whole(s: Tanks, tank: u64, room: u64, out: &mut [u8], at: usize) -> usize
+pub fn whole(s: Tanks, who: Party, tank: u64, room: u64, out: &mut [u8], at: usize) -> usize
     requires { ⌜ Sound s ⌝ }
     requires { ⌜ pieceRoom ≤ length (now out) ⌝ }
-    ensures { λ r. ⌜ Adds (now (out .entry)) at (wholeSays (meaning s) tank room) r (now (out .exit)) ⌝ }
+    ensures { λ r. ⌜ Adds (now (out .entry)) at (wholeSays (meaning s) who tank room) r (now (out .exit)) ⌝ }
 {
     let mut buf = [0u64; 1536];
-    whole_of(s, tank, room, &mut buf, out, at)
+    whole_of(s, who, tank, room, &mut buf, out, at)
 }
 
-pub fn whole_needed(s: Tanks, call: Call, out: &mut [u8], at: usize) -> usize
+pub fn whole_needed(s: Tanks, who: Party, call: Call, out: &mut [u8], at: usize) -> usize
     requires { ⌜ Sound s ⌝ }
     requires { ⌜ pieceRoom ≤ length (now out) ⌝ }
-    ensures { λ r. ⌜ Adds (now (out .entry)) at (listingSays listings.Listing.WholeNeeded (meaning s) call) r (now (out .exit)) ⌝ }
+    ensures { λ r. ⌜ Adds (now (out .entry)) at (listingSays listings.Listing.WholeNeeded (meaning s) who call) r (now (out .exit)) ⌝ }
 {
     let n = call.numbers;
-    put_needed(out, at, ask::whole_needed(s, n[0]))
+    put_needed(out, at, ask::whole_needed(s, n[0], who))
 }
 
 // The anchors of a tank from a cursor on, as many as are left.
@@ -130,22 +147,22 @@ fn put_anchors(out: &mut [u8], at: usize, t: Tank, from: AnchorCursor, left: usi
 }
 
 // The anchors of a tank, of which the count is known.
-fn all_anchors(s: Tanks, tank: u64, count: usize, out: &mut [u8], at: usize) -> usize
-    requires { ⌜ (Sound s) × (count ≡ length (anchors (tankAt (meaning s) tank))) ⌝ }
+fn all_anchors(s: Tanks, who: Party, tank: u64, count: usize, out: &mut [u8], at: usize) -> usize
+    requires { ⌜ (Sound s) × (count ≡ length (anchors (shownAt (meaning s) who tank))) ⌝ }
     requires { ⌜ pieceRoom ≤ length (now out) ⌝ }
-    ensures { λ r. ⌜ Adds (now (out .entry)) at (allAnchorsSay (tankAt (meaning s) tank)) r (now (out .exit)) ⌝ }
+    ensures { λ r. ⌜ Adds (now (out .entry)) at (allAnchorsSay (shownAt (meaning s) who tank)) r (now (out .exit)) ⌝ }
 {
-    let t = s.take(tank as usize);
+    let t = ask::shown(s, tank, who);
     let c = lists::anchors::first_anchor(t);
     let k = say(out, at, b"anchors=", text::wide(count));
     put_anchors(out, k, t, c, count)
 }
 
 // The anchors, written one by one as the cursor comes to them: the room that the call names is judged, and nothing is lent.
-pub fn anchors(s: Tanks, call: Call, out: &mut [u8], at: usize) -> usize
+pub fn anchors(s: Tanks, who: Party, call: Call, out: &mut [u8], at: usize) -> usize
     requires { ⌜ Sound s ⌝ }
     requires { ⌜ pieceRoom ≤ length (now out) ⌝ }
-    ensures { λ r. ⌜ Adds (now (out .entry)) at (listingSays listings.Listing.Anchors (meaning s) call) r (now (out .exit)) ⌝ }
+    ensures { λ r. ⌜ Adds (now (out .entry)) at (listingSays listings.Listing.Anchors (meaning s) who call) r (now (out .exit)) ⌝ }
 {
     let n = call.numbers;
     let tank = n[0];
@@ -153,10 +170,10 @@ pub fn anchors(s: Tanks, call: Call, out: &mut [u8], at: usize) -> usize
     if 8 <= tank {
         return refuse(out, at, 1);
     }
-    let l = ask::anchors_needed(s, tank);
+    let l = ask::anchors_needed(s, tank, who);
     let count = l.count;
     if room < text::wide(count) {
         return refuse(out, at, 11);
     }
-    all_anchors(s, tank, count, out, at)
+    all_anchors(s, who, tank, count, out, at)
 }

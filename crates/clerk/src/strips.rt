@@ -25,11 +25,13 @@ fn with_legend(side: Side, legend: Legend) -> Side
     let sets = side.sets;
     let log = side.log;
     let pending = side.pending;
+    let party = side.party;
     Side {
         sets: sets,
         log: log,
         pending: pending,
         legend: legend,
+        party: party,
     }
 }
 

@@ -65,6 +65,7 @@ fn page_4() {
 fn page_strip() {
     say(b"  legend                  place key letter\n");
     say(b"  strip                   tank start k room\n");
+    say(b"  party                   party\n");
     say(b"\n");
 }
 
@@ -79,9 +80,9 @@ fn page_5() {
         b"lower-case hexadecimal digits of the bits of an f64. A sign is a minus or nothing, and there is no -0. A place is 0 to 7, a\n",
     );
     say(
-        b"letter any one byte. A room is how many numbers (stretches, whole), records (anchors) or bytes (strip) the answer may take;\n",
+        b"letter any one byte, a party plant or lab. A room is how many numbers (stretches, whole), records (anchors) or bytes (strip) the\n",
     );
-    say(b"the program has room for the longest there is.\n");
+    say(b"answer may take; the program has room for the longest there is.\n");
     say(b"\n");
 }
 
@@ -101,6 +102,7 @@ fn page_6() {
     );
     page_plans();
     page_legend();
+    page_party();
 }
 
 fn page_legend() {
@@ -109,6 +111,18 @@ fn page_legend() {
     );
     say(
         b"shows a value somewhere in it, else a dot. Place i has key i and the digit i until a legend says otherwise.\n",
+    );
+}
+
+fn page_party() {
+    say(
+        b"party says as whom the calls that follow are made: the plant, which it is at first, or the laboratory. An annotate and a remove\n",
+    );
+    say(
+        b"are of that party's marks, and every question and list shows those alone. Length, touched, runs and propose are alike for both,\n",
+    );
+    say(
+        b"a log and a strip are the plant's, and the laboratory neither inserts, deletes, plans nor ages.\n",
     );
     say(b"\n");
 }
@@ -127,7 +141,8 @@ fn page_7() {
     say(b"  answer to               lines\n");
     say(b"  a call that is refused  refused=N\n");
     say(b"  open, annotate, delete, accepted=1\n");
-    say(b"    open_set, plan, legend\n");
+    say(b"    open_set, plan, legend,\n");
+    say(b"    party\n");
     say(
         b"  insert, same, marks,    marks=N, and for each mark key= lamport= peer= cnt= flags= kind= value=\n",
     );
@@ -216,6 +231,8 @@ fn page_10() {
     say_refusal(b"  ", 13);
     say_refusal(b"  ", 14);
     say_refusal(b"  ", 15);
+    say_refusal(b"  ", 16);
+    say_refusal(b"  ", 17);
     say_refusal(b"  ", 18);
     say(b"\n");
 }

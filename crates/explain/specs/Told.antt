@@ -56,6 +56,7 @@ hintText Holds.Counter k = bytes " and a signed number of 32 bits"
 hintText Holds.Kind k = bytes " and null, bool, whole or decimal"
 hintText Holds.Value k = valueHint k
 hintText Holds.Byte k = bytes " and one byte"
+hintText Holds.Party k = bytes " and plant or lab"
 
 -- of the field at a call's place
 abbrev pub expectedText : Call → List ℕ
@@ -80,6 +81,7 @@ wrongText Holds.Counter t = Came.NoCounter
 wrongText Holds.Kind t = Came.NoKind
 wrongText Holds.Value t = Came.NoValue
 wrongText Holds.Byte t = Came.NoValue
+wrongText Holds.Party t = Came.NoParty
 
 -- a bad line, where a field was expected
 unfoldable pub cameOf : Field → List ℕ → Came
@@ -106,6 +108,7 @@ cameText Came.Large = bytes "a number that is too large"
 cameText Came.NoCounter = bytes "no such counter"
 cameText Came.NoKind = bytes "no such kind"
 cameText Came.NoValue = bytes "no such value"
+cameText Came.NoParty = bytes "no such party"
 cameText Came.Ended = bytes "the end of the input"
 cameText Came.Cut = bytes "no newline at the input's end"
 

@@ -48,6 +48,7 @@ fn put_hint(out: &mut [u8], at: usize, h: Holds, kind: Kind) -> usize
         Holds::Kind => text::put(out, at, b" and null, bool, whole or decimal"),
         Holds::Value => put_value_hint(out, at, kind),
         Holds::Byte => text::put(out, at, b" and one byte"),
+        Holds::Party => text::put(out, at, b" and plant or lab"),
     }
 }
 
@@ -106,6 +107,7 @@ fn wrong_text(h: Holds, t: &[u8]) -> Came
         Holds::Kind => Came::NoKind,
         Holds::Value => Came::NoValue,
         Holds::Byte => Came::NoValue,
+        Holds::Party => Came::NoParty,
     }
 }
 
@@ -160,6 +162,7 @@ fn put_came(out: &mut [u8], at: usize, c: Came) -> usize
         Came::NoCounter => text::put(out, at, b"no such counter"),
         Came::NoKind => text::put(out, at, b"no such kind"),
         Came::NoValue => text::put(out, at, b"no such value"),
+        Came::NoParty => text::put(out, at, b"no such party"),
         Came::Ended => text::put(out, at, b"the end of the input"),
         Came::Cut => text::put(out, at, b"no newline at the input's end"),
     }

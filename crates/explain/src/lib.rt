@@ -38,6 +38,7 @@ pub enum Came {
     NoCounter,
     NoKind,
     NoValue,
+    NoParty,
     Ended,
     Cut,
 }

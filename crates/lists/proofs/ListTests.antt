@@ -4,6 +4,7 @@ use lib.IntN.{pos}
 use mathlib.Core.Bool.{false}
 use mathlib.Core.List.{[], _∷_}
 use Rattle.styles.specs.declared.Mark.{Mark}
+use Rattle.styles.specs.declared.Party.the-variants.{Plant}
 use Rattle.styles.specs.declared.Value.the-variants.{Null}
 use Rattle.styles.specs.Marks.{insertMark, member, only, sameMarks}
 use Rattle.styles.specs.Order.{stands, numbers}
@@ -14,10 +15,10 @@ use Rattle.lists.specs.Lists.{listOver, rangeList, wholeList, rangeRefus
 use Rattle.lists.specs.Anchors.{marksBefore, marksBehind, anchorOf, anchorsOf, boundary, boundaries, anchors}
 
 abbrev A : Mark
-A = record { key = 1; flags = 128; lamport = 5; cnt = pos 0; peer = 1; value = Null }
+A = record { key = 1; flags = 128; party = Plant; lamport = 5; cnt = pos 0; peer = 1; value = Null }
 
 abbrev C : Mark
-C = record { key = 2; flags = 128; lamport = 3; cnt = pos 0; peer = 1; value = Null }
+C = record { key = 2; flags = 128; party = Plant; lamport = 3; cnt = pos 0; peer = 1; value = Null }
 
 abbrev bare : View
 bare = record { length = 10; touched = false; at = λ p. [] }

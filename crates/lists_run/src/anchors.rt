@@ -5,9 +5,11 @@ ghost use lib.ListN.{length};
 ghost use Rattle.tanks.specs.Pool.{Sound};
 use crate::print::say;
 use crate::print::say_labelled;
+use ask::Spot;
 use lists::Listed;
 use lists::anchors::Anchor;
 use richtext::AnchorType;
+use styles::Party;
 use tanks::Tanks;
 
 // The answer, and the places after the call.
@@ -22,13 +24,13 @@ fn both(listed: Listed, places: [Anchor; 4]) -> Filled
     Filled { listed, places }
 }
 
-// The tank's anchors at the front of four places that hold `blank` before.
-fn fill(s: Tanks, tank: u64, blank: Anchor) -> Filled
+// The anchors of a party's marks at the front of four places that hold `blank` before.
+fn fill(s: Tanks, spot: Spot, blank: Anchor) -> Filled
     requires { ⌜ Sound s ⌝ }
     ensures { λ r. ⌜ length (r .places) ≡ 4 ⌝ }
 {
     let mut places = [blank, blank, blank, blank];
-    let listed = ask::iter_anchors(s, tank, &mut places);
+    let listed = ask::iter_anchors(s, spot, &mut places);
     both(listed, places)
 }
 
@@ -72,7 +74,11 @@ fn listed(s: Tanks, tank: u64)
         lamport: 7,
         peer: 7,
     };
-    let f = fill(s, tank, nobody);
+    let spot = Spot {
+        tank: tank,
+        who: Party::Plant,
+    };
+    let f = fill(s, spot, nobody);
     let l = f.listed;
     let count = l.count;
     say_labelled(b"iter_anchors tank=", tank);

@@ -9,6 +9,7 @@ mod stretches;
 use crate::print::say;
 use crate::print::say_labelled;
 use styles::Mark;
+use styles::Party;
 use styles::Value;
 use tanks::Setting;
 use tanks::Tanks;
@@ -21,6 +22,7 @@ fn marked(s: Tanks, tank: u64, start: u64, end: u64, key: u16) -> Tanks
     let mark = Mark {
         key: key,
         flags: 0x84,
+        party: Party::Plant,
         lamport: 5,
         cnt: 0,
         peer: 1,

@@ -5,6 +5,7 @@ ghost use Rattle.tanks.specs.Pool.{Sound};
 use crate::print::say;
 use crate::print::say_labelled;
 use crate::print::say_numbers;
+use styles::Party;
 use tanks::Tanks;
 
 // The answer that goes with the part: the refusal and the count, from the same list in a buffer of its own.
@@ -13,7 +14,7 @@ fn say_range_answer(s: Tanks, tank: u64, start: u64, end: u64, room: usize)
     requires { ⌜ room ≤ 16 ⌝ }
 {
     let mut buffer = [7u64; 16];
-    let listed = ask::list_range(s, tank, start, end, &mut buffer[0..room]);
+    let listed = ask::list_range(s, tank, Party::Plant, start, end, &mut buffer[0..room]);
     say_labelled(b" refused=", listed.number);
     say_labelled(b" count=", listed.count as u64);
 }
@@ -22,7 +23,7 @@ fn say_range_answer(s: Tanks, tank: u64, start: u64, end: u64, room: usize)
 fn say_range_part(s: Tanks, tank: u64, start: u64, end: u64, out: &mut [u64]) -> usize
     requires { ⌜ Sound s ⌝ }
 {
-    let part = ask::iter_range(s, tank, start, end, out);
+    let part = ask::iter_range(s, tank, Party::Plant, start, end, out);
     say(b" part=");
     say_numbers(part, 0);
     part.len()
@@ -92,7 +93,7 @@ fn say_whole_answer(s: Tanks, tank: u64, room: usize)
     requires { ⌜ room ≤ 16 ⌝ }
 {
     let mut buffer = [7u64; 16];
-    let listed = ask::list_whole(s, tank, &mut buffer[0..room]);
+    let listed = ask::list_whole(s, tank, Party::Plant, &mut buffer[0..room]);
     say_labelled(b" refused=", listed.number);
     say_labelled(b" count=", listed.count as u64);
 }
@@ -100,7 +101,7 @@ fn say_whole_answer(s: Tanks, tank: u64, room: usize)
 fn say_whole_part(s: Tanks, tank: u64, out: &mut [u64]) -> usize
     requires { ⌜ Sound s ⌝ }
 {
-    let part = ask::iter(s, tank, out);
+    let part = ask::iter(s, tank, Party::Plant, out);
     say(b" part=");
     say_numbers(part, 0);
     part.len()

@@ -5,6 +5,7 @@ use mathlib.Core.List.{List, [], _∷_, _++_, foldl}
 use Prim.Native.Nat.{ℕ, _≤_}
 use lib.Dec.{eqb}
 use lib.ListN.{length}
+use Rattle.styles.specs.declared.Party.the-variants.{Plant}
 use Rattle.tank.specs.Rules.{Edit, annotating, inserting, deleting}
 use Rattle.tanks.specs.declared.Tanks.{Tanks}
 use Rattle.tanks.specs.House.{House, refusalAt, afterAt, Call as Calling}
@@ -46,22 +47,22 @@ logged (Op.Both b) = false
 
 -- the edit of a group, by its op: its numbers stand in the order of its lines; an op that a log may not name has no edit that is asked for
 abbrev pub changeBy : Change → Call → Edit
-changeBy Change.Open c = deleting 0 0
-changeBy Change.Annotate c = annotating (numberAt c 1) (numberAt c 2) (markOf c)
-changeBy Change.Insert c = inserting (numberAt c 1) (numberAt c 2)
-changeBy Change.Delete c = deleting (numberAt c 1) (numberAt c 2)
-changeBy Change.Remove c = deleting 0 0
-changeBy Change.Age c = deleting 0 0
+changeBy Change.Open c = deleting Plant 0 0
+changeBy Change.Annotate c = annotating (numberAt c 1) (numberAt c 2) (markOf Plant c)
+changeBy Change.Insert c = inserting Plant (numberAt c 1) (numberAt c 2)
+changeBy Change.Delete c = deleting Plant (numberAt c 1) (numberAt c 2)
+changeBy Change.Remove c = deleting Plant 0 0
+changeBy Change.Age c = deleting Plant 0 0
 
 -- of any op
 abbrev pub editBy : Op → Call → Edit
-editBy Op.Nothing c = deleting 0 0
+editBy Op.Nothing c = deleting Plant 0 0
 editBy (Op.Change e) c = changeBy e c
-editBy (Op.Question q) c = deleting 0 0
-editBy (Op.Listing l) c = deleting 0 0
-editBy (Op.Text x) c = deleting 0 0
-editBy (Op.Desk d) c = deleting 0 0
-editBy (Op.Both b) c = deleting 0 0
+editBy (Op.Question q) c = deleting Plant 0 0
+editBy (Op.Listing l) c = deleting Plant 0 0
+editBy (Op.Text x) c = deleting Plant 0 0
+editBy (Op.Desk d) c = deleting Plant 0 0
+editBy (Op.Both b) c = deleting Plant 0 0
 
 -- the tank and the edit of a group
 abbrev pub callOf : Call → Calling

@@ -13,6 +13,7 @@ use script::Ending;
 use script::Event;
 use script::Op;
 use script::Reader;
+use styles::Party;
 use tanks::Edit;
 use tanks::Tanks;
 
@@ -82,12 +83,12 @@ fn change_in(e: Change, call: Call) -> Edit
 {
     let n = call.numbers;
     match e {
-        Change::Open => Edit::Delete(0, 0),
-        Change::Annotate => Edit::Annotate(n[1], n[2], script::mark_of(call)),
-        Change::Insert => Edit::Insert(n[1], n[2]),
-        Change::Delete => Edit::Delete(n[1], n[2]),
-        Change::Remove => Edit::Delete(0, 0),
-        Change::Age => Edit::Delete(0, 0),
+        Change::Open => Edit::Delete(Party::Plant, 0, 0),
+        Change::Annotate => Edit::Annotate(n[1], n[2], script::mark_of(Party::Plant, call)),
+        Change::Insert => Edit::Insert(Party::Plant, n[1], n[2]),
+        Change::Delete => Edit::Delete(Party::Plant, n[1], n[2]),
+        Change::Remove => Edit::Delete(Party::Plant, 0, 0),
+        Change::Age => Edit::Delete(Party::Plant, 0, 0),
     }
 }
 
@@ -97,13 +98,13 @@ fn edit_in(call: Call) -> Edit
 {
     let op = call.op;
     match op {
-        Op::Nothing => Edit::Delete(0, 0),
+        Op::Nothing => Edit::Delete(Party::Plant, 0, 0),
         Op::Change(e) => change_in(e, call),
-        Op::Question(_) => Edit::Delete(0, 0),
-        Op::Listing(_) => Edit::Delete(0, 0),
-        Op::Text(_) => Edit::Delete(0, 0),
-        Op::Desk(_) => Edit::Delete(0, 0),
-        Op::Both(_) => Edit::Delete(0, 0),
+        Op::Question(_) => Edit::Delete(Party::Plant, 0, 0),
+        Op::Listing(_) => Edit::Delete(Party::Plant, 0, 0),
+        Op::Text(_) => Edit::Delete(Party::Plant, 0, 0),
+        Op::Desk(_) => Edit::Delete(Party::Plant, 0, 0),
+        Op::Both(_) => Edit::Delete(Party::Plant, 0, 0),
     }
 }
 

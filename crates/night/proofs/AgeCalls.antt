@@ -9,6 +9,7 @@ use native.Mathlib.Nat.{div-add-mod', mod-lt, suc-mul, mul-le-mul-right}
 use lib.Dec.{ltb}
 use borrow.Author.Tests.{lt-leb, le-ltb, ne-eqb}
 use Rattle.styles.specs.declared.Mark.{Mark}
+use Rattle.styles.specs.declared.Party.the-variants.{Plant}
 use Rattle.tank.specs.Rules.{View, deleting, after, afterDelete, whenAccepted}
 use Rattle.tanks.specs.declared.Tanks.{Tanks}
 use Rattle.tanks.specs.House.{House, tankAt, withTank, refusalAt}
@@ -106,14 +107,14 @@ module _ (t budget : ℕ) (t8 : t < 8) (some-budget : 0 < budget) where
     counts-sum h = ap (λ (x : Ageing). x .dropped) (ages-over (rounded-enough due budget k some-budget h))
 
     -- and the tank equals what one call of delete leaves, which is accepted where there is anything to drop
-    pub as-one-delete : roundedUp due budget ≤ k → 0 < before → Sound s → {number : ℕ} {next : Tanks} → CalledAt s t (deleting 0 before) number next
+    pub as-one-delete : roundedUp due budget ≤ k → 0 < before → Sound s → {number : ℕ} {next : Tanks} → CalledAt s t (deleting Plant 0 before) number next
         → (number ≡ 0) × (tankAt (meaning u) t ≡ tankAt (meaning next) t)
     unfolding after
     as-one-delete h some-before ok {next = next} called =
-        let made : refusalAt (meaning s) t (deleting 0 before) ≡ 0 =
-        delete-own (meaning s) t 0 before (kept-sound s ok) t8 ∙ delete-accepted 0 before (tankAt (meaning s) t) some-before fits in
+        let made : refusalAt (meaning s) t (deleting Plant 0 before) ≡ 0 =
+        delete-own (meaning s) t Plant 0 before (kept-sound s ok) t8 ∙ delete-accepted 0 before (tankAt (meaning s) t) some-before fits in
         let left-by : tankAt (meaning next) t ≡ afterDelete 0 before (tankAt (meaning s) t) =
-        ap (λ (g : House). tankAt g t) (called .is ∙ after-done (meaning s) t (deleting 0 before) made)
+        ap (λ (g : House). tankAt g t) (called .is ∙ after-done (meaning s) t (deleting Plant 0 before) made)
         ∙ with-same (meaning s) t (afterDelete 0 before (tankAt (meaning s) t)) (tanks-length s) t8 in (
           called .number-is ∙ made,
           ap (λ (x : Ageing). x .tank) (ages-over (rounded-enough due budget k some-budget h)) ∙ sym left-by,

@@ -6,13 +6,14 @@ use native.Mathlib.Omega.{arith}
 use lib.Dec.{ltb}
 use lib.Seq.{set-getD}
 use borrow.Author.Tests.{lt-ltb, le-ltb, le-leb, lt-leb, eq-eqb, ne-eqb}
+use Rattle.styles.specs.declared.Party.the-variants.{Plant}
 use Rattle.runs.specs.Runs.{BudgetReaches}
 use Rattle.runs.specs.Positions.{sumBelow, starts, stretchCount, partOf}
 use Rattle.runs.specs.Stretches.{alikeIn}
 use Rattle.runs.proofs.FirstLaws.{part-runs, part-runs-count}
 use Rattle.runs.proofs.PartLaws.{part-le, part-stop}
 use Rattle.tank.specs.declared.Tank.{Tank}
-use Rattle.tank.specs.Rules.{View, alike, freshView, deleting, after, afterDelete, refusal, empty, over, long, ownNumber, clashes, full}
+use Rattle.tank.specs.Rules.{View, alike, freshView, deleting, after, afterDelete, refusal, barred, empty, over, long, ownNumber, clashes, full}
 use Rattle.tank.specs.State as state
 use Rattle.night.specs.Ageing.{ageRefusal, agedPart, afterAge, agedCount, agedLeft}
 use Rattle.tank.proofs.Counted.{alike-at}
@@ -62,9 +63,9 @@ part-some alike b n h l = go (partOf alike b n) refl
     go zero e = absurd (omega (arith, rw e at (part-stop alike b n (omega arith))))
     go (suc q) e = omega arith
 
-pub delete-accepted : (a b : ℕ) (v : View) → a < b → b ≤ v .length → refusal (deleting a b) v ≡ 0
-unfolding empty over long ownNumber clashes full
-delete-accepted a b v h l = number-0 (deleting a b) v (lt-leb b a h) (le-ltb (v .length) b l) refl refl refl refl
+pub delete-accepted : (a b : ℕ) (v : View) → a < b → b ≤ v .length → refusal (deleting Plant a b) v ≡ 0
+unfolding barred empty over long ownNumber clashes full
+delete-accepted a b v h l = number-0 (deleting Plant a b) v refl (lt-leb b a h) (le-ltb (v .length) b l) refl refl refl refl
 
 -- a deletion of nothing leaves the tank
 pub none-gone : (v : View) → afterDelete 0 0 v ≡ v
@@ -196,12 +197,12 @@ module _ (s : Tanks) (t before budget : ℕ) (ok : Sound s) where
             pub age-within : end ≤ before
             age-within = omega (arith, is-end, part-le (alike (v .at)) budget before)
 
-            made : refusalAt house t (deleting 0 end) ≡ 0
+            made : refusalAt house t (deleting Plant 0 end) ≡ 0
             made =
-                delete-own house t 0 end (kept-sound s ok) t8
+                delete-own house t Plant 0 end (kept-sound s ok) t8
                 ∙ delete-accepted 0 end v (omega (arith, is-end, part-some (alike (v .at)) budget before (omega arith) (omega arith))) (omega (arith, age-within, same-length))
 
-            pub age-done : {number : ℕ} {next : Tanks} → CalledAt s t (deleting 0 end) number next
+            pub age-done : {number : ℕ} {next : Tanks} → CalledAt s t (deleting Plant 0 end) number next
                 → AgedAt s t before budget (record { number = 0; dropped = k; remaining = before - end; tanks = next })
             unfolding agedHouse after
             age-done c =
@@ -209,6 +210,6 @@ module _ (s : Tanks) (t before budget : ℕ) (ok : Sound s) where
                   number-is = sym accepted;
                   dropped-is = rw accepted (is-count ∙ ap₂ stretchCount same-alike (is-end ∙ sym part-is));
                   remaining-is = rw accepted (sym (left-is ∙ ap (λ (d : ℕ). before - d) (sym is-end)));
-                  is = rw accepted (c .is ∙ after-done house t (deleting 0 end) made ∙ ap (λ (d : ℕ). withTank house t (afterDelete 0 d v)) (is-end ∙ sym part-is));
+                  is = rw accepted (c .is ∙ after-done house t (deleting Plant 0 end) made ∙ ap (λ (d : ℕ). withTank house t (afterDelete 0 d v)) (is-end ∙ sym part-is));
                   sound = c .sound;
                 }

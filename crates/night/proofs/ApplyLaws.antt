@@ -8,6 +8,7 @@ use lib.Dec.{leb}
 use lib.ListN.{length, getD, drop}
 use lib.Seq.{set-set}
 use borrow.Author.Tests.{le-leb, lt-leb, ne-eqb, leb-true}
+use Rattle.styles.specs.declared.Party.the-variants.{Plant}
 use Rattle.tank.specs.Rules.{View, deleting, after, runsHeld}
 use Rattle.tank.specs.declared.Tank.{Tank}
 use Rattle.tank.specs.State as state
@@ -38,7 +39,7 @@ order-drop from n (x ∷ xs) e zero = (from, e)
 order-drop from n (x ∷ xs) e (suc i) = order-drop (x .end) n xs (ordered from n x xs e .rest) i
 
 -- one range more, before the others
-pub after-range : (x : Range) (ys : List Range) (v : View) → after (deleting (x .start) (x .end)) (afterPlan ys v) ≡ afterPlan (x ∷ ys) v
+pub after-range : (x : Range) (ys : List Range) (v : View) → after (deleting Plant (x .start) (x .end)) (afterPlan ys v) ≡ afterPlan (x ∷ ys) v
 unfolding after afterPlan
 after-range x ys v = refl
 
@@ -86,7 +87,7 @@ module _ {s : Tanks} {t key : ℕ} {plan : Plan} (can : CanApply s t key plan) w
   applied-all {u} c z = subst (λ (j : ℕ). Applies s t (drop j xs) u) z (c .applies)
 
   pub applied-more : {u next : Tanks} {i number : ℕ} → AppliedFrom s t plan i u → 0 < i
-      → CalledAt u t (deleting (getD (plan .ranges) (i - 1) noRange .start) (getD (plan .ranges) (i - 1) noRange .end)) number next
+      → CalledAt u t (deleting Plant (getD (plan .ranges) (i - 1) noRange .start) (getD (plan .ranges) (i - 1) noRange .end)) number next
       → AppliedFrom s t plan (i - 1) next
   applied-more {u} {next} {i} c up called =
       let w = c .within in
@@ -101,8 +102,8 @@ module _ {s : Tanks} {t key : ℕ} {plan : Plan} (can : CanApply s t key plan) w
       let own : tankAt (meaning u) t ≡ afterPlan ys v =
       ap (λ (h : House). tankAt h t) (c .applies .is) ∙ with-same (meaning s) t (afterPlan ys v) (tanks-length s) (can .tank) in
       let len = ap (λ (q : View). q .length) own in
-      let made : refusalAt (meaning u) t (deleting (x .start) (x .end)) ≡ 0 =
-      delete-own (meaning u) t (x .start) (x .end) (kept-sound u (c .applies .sound)) (can .tank)
+      let made : refusalAt (meaning u) t (deleting Plant (x .start) (x .end)) ≡ 0 =
+      delete-own (meaning u) t Plant (x .start) (x .end) (kept-sound u (c .applies .sound)) (can .tank)
       ∙ delete-accepted (x .start) (x .end) (tankAt (meaning u) t) (ord .some)
       (omega (arith, plan-reaches v (parts .0) ys (x .end) (ord .rest))) in
       record {
@@ -111,9 +112,9 @@ module _ {s : Tanks} {t key : ℕ} {plan : Plan} (can : CanApply s t key plan) w
             record {
               sound = called .sound;
               is =
-                  called .is ∙ after-done (meaning u) t (deleting (x .start) (x .end)) made
-                  ∙ ap₂ (λ (h : House) (q : View). withTank h t (after (deleting (x .start) (x .end)) q)) (c .applies .is) own
-                  ∙ with-twice (meaning s) t (afterPlan ys v) (after (deleting (x .start) (x .end)) (afterPlan ys v))
+                  called .is ∙ after-done (meaning u) t (deleting Plant (x .start) (x .end)) made
+                  ∙ ap₂ (λ (h : House) (q : View). withTank h t (after (deleting Plant (x .start) (x .end)) q)) (c .applies .is) own
+                  ∙ with-twice (meaning s) t (afterPlan ys v) (after (deleting Plant (x .start) (x .end)) (afterPlan ys v))
                   ∙ ap (withTank (meaning s) t) (after-range x ys v)
                   ∙ ap (λ (zs : List Range). withTank (meaning s) t (afterPlan zs v)) (sym front);
             };

@@ -14,5 +14,6 @@ pub mod BoundaryLaws
 pub mod ProposalLaws
 pub mod ProposeTheorems
 pub mod Theorems
+pub mod PartyCalls
 pub mod Unique
 pub mod Tests

@@ -4,6 +4,7 @@ use mathlib.Core.Path.{_≡_, sym, ap, ap₂, _∙_}
 use mathlib.Core.Bool.{true}
 use mathlib.Core.List.{List, [], _∷_, foldl-append}
 use native.Mathlib.Omega.{arith}
+use Rattle.styles.specs.declared.Party.the-variants.{Plant}
 use Rattle.tank.specs.Rules.{View, deleting, after}
 use Rattle.tanks.specs.House.{House, tankAt, withTank, refusalAt, afterAt, Call, afterAll}
 use Rattle.tanks.proofs.CallLaws.{after-done}
@@ -28,11 +29,11 @@ module _ (h : House) (kept : Kept h) (t : ℕ) (t8 : t < 8) (touched : tankAt h 
       let rest : g ≡ withTank h t (afterPlan xs v) = plan-calls xs (x .end) (o .rest) in
       let own : tankAt g t ≡ afterPlan xs v = ap (λ (k : House). tankAt k t) rest ∙ with-same h t (afterPlan xs v) (kept .eight) t8 in
       let len = ap (λ (w : View). w .length) own in
-      let made : refusalAt g t (deleting (x .start) (x .end)) ≡ 0 =
-      delete-own g t (x .start) (x .end) (kept-all h (planCalls t xs) kept) t8
+      let made : refusalAt g t (deleting Plant (x .start) (x .end)) ≡ 0 =
+      delete-own g t Plant (x .start) (x .end) (kept-all h (planCalls t xs) kept) t8
       ∙ delete-accepted (x .start) (x .end) (tankAt g t) (o .some) (omega (arith, plan-reaches v touched xs (x .end) (o .rest))) in
-      foldl-append (λ (k : House) (c : Call). afterAt k (c .tank) (c .edit)) h (planCalls t xs) (record { tank = t; edit = deleting (x .start) (x .end) } ∷ [])
-      ∙ after-done g t (deleting (x .start) (x .end)) made
-      ∙ ap₂ (λ (k : House) (w : View). withTank k t (after (deleting (x .start) (x .end)) w)) rest own
-      ∙ with-twice h t (afterPlan xs v) (after (deleting (x .start) (x .end)) (afterPlan xs v))
+      foldl-append (λ (k : House) (c : Call). afterAt k (c .tank) (c .edit)) h (planCalls t xs) (record { tank = t; edit = deleting Plant (x .start) (x .end) } ∷ [])
+      ∙ after-done g t (deleting Plant (x .start) (x .end)) made
+      ∙ ap₂ (λ (k : House) (w : View). withTank k t (after (deleting Plant (x .start) (x .end)) w)) rest own
+      ∙ with-twice h t (afterPlan xs v) (after (deleting Plant (x .start) (x .end)) (afterPlan xs v))
       ∙ ap (withTank h t) (after-range x xs v)

@@ -8,6 +8,7 @@ use lib.Dec.{ltb}
 use lib.IntN.{pos}
 use lib.ListN.{replicate}
 use Rattle.styles.specs.declared.Mark.{Mark}
+use Rattle.styles.specs.declared.Party.the-variants.{Plant}
 use Rattle.styles.specs.declared.Value.the-variants.{Null}
 use Rattle.styles.specs.Order.{stands, numbers}
 use Rattle.styles.specs.Marks.{sameMarks, hasKey}
@@ -20,7 +21,7 @@ use Rattle.night.specs.Plans.{range, inOrder, freeOf, noRanges, mayGo, a
 use Rattle.night.specs.Proposing.{unheldAt, rangesFrom, unheldBelow, proposed, begins, rangeCount}
 
 abbrev mark : ℕ → Mark
-mark key = record { key = key; flags = 0x84; lamport = 5; cnt = pos 0; peer = 1; value = Null }
+mark key = record { key = key; flags = 0x84; party = Plant; lamport = 5; cnt = pos 0; peer = 1; value = Null }
 
 abbrev marksAt : ℕ → List Mark
 marksAt p = cond (ltb p 3) (mark 1 ∷ []) (cond (ltb p 5) (mark 2 ∷ []) [])

@@ -10,8 +10,9 @@ use lib.Dec.{eqb}
 use lib.Seq.{set-comm, getD-set-other}
 use borrow.Author.Tests.{le-leb, lt-leb, lt-ltb}
 use Rattle.laws.proofs.Cases.{cond-by}
+use Rattle.styles.specs.declared.Party.the-variants.{Plant}
 use Rattle.runs.proofs.PartLaws.{part-le}
-use Rattle.tank.specs.Rules.{View, freshView, alike, Edit, deleting, after, afterDelete, refusal, empty, whenAccepted}
+use Rattle.tank.specs.Rules.{View, freshView, alike, Edit, deleting, after, afterDelete, refusal, barred, empty, whenAccepted}
 use Rattle.tank.proofs.Calls.{when-refused}
 use Rattle.tanks.specs.declared.Tanks.{Tanks}
 use Rattle.tanks.specs.House.{House, tankAt, noTank, refusalAt, withTank, afterAt}
@@ -63,22 +64,22 @@ module _ (h : House) (t before budget : ℕ) where
   aged-done z = rw z
 
   -- accepted: one deletion of a prefix, or of nothing where nothing is left to do
-  pub aged-as-delete : Kept h → ageNumber h t before budget ≡ 0 → agedHouse h t before budget ≡ afterAt h t (deleting 0 gone)
-  unfolding after refusal empty
+  pub aged-as-delete : Kept h → ageNumber h t before budget ≡ 0 → agedHouse h t before budget ≡ afterAt h t (deleting Plant 0 gone)
+  unfolding after refusal barred empty
   aged-as-delete kept z =
       let t8 = aged-in h t before budget z in
       elim (decLt 0 gone) [
         | yes some ↦
             let fits : gone ≤ tankAt h t .length = omega (arith, aged-fits h t before budget z, part-within before budget (tankAt h t)) in
-            aged-done z ∙ sym (after-done h t (deleting 0 gone) (delete-own h t 0 gone kept t8 ∙ delete-accepted 0 gone (tankAt h t) some fits))
+            aged-done z ∙ sym (after-done h t (deleting Plant 0 gone) (delete-own h t Plant 0 gone kept t8 ∙ delete-accepted 0 gone (tankAt h t) some fits))
         | no none ↦
             let e : gone ≡ 0 = omega arith in
-            let three : refusalAt h t (deleting 0 0) ≡ 3 = delete-own h t 0 0 kept t8 in
+            let three : refusalAt h t (deleting Plant 0 0) ≡ 3 = delete-own h t Plant 0 0 kept t8 in
             aged-done z
             ∙ ap (λ (d : ℕ). withTank h t (afterDelete 0 d (tankAt h t))) e
             ∙ ap (withTank h t) (none-gone (tankAt h t))
             ∙ with-own h t
-            ∙ sym (ap (λ (d : ℕ). afterAt h t (deleting 0 d)) e ∙ after-refused h t (deleting 0 0) (omega arith))
+            ∙ sym (ap (λ (d : ℕ). afterAt h t (deleting Plant 0 d)) e ∙ after-refused h t (deleting Plant 0 0) (omega arith))
       ]
 
   -- the settings' rules hold after it
@@ -86,7 +87,7 @@ module _ (h : House) (t before budget : ℕ) where
   aged-kept kept =
       elim (decLt 0 (ageNumber h t before budget)) [
         | yes l ↦ subst Kept (sym (aged-refused l)) kept
-        | no l ↦ subst Kept (sym (aged-as-delete kept (omega arith))) (kept-call h t (deleting 0 gone) kept)
+        | no l ↦ subst Kept (sym (aged-as-delete kept (omega arith))) (kept-call h t (deleting Plant 0 gone) kept)
       ]
 
   -- no other tank changes

@@ -9,12 +9,13 @@ ghost use Rattle.tank.specs.Rules.{alike};
 ghost use Rattle.tank.specs.State as state;
 ghost use Rattle.tanks.specs.House.{held};
 ghost use Rattle.tanks.specs.Pool.{meaning, Sound};
-ghost use Rattle.night.specs.Ageings.{AgedAt, LeftAlone};
+ghost use Rattle.night.specs.Ageings.{AgedAt, LeftAlone, AgedBy, barredNumber};
 ghost use Rattle.night.specs.Plans.{rangesOf};
-ghost use Rattle.night.specs.Planning.{AppliedAt, CanApply, Applies};
+ghost use Rattle.night.specs.Planning.{AppliedAt, AppliedBy, CanApply, Applies};
 ghost use Rattle.night.specs.Proposing.{gives, givesNone, proposalAt};
 pub use proposals::empty_plan;
 use runs::FirstRuns;
+use styles::Party;
 use tank::Tank;
 use tanks::Edited;
 use tanks::Tanks;
@@ -49,7 +50,7 @@ fn first_stretches(x: Tank, before: u64, budget: u64) -> FirstRuns
 }
 
 // The first `budget` of the stretches that overlap 0 .. before go, the last of them clipped there.
-pub fn age(s: Tanks, tank: u64, before: u64, budget: u64) -> Aged
+fn age_as_plant(s: Tanks, tank: u64, before: u64, budget: u64) -> Aged
     requires { ⌜ Sound s ⌝ }
     ensures { λ r. ⌜ AgedAt s tank before budget r ⌝ }
 {
@@ -70,7 +71,7 @@ pub fn age(s: Tanks, tank: u64, before: u64, budget: u64) -> Aged
         return not_aged(0, s);
     }
     let f = first_stretches(x, before, budget);
-    let done = s.delete(tank, 0, f.end);
+    let done = s.delete(tank, Party::Plant, 0, f.end);
     let tanks = done.tanks;
     let remaining = before - f.end;
     Aged {
@@ -103,7 +104,7 @@ fn delete_all(s: Tanks, tank: u64, hold: u16, plan: Plan) -> Tanks
     while 0 < i {
         i -= 1;
         let x = plan.ranges[i];
-        let done = u.delete(tank, x.start, x.end);
+        let done = u.delete(tank, Party::Plant, x.start, x.end);
         u = done.tanks;
     }
     u
@@ -120,7 +121,7 @@ fn runs_of(s: Tanks, t: usize) -> u64
 
 // A plan that is accepted is applied whole: its ranges keep the rules, and the tank after deleting them all holds at most `most` runs.
 // Any other is refused by 15, with the state as it was.
-pub fn apply_plan(s: Tanks, tank: u64, hold: u16, most: u64, plan: Plan) -> Edited
+fn apply_as_plant(s: Tanks, tank: u64, hold: u16, most: u64, plan: Plan) -> Edited
     requires { ⌜ Sound s ⌝ }
     ensures { λ r. ⌜ AppliedAt s tank hold most plan (r .number) (r .tanks) ⌝ }
 {
@@ -195,4 +196,39 @@ pub fn propose(s: Tanks, tank: u64, hold: u16, most: u64) -> Proposal
         return proposing(proposals::unheld_below(x, hold, below));
     }
     no_proposal(0)
+}
+
+// The number of a night's call that the laboratory tries: 1 where there is no such tank, else 16.
+fn barred(tank: u64) -> u64
+    ensures { λ r. ⌜ r ≡ barredNumber tank ⌝ }
+{
+    if 8 <= tank {
+        return 1;
+    }
+    16
+}
+
+// Ageing by a party: it is the plant's alone, and the laboratory is refused.
+pub fn age(s: Tanks, tank: u64, who: Party, before: u64, budget: u64) -> Aged
+    requires { ⌜ Sound s ⌝ }
+    ensures { λ r. ⌜ AgedBy s tank who before budget r ⌝ }
+{
+    if tank::is_lab(who) {
+        return not_aged(barred(tank), s);
+    }
+    age_as_plant(s, tank, before, budget)
+}
+
+// A plan applied by a party: that is the plant's alone too.
+pub fn apply_plan(s: Tanks, tank: u64, who: Party, hold: u16, most: u64, plan: Plan) -> Edited
+    requires { ⌜ Sound s ⌝ }
+    ensures { λ r. ⌜ AppliedBy s tank who hold most plan (r .number) (r .tanks) ⌝ }
+{
+    if tank::is_lab(who) {
+        return Edited {
+            number: barred(tank),
+            tanks: s,
+        };
+    }
+    apply_as_plant(s, tank, hold, most, plan)
 }

@@ -83,7 +83,7 @@ pub fn works_below(s: Tanks, tank: u64, hold: u16, most: u64, below: u64) -> boo
     ensures { λ r. ⌜ r ≡ worksBelow hold most (tankAt (meaning s) tank) below ⌝ }
 {
     let plan = unheld_below(s.take(tank as usize), hold, below);
-    let done = super::apply_plan(s, tank, hold, most, plan);
+    let done = super::apply_as_plant(s, tank, hold, most, plan);
     done.number == 0
 }
 

@@ -7,6 +7,7 @@ use mathlib.Core.List.{List, [], _∷_}
 use lib.Ieee.{nan, isNan}
 use lib.ListN.{getD}
 use Rattle.styles.specs.declared.Mark.{Mark}
+use Rattle.styles.specs.declared.Party.the-variants.{Plant}
 use Rattle.styles.specs.declared.Value.{Value}
 use Rattle.styles.specs.declared.Value.the-variants.{Null, Flag, Decimal}
 use Rattle.styles.specs.Answers.{stylesOf, rankOf}
@@ -36,7 +37,7 @@ use Rattle.questions.specs.Questions.{
 }
 
 abbrev mark : ℕ → ℕ → ℕ → Value → Mark
-mark k l p w = record { key = k; flags = 128; lamport = l; cnt = pos 0; peer = p; value = w }
+mark k l p w = record { key = k; flags = 128; party = Plant; lamport = l; cnt = pos 0; peer = p; value = w }
 
 abbrev A : Mark
 A = mark 1 5 1 (Flag true)

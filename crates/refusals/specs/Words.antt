@@ -4,7 +4,7 @@ use Prim.Native.Nat.{ℕ}
 use lib.ListN.{getD}
 use Rattle.text.specs.Bytes.{bytes}
 
--- what each number says, from 0 on; 0 is no refusal, and 16 and 17 are no number of any call so far
+-- what each number says, from 0 on; 0 is no refusal
 abbrev pub refusals : List (List ℕ)
 refusals =
     [] ∷
@@ -15,7 +15,7 @@ refusals =
     bytes "longer than 2^63 - 1 positions" ∷  -- 5
     bytes "a value that is no number" ∷  -- 6
     bytes "its identity has another value, flags or cnt" ∷  -- 7
-    bytes "a 65th mark in its tank" ∷  -- 8
+    bytes "no room for one more mark of its party" ∷  -- 8
     bytes "more runs than its limit" ∷  -- 9
     bytes "more runs than the tanks can share" ∷  -- 10
     bytes "less room than the answer takes" ∷  -- 11
@@ -23,8 +23,8 @@ refusals =
     bytes "a log with a bad line" ∷  -- 13
     bytes "flags that no type makes" ∷  -- 14
     bytes "a bad range in a plan, or too many runs left" ∷  -- 15
-    [] ∷  -- 16
-    [] ∷  -- 17
+    bytes "the plant's work, tried by the laboratory" ∷  -- 16
+    bytes "more runs than the share, by the laboratory" ∷  -- 17
     bytes "a type that is retired" ∷  -- 18
     bytes "a name that can't be kept" ∷  -- 19
     []

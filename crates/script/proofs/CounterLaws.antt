@@ -6,6 +6,7 @@ use lib.IntN.{ℤ}
 use mir.Syntax.{w32, w64}
 use mir.Val.{SFits, toZ, ofZ}
 use mir.Facts.{toZ-ofZ, sfits-widen}
+use Rattle.styles.specs.declared.Party.{Party}
 use Rattle.styles.specs.declared.Value.{Value}
 use Rattle.script.specs.declared.Call.{Call}
 use Rattle.script.specs.declared.Kind.{Kind}
@@ -28,9 +29,9 @@ module _ (op : Op) (row place : ℕ) (numbers : List ℕ) (cnt : ℤ) (kind : Ki
   same-moved e = e ∙ ap (λ (z : ℤ). movedOf op row place numbers z kind value) (toZ-ofZ fits)
 
 -- the mark of a call
-pub marked : (c : Call) → SFits w32 (c .cnt) → {key flags lamport : ℕ} → key ≡ keyAt c 3 → flags ≡ numberAt c 7 % 2 ^ 8 → lamport ≡ numberAt c 4 % 2 ^ 32
-    → record { key = key; flags = flags; lamport = lamport; cnt = toZ w32 (ofZ w32 (c .cnt)); peer = numberAt c 5; value = c .value } ≡ markOf c
-marked c fits k f l = λ i. record { key = k i; flags = f i; lamport = l i; cnt = toZ-ofZ fits i; peer = numberAt c 5; value = c .value }
+pub marked : (who : Party) (c : Call) → SFits w32 (c .cnt) → {key flags lamport : ℕ} → key ≡ keyAt c 3 → flags ≡ numberAt c 7 % 2 ^ 8 → lamport ≡ numberAt c 4 % 2 ^ 32
+    → record { key = key; flags = flags; party = who; lamport = lamport; cnt = toZ w32 (ofZ w32 (c .cnt)); peer = numberAt c 5; value = c .value } ≡ markOf who c
+marked who c fits k f l = λ i. record { key = k i; flags = f i; party = who; lamport = l i; cnt = toZ-ofZ fits i; peer = numberAt c 5; value = c .value }
 
 -- a counter that is handed on with 64 bits
 pub widened : {z : ℤ} (cnt : ℤ) → SFits w32 cnt → z ≡ toZ w32 (ofZ w32 cnt) → toZ w64 (ofZ w64 z) ≡ cnt

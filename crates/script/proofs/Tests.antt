@@ -19,7 +19,7 @@ use Rattle.script.specs.declared.ReadOp.{ReadOp}
 use Rattle.script.specs.declared.ReadValue.{ReadValue}
 use Rattle.script.specs.declared.Reader.{Reader}
 use Rattle.script.specs.Grammar.{key, OpRow, ops, spelling}
-use Rattle.script.specs.Reading.{numberOf, opNamed, valueOf, freshOf, movedOf, heldLine, lineOf}
+use Rattle.script.specs.Reading.{numberOf, partyOf, opNamed, valueOf, freshOf, movedOf, heldLine, lineOf}
 use Rattle.script.specs.Lines.{emptyLine, holding, cutOf, readerAt, State, readOf, afterOf, readerAfter}
 
 numbered : ℕ → List OpRow → List ℕ
@@ -72,6 +72,15 @@ no-counter = refl
 whole-call : lineOf (freshOf 6) (bytes "tank=7") .progress ≡ Progress.Ready
 unfolding lineOf heldLine movedOf numberOf startsOf decimalOf numberIn allDigits valueIn
 whole-call = refl
+
+-- so does that of `party`, by one of two words
+lab-named : lineOf (freshOf 34) (bytes "party=lab") .call .numbers ≡ 1 ∷ replicate 15 0
+unfolding lineOf heldLine partyOf movedOf sameOf startsOf
+lab-named = refl
+
+no-party : lineOf (freshOf 34) (bytes "party=Lab") .progress ≡ Progress.Bad
+unfolding lineOf heldLine partyOf movedOf sameOf startsOf
+no-party = refl
 
 out-of-order : lineOf (freshOf 3) (bytes "at=7") .progress ≡ Progress.Bad
 unfolding lineOf heldLine movedOf numberOf startsOf decimalOf numberIn allDigits valueIn

@@ -4,7 +4,7 @@ use mathlib.Core.List.{List, [], _∷_, _++_, map}
 use Prim.Native.Nat.{ℕ, zero, suc, _+_, _-_, _*_}
 use lib.ListN.{length, getD, take, drop, replicate}
 use Rattle.text.specs.Bytes.{upTo}
-use Rattle.script.specs.Grammar.{Field, noField, opLine, tank, start, end, at, len, last, key, lamport, peer, cnt, flags, kind, value, rank, room, before, budget, hold, runs, place, letter, cellSize, bodySize, setNumber, settings, OpRow, noRow, opRows, opCount}
+use Rattle.script.specs.Grammar.{Field, noField, opLine, tank, start, end, at, len, last, key, lamport, peer, cnt, flags, kind, value, rank, room, before, budget, hold, runs, place, letter, cellSize, party, bodySize, setNumber, settings, OpRow, noRow, opRows, opCount}
 
 -- the fields of the bytes from / on: none, the settings by 0 to 9 and on to ?, none, and one for each letter that has one
 abbrev pub letters : List Field
@@ -12,7 +12,7 @@ letters =
     noField ∷ settings ++
     noField ∷
     at ∷ bodySize ∷ kind ∷ place ∷ end ∷ flags ∷ runs ∷ hold ∷ cnt ∷ before ∷ key ∷ lamport ∷ room ∷
-    len ∷ opLine ∷ peer ∷ budget ∷ rank ∷ start ∷ tank ∷ setNumber ∷ value ∷ noField ∷ cellSize ∷ letter ∷ last ∷ []
+    len ∷ opLine ∷ peer ∷ budget ∷ rank ∷ start ∷ tank ∷ setNumber ∷ value ∷ party ∷ cellSize ∷ letter ∷ last ∷ []
 
 -- how many there are
 abbrev pub letterCount : ℕ

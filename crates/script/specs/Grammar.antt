@@ -119,6 +119,10 @@ letter = field "letter" Holds.Byte
 abbrev pub cellSize : Field
 cellSize = number "k" 64
 
+-- as whom the calls that follow are made
+abbrev pub party : Field
+party = field "party" Holds.Party
+
 -- the most bytes that the body of a call may have
 abbrev pub mostBody : ℕ
 mostBody = 131072
@@ -208,6 +212,7 @@ ops =
     question Question.Propose "propose" (tank ∷ hold ∷ runs ∷ []) ∷
     desk Desk.Legend "legend" (place ∷ key ∷ letter ∷ []) ∷
     both Both.Strip "strip" (tank ∷ start ∷ cellSize ∷ room ∷ []) ∷
+    desk Desk.Party "party" (party ∷ []) ∷
     []
 
 -- between two groups there is no op, and the line that names one is to come
@@ -244,6 +249,7 @@ progressOf Holds.Counter = Progress.More
 progressOf Holds.Kind = Progress.More
 progressOf Holds.Value = Progress.More
 progressOf Holds.Byte = Progress.More
+progressOf Holds.Party = Progress.More
 
 -- the name of a kind
 abbrev pub kindName : Kind → List ℕ

@@ -128,6 +128,7 @@ endingBy Holds.Counter = Ending.Cut
 endingBy Holds.Kind = Ending.Cut
 endingBy Holds.Value = Ending.Cut
 endingBy Holds.Byte = Ending.Cut
+endingBy Holds.Party = Ending.Cut
 
 -- whether the input may end here: between two calls, with no line begun
 unfoldable pub endingOf : State → Ending

@@ -12,7 +12,9 @@ use Rattle.text.specs.declared.Signed32.{Signed32}
 use Rattle.text.specs.Number.{decimalOf, hexOf}
 use Rattle.text.specs.Signed.{signedOf, signed32Of}
 use Rattle.text.specs.Bytes.{bytes, startsOf, sameOf}
+use Rattle.styles.specs.declared.Party.the-variants.{Plant, Lab}
 use Rattle.styles.specs.declared.Value.{Value}
+use Rattle.styles.specs.Order.{rank}
 use Rattle.script.specs.declared.Call.{Call}
 use Rattle.script.specs.declared.Holds.{Holds}
 use Rattle.script.specs.declared.Kind.{Kind}
@@ -45,6 +47,10 @@ numberOf f most line = afterName f Parsed.Bad (λ t. withinOf most (decimalOf t)
 -- one byte, as its number
 unfoldable pub byteOf : List ℕ → Parsed
 byteOf t = cond (eqb (length t) 1) (Parsed.Number (getD t 0 0)) Parsed.Bad
+
+-- a party by its name, as its number in the order of marks
+unfoldable pub partyOf : List ℕ → Parsed
+partyOf t = cond (sameOf t (bytes "plant")) (Parsed.Number (rank Plant)) (cond (sameOf t (bytes "lab")) (Parsed.Number (rank Lab)) Parsed.Bad)
 
 -- the first of a list whose name is t, as `gives` says it, or what there is otherwise
 abbrev pub among : {A R : Type 0} → (A → List ℕ) → (A → R) → List A → List ℕ → R → R
@@ -135,6 +141,7 @@ heldLine c f Holds.Counter line = withCounter c (afterName f Signed32.Bad signed
 heldLine c f Holds.Kind line = withKind c (afterName f ReadKind.Bad kindNamed line)
 heldLine c f Holds.Value line = withValue c (afterName f ReadValue.Bad (valueOf (c .kind)) line)
 heldLine c f Holds.Byte line = withNumber c (afterName f Parsed.Bad byteOf line)
+heldLine c f Holds.Party line = withNumber c (afterName f Parsed.Bad partyOf line)
 
 -- a line of at most 64 bytes gives the field that comes next
 unfoldable pub lineOf : Call → List ℕ → Read

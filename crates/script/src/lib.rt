@@ -14,6 +14,7 @@ mod writing; // writing.rt: answers
 pub use args::identity_of;
 pub use args::key_of;
 pub use args::mark_of;
+pub use args::party_of;
 pub use bodies::begin_inlet;
 pub use bodies::inlet_ended;
 pub use bodies::take;
@@ -92,6 +93,7 @@ pub enum Desk {
     LogEnd,
     Range,
     Legend,
+    Party,
 }
 
 // Ops that have to do with that and with the tanks.
@@ -125,7 +127,7 @@ pub enum Kind {
     Decimal,
 }
 
-// What a field's line gives: a number is at most so much, a counter is a signed number of 32 bits, and a byte any one.
+// What a field's line gives: a number is at most so much, a counter is a signed number of 32 bits, a byte any one, and a party one of two.
 pub enum Holds {
     Nothing,
     Op,
@@ -134,6 +136,7 @@ pub enum Holds {
     Kind,
     Value,
     Byte,
+    Party,
 }
 
 // A call, as far as its lines have come: its op and that op's row in the table, how many of its fields are read, and each

@@ -183,6 +183,7 @@ fn ending(h: Holds) -> Ending
         Holds::Kind => Ending::Cut,
         Holds::Value => Ending::Cut,
         Holds::Byte => Ending::Cut,
+        Holds::Party => Ending::Cut,
     }
 }
 

@@ -16,7 +16,7 @@ use super::ReadOp;
 use super::lines::least;
 
 // How many rows there are: one for each op, and one for the time between two groups.
-pub const OPS: usize = 34;
+pub const OPS: usize = 35;
 
 // How many letters there are, from / to Z.
 const LETTERS: usize = 44;
@@ -83,7 +83,7 @@ pub fn op_name(row: usize) -> Name
     ensures { λ r. ⌜ r ≡ spelling (rowAt row .name) ⌝ }
 {
     let all =
-        b"                open            annotate        insert          delete          remove          length          touched         runs            value           has_key         all_value       same            marks           inherit         mark            inherited       stretches       stretches_neededwhole           whole_needed    anchors         find            age             settings        set             open_set        log             log_end         range           plan            propose         legend          strip                           ";
+        b"                open            annotate        insert          delete          remove          length          touched         runs            value           has_key         all_value       same            marks           inherit         mark            inherited       stretches       stretches_neededwhole           whole_needed    anchors         find            age             settings        set             open_set        log             log_end         range           plan            propose         legend          strip           party                           ";
     op_name_at(all, least(row, OPS) * 16)
 }
 
@@ -108,7 +108,7 @@ pub fn op_named(word: &[u8]) -> ReadOp
     ensures { λ r. ⌜ r ≡ opNamed (now (word .entry)) ⌝ }
 {
     let all =
-        b"                open            annotate        insert          delete          remove          length          touched         runs            value           has_key         all_value       same            marks           inherit         mark            inherited       stretches       stretches_neededwhole           whole_needed    anchors         find            age             settings        set             open_set        log             log_end         range           plan            propose         legend          strip                           ";
+        b"                open            annotate        insert          delete          remove          length          touched         runs            value           has_key         all_value       same            marks           inherit         mark            inherited       stretches       stretches_neededwhole           whole_needed    anchors         find            age             settings        set             open_set        log             log_end         range           plan            propose         legend          strip           party                           ";
     row_in(all, word)
 }
 
@@ -128,7 +128,7 @@ pub fn field_name(f: u8) -> Name
     ensures { λ r. ⌜ r ≡ spelling (fieldOf f .name) ⌝ }
 {
     let all =
-        b"        share0= limit0= share1= limit1= share2= limit2= share3= limit3= share4= limit4= share5= limit5= share6= limit6= share7= limit7=         at=     bytes=  kind=   place=  end=    flags=  runs=   hold=   cnt=    before= key=    lamport=room=   len=    op=     peer=   budget= rank=   start=  tank=   number= value=          k=      letter= last=           ";
+        b"        share0= limit0= share1= limit1= share2= limit2= share3= limit3= share4= limit4= share5= limit5= share6= limit6= share7= limit7=         at=     bytes=  kind=   place=  end=    flags=  runs=   hold=   cnt=    before= key=    lamport=room=   len=    op=     peer=   budget= rank=   start=  tank=   number= value=  party=  k=      letter= last=           ";
     field_name_at(all, field_spot(f) * 8)
 }
 

@@ -6,7 +6,7 @@ ghost use Rattle.text.specs.declared.Parsed as parsed;
 ghost use Rattle.text.specs.declared.Signed32.{Signed32};
 ghost use Rattle.text.specs.Signed.{signed32Of};
 ghost use Rattle.script.specs.Cells.{fieldOf};
-ghost use Rattle.script.specs.Reading.{startOf, afterName, withinOf, numberOf, byteOf, opNamed, kindAmong, kindNamed, wholeOf, decimalOfBits, valueOf, freshOf, movedOf, badOf, withOp, withNumber, withCounter, withKind, withValue, heldLine, lineOf};
+ghost use Rattle.script.specs.Reading.{startOf, afterName, withinOf, numberOf, byteOf, partyOf, opNamed, kindAmong, kindNamed, wholeOf, decimalOfBits, valueOf, freshOf, movedOf, badOf, withOp, withNumber, withCounter, withKind, withValue, heldLine, lineOf};
 use super::Call;
 use super::Holds;
 use super::Kind;
@@ -96,6 +96,29 @@ fn byte_line(f: u8, line: &[u8]) -> text::Parsed
         return text::Parsed::Bad;
     };
     byte_of(&line[k..])
+}
+
+// A party's name, as its number.
+fn party_named(t: &[u8]) -> text::Parsed
+    ensures { λ r. ⌜ r ≡ partyOf (now (t .entry)) ⌝ }
+{
+    if text::same(t, b"plant") {
+        return text::Parsed::Number(0);
+    }
+    if text::same(t, b"lab") {
+        return text::Parsed::Number(1);
+    }
+    text::Parsed::Bad
+}
+
+// The party of a field's line.
+fn party_line(f: u8, line: &[u8]) -> text::Parsed
+    ensures { λ r. ⌜ r ≡ afterName (fieldOf f) parsed.Parsed.Bad partyOf (now (line .entry)) ⌝ }
+{
+    let Start::At(k) = value_start(f, line) else {
+        return text::Parsed::Bad;
+    };
+    party_named(&line[k..])
 }
 
 fn op_line(f: u8, line: &[u8]) -> ReadOp
@@ -353,6 +376,7 @@ fn held_line(call: Call, f: u8, h: Holds, line: &[u8]) -> Read
         Holds::Kind => with_kind(call, kind_line(f, line)),
         Holds::Value => with_value(call, value_line(f, kind, line)),
         Holds::Byte => with_number(call, byte_line(f, line)),
+        Holds::Party => with_number(call, party_line(f, line)),
     }
 }
 

@@ -46,7 +46,7 @@ fn put_numbered(out: &mut [u8], at: usize, n: Name, x: u64) -> usize
     at
 }
 
-// What a call has at a place; a value is put with its kind.
+// What a call has at a place; a value is put with its kind, a byte and a party as their numbers.
 fn put_place(out: &mut [u8], at: usize, call: Call, place: usize) -> usize
     requires { ⌜ (place < 16) × (64 ≤ length (now out)) ⌝ }
 {
@@ -56,6 +56,7 @@ fn put_place(out: &mut [u8], at: usize, call: Call, place: usize) -> usize
     match script::field_holds(f) {
         Holds::Number(_) => put_numbered(out, free, script::field_name(f), numbers[place]),
         Holds::Byte => put_numbered(out, free, script::field_name(f), numbers[place]),
+        Holds::Party => put_numbered(out, free, script::field_name(f), numbers[place]),
         Holds::Counter => script::put_counter(out, free, call.cnt),
         Holds::Kind => {
             let v = call.value;

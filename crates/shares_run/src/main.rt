@@ -3,6 +3,7 @@ ghost use Prim.Native.Nat.{_≤_};
 ghost use Rattle.tanks.specs.Pool.{Sound};
 use styles::Identity;
 use styles::Mark;
+use styles::Party;
 use styles::Value;
 use tanks::Count;
 use tanks::Edited;
@@ -26,6 +27,7 @@ fn mark(key: u16) -> Mark {
     Mark {
         key: key,
         flags: 0x84,
+        party: Party::Plant,
         lamport: 5,
         cnt: 0,
         peer: 1,
@@ -167,10 +169,10 @@ fn called(s: Tanks, kind: u64, tank: u64, at: u64, n: u64, key: u16) -> Edited
         return s.annotate(tank, at, at + n, mark(key));
     }
     if kind < 5 {
-        return s.delete(tank, at, at + n);
+        return s.delete(tank, Party::Plant, at, at + n);
     }
     if kind < 6 {
-        let i = s.insert(tank, at, n);
+        let i = s.insert(tank, Party::Plant, at, n);
         let t = i.tanks;
         return Edited {
             number: i.number,
@@ -180,6 +182,7 @@ fn called(s: Tanks, kind: u64, tank: u64, at: u64, n: u64, key: u16) -> Edited
     let r = s.remove_style_scanning_backward(
         tank,
         Identity {
+            party: Party::Plant,
             key: key,
             lamport: 5,
             peer: 1,

@@ -6,6 +6,7 @@ use mathlib.Core.List.{List, [], _∷_}
 use lib.Dec.{eqb}
 use lib.IntN.{pos}
 use Rattle.styles.specs.declared.Mark.{Mark}
+use Rattle.styles.specs.declared.Party.the-variants.{Plant}
 use Rattle.styles.specs.declared.Value.{Value}
 use Rattle.styles.specs.declared.Value.the-variants.{Null, Flag}
 use Rattle.styles.specs.Marks.{winner, keyIs}
@@ -17,7 +18,7 @@ use Rattle.strip.specs.Strip.{letterFrom, stripNumber}
 use Rattle.strip.specs.Legend.{firstLegend}
 
 mark : ℕ → Value → Mark
-mark key v = record { key = key; flags = 132; lamport = 1; cnt = pos 0; peer = 1; value = v }
+mark key v = record { key = key; flags = 132; party = Plant; lamport = 1; cnt = pos 0; peer = 1; value = v }
 
 small : View
 small =

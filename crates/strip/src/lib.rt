@@ -1,5 +1,5 @@
 // The strip for the tanker bay: 96 cells over a tank's positions, each with the letter of the first of eight keys that shows a value in it.
-// It asks the map once, and knows nothing of how a tank is stored.
+// It is the plant's. It asks the map once, and knows nothing of how a tank is stored.
 pub mod legend; // legend.rt: eight keys and their letters
 
 ghost use mathlib.Core.Path.{_≡_};
@@ -7,10 +7,12 @@ ghost use Prim.Native.Nat.{_≤_};
 ghost use lib.ListN.{length};
 ghost use Rattle.runs.specs.Stretches.{inFront};
 ghost use Rattle.tank.specs.Rules.{whenAccepted};
-ghost use Rattle.tanks.specs.House.{tankAt};
+ghost use Rattle.styles.specs.declared.Party.the-variants.{Plant};
+ghost use Rattle.tanks.specs.House.{shownAt};
 ghost use Rattle.tanks.specs.Pool.{meaning, Sound};
 ghost use Rattle.strip.specs.Strip.{strip, stripNumber};
 ghost use Rattle.strip.specs.Cells.{letterOf, lettersOf};
+use styles::Party;
 use tanks::Tanks;
 
 // The letter of a key by its place, and a dot for none.
@@ -47,7 +49,7 @@ pub fn paint(
 ) -> u64
     requires { ⌜ Sound s ⌝ }
     ensures { λ r. ⌜ r ≡ stripNumber tank k (length (now (out .entry))) ⌝ }
-    ensures { λ r. ⌜ now (out .exit) ≡ whenAccepted (stripNumber tank k (length (now (out .entry)))) (inFront (strip (tankAt (meaning s) tank) keys letters start k) (now (out .entry))) (now (out .entry)) ⌝ }
+    ensures { λ r. ⌜ now (out .exit) ≡ whenAccepted (stripNumber tank k (length (now (out .entry)))) (inFront (strip (shownAt (meaning s) Plant tank) keys letters start k) (now (out .entry))) (now (out .entry)) ⌝ }
 {
     if 8 <= tank {
         return 1;
@@ -59,7 +61,7 @@ pub fn paint(
         return 11;
     }
     let mut firsts: [u64; 96] = [0; 96];
-    ask::first_shown(s, tank, keys, start, k, &mut firsts);
+    ask::first_shown(s, tank, Party::Plant, keys, start, k, &mut firsts);
     spell(&firsts, letters, out);
     0
 }

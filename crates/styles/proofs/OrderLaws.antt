@@ -7,9 +7,11 @@ use native.Mathlib.Omega.{arith}
 use native.Mathlib.Decide.{decLt}
 use borrow.Author.Tests.{lt-ltb, le-ltb, eq-eqb, ne-eqb}
 use Rattle.styles.specs.declared.Identity.{Identity}
+use Rattle.styles.specs.declared.Party.{Party}
+use Rattle.styles.specs.declared.Party.the-variants.{Plant, Lab}
 use Rattle.styles.specs.declared.Stand.{Stand}
 use Rattle.styles.specs.declared.Stand.the-variants.{Before, Same, After}
-use Rattle.styles.specs.Order.{numbers, stands, isBefore, isSame}
+use Rattle.styles.specs.Order.{numbers, rank, stands, isBefore, isSame}
 
 -- two numbers
 num-less : (a b : ℕ) → a < b → numbers a b ≡ Before
@@ -35,40 +37,75 @@ is-same-of Before e = cc
 is-same-of Same e = refl
 is-same-of After e = cc
 
+-- a party is known by its rank
+pub rank-eq : (a b : Party) → rank a ≡ rank b → a ≡ b
+rank-eq Plant Plant e = refl
+rank-eq Plant Lab e = absurd (omega arith)
+rank-eq Lab Plant e = absurd (omega arith)
+rank-eq Lab Lab e = refl
+
 -- what `before` means
 pub data Less (a b : Identity) : Type 0 where
-  by-key : a .key < b .key → Less a b
-  by-lamport : a .key ≡ b .key → a .lamport < b .lamport → Less a b
-  by-peer : a .key ≡ b .key → a .lamport ≡ b .lamport → a .peer < b .peer → Less a b
+  by-party : rank (a .party) < rank (b .party) → Less a b
+  by-key : rank (a .party) ≡ rank (b .party) → a .key < b .key → Less a b
+  by-lamport : rank (a .party) ≡ rank (b .party) → a .key ≡ b .key → a .lamport < b .lamport → Less a b
+  by-peer : rank (a .party) ≡ rank (b .party) → a .key ≡ b .key → a .lamport ≡ b .lamport → a .peer < b .peer → Less a b
 
 chain : {a b c : Identity} → Less a b → Less b c → Less a c
-chain (by-key h) (by-key k) = by-key (omega arith)
-chain (by-key h) (by-lamport e k) = by-key (omega arith)
-chain (by-key h) (by-peer e f k) = by-key (omega arith)
-chain (by-lamport e h) (by-key k) = by-key (omega arith)
-chain (by-lamport e h) (by-lamport g k) = by-lamport (omega arith) (omega arith)
-chain (by-lamport e h) (by-peer g f k) = by-lamport (omega arith) (omega arith)
-chain (by-peer e d h) (by-key k) = by-key (omega arith)
-chain (by-peer e d h) (by-lamport g k) = by-lamport (omega arith) (omega arith)
-chain (by-peer e d h) (by-peer g f k) = by-peer (omega arith) (omega arith) (omega arith)
+chain (by-party h) (by-party k) = by-party (omega arith)
+chain (by-party h) (by-key p k) = by-party (omega arith)
+chain (by-party h) (by-lamport p e k) = by-party (omega arith)
+chain (by-party h) (by-peer p e f k) = by-party (omega arith)
+chain (by-key q h) (by-party k) = by-party (omega arith)
+chain (by-key q h) (by-key p k) = by-key (omega arith) (omega arith)
+chain (by-key q h) (by-lamport p e k) = by-key (omega arith) (omega arith)
+chain (by-key q h) (by-peer p e f k) = by-key (omega arith) (omega arith)
+chain (by-lamport q e h) (by-party k) = by-party (omega arith)
+chain (by-lamport q e h) (by-key p k) = by-key (omega arith) (omega arith)
+chain (by-lamport q e h) (by-lamport p g k) = by-lamport (omega arith) (omega arith) (omega arith)
+chain (by-lamport q e h) (by-peer p g f k) = by-lamport (omega arith) (omega arith) (omega arith)
+chain (by-peer q e d h) (by-party k) = by-party (omega arith)
+chain (by-peer q e d h) (by-key p k) = by-key (omega arith) (omega arith)
+chain (by-peer q e d h) (by-lamport p g k) = by-lamport (omega arith) (omega arith) (omega arith)
+chain (by-peer q e d h) (by-peer p g f k) = by-peer (omega arith) (omega arith) (omega arith) (omega arith)
 
 pub of-less : {a b : Identity} → Less a b → stands a b ≡ Before
 unfolding stands
-of-less {a} {b} (by-key h) = simp (num-less (a .key) (b .key) h)
-of-less {a} {b} (by-lamport e h) = simp (num-same (a .key) (b .key) e, num-less (a .lamport) (b .lamport) h)
-of-less {a} {b} (by-peer e f h) =
-    simp (num-same (a .key) (b .key) e, num-same (a .lamport) (b .lamport) f, num-less (a .peer) (b .peer) h)
+of-less {a} {b} (by-party h) = simp (num-less (rank (a .party)) (rank (b .party)) h)
+of-less {a} {b} (by-key p h) = simp (num-same (rank (a .party)) (rank (b .party)) p, num-less (a .key) (b .key) h)
+of-less {a} {b} (by-lamport p e h) =
+    simp (num-same (rank (a .party)) (rank (b .party)) p, num-same (a .key) (b .key) e, num-less (a .lamport) (b .lamport) h)
+of-less {a} {b} (by-peer p e f h) =
+    simp (
+      num-same (rank (a .party)) (rank (b .party)) p,
+      num-same (a .key) (b .key) e,
+      num-same (a .lamport) (b .lamport) f,
+      num-less (a .peer) (b .peer) h,
+    )
 
 pub of-more : {a b : Identity} → Less b a → stands a b ≡ After
 unfolding stands
-of-more {a} {b} (by-key h) = simp (num-more (a .key) (b .key) h)
-of-more {a} {b} (by-lamport e h) = simp (num-same (a .key) (b .key) (sym e), num-more (a .lamport) (b .lamport) h)
-of-more {a} {b} (by-peer e f h) =
-    simp (num-same (a .key) (b .key) (sym e), num-same (a .lamport) (b .lamport) (sym f), num-more (a .peer) (b .peer) h)
+of-more {a} {b} (by-party h) = simp (num-more (rank (a .party)) (rank (b .party)) h)
+of-more {a} {b} (by-key p h) = simp (num-same (rank (a .party)) (rank (b .party)) (sym p), num-more (a .key) (b .key) h)
+of-more {a} {b} (by-lamport p e h) =
+    simp (num-same (rank (a .party)) (rank (b .party)) (sym p), num-same (a .key) (b .key) (sym e), num-more (a .lamport) (b .lamport) h)
+of-more {a} {b} (by-peer p e f h) =
+    simp (
+      num-same (rank (a .party)) (rank (b .party)) (sym p),
+      num-same (a .key) (b .key) (sym e),
+      num-same (a .lamport) (b .lamport) (sym f),
+      num-more (a .peer) (b .peer) h,
+    )
 
 pub same-self : (a : Identity) → stands a a ≡ Same
 unfolding stands
-same-self a = simp (num-same (a .key) (a .key) refl, num-same (a .lamport) (a .lamport) refl, num-same (a .peer) (a .peer) refl)
+same-self a =
+    simp (
+      num-same (rank (a .party)) (rank (a .party)) refl,
+      num-same (a .key) (a .key) refl,
+      num-same (a .lamport) (a .lamport) refl,
+      num-same (a .peer) (a .peer) refl,
+    )
 
 -- the three cases
 data Cases (a b : Identity) : Type 0 where
@@ -76,35 +113,46 @@ data Cases (a b : Identity) : Type 0 where
   is-same : a ≡ b → Cases a b
   is-more : Less b a → Cases a b
 
-pub identity-eq : (a b : Identity) → a .key ≡ b .key → a .lamport ≡ b .lamport → a .peer ≡ b .peer → a ≡ b
-identity-eq a b e f g = λ i. record { key = e i; lamport = f i; peer = g i }
+pub identity-eq : (a b : Identity) → rank (a .party) ≡ rank (b .party) → a .key ≡ b .key → a .lamport ≡ b .lamport → a .peer ≡ b .peer → a ≡ b
+identity-eq a b p e f g = let q = rank-eq (a .party) (b .party) p in λ i. record { party = q i; key = e i; lamport = f i; peer = g i }
 
 cases : (a b : Identity) → Cases a b
 cases a b =
-    elim (decLt (a .key) (b .key)) [
-      | yes h ↦ is-less (by-key h)
+    elim (decLt (rank (a .party)) (rank (b .party))) [
+      | yes h ↦ is-less (by-party h)
       | no h ↦
-          elim (decLt (b .key) (a .key)) [
-            | yes k ↦ is-more (by-key k)
-            | no k ↦
-                elim (decLt (a .lamport) (b .lamport)) [
-                  | yes h′ ↦ is-less (by-lamport (omega arith) h′)
-                  | no h′ ↦
-                      elim (decLt (b .lamport) (a .lamport)) [
-                        | yes k′ ↦ is-more (by-lamport (omega arith) k′)
-                        | no k′ ↦
-                            elim (decLt (a .peer) (b .peer)) [
-                              | yes h″ ↦ is-less (by-peer (omega arith) (omega arith) h″)
-                              | no h″ ↦
-                                  elim (decLt (b .peer) (a .peer)) [
-                                    | yes k″ ↦ is-more (by-peer (omega arith) (omega arith) k″)
-                                    | no k″ ↦ is-same (identity-eq a b (omega arith) (omega arith) (omega arith))
-                                  ]
-                            ]
-                      ]
-                ]
+          elim (decLt (rank (b .party)) (rank (a .party))) [
+            | yes k ↦ is-more (by-party k)
+            | no k ↦ in-party (omega arith)
           ]
     ]
+  where
+    in-party : rank (a .party) ≡ rank (b .party) → Cases a b
+    in-party p =
+        elim (decLt (a .key) (b .key)) [
+          | yes h ↦ is-less (by-key p h)
+          | no h ↦
+              elim (decLt (b .key) (a .key)) [
+                | yes k ↦ is-more (by-key (sym p) k)
+                | no k ↦
+                    elim (decLt (a .lamport) (b .lamport)) [
+                      | yes h′ ↦ is-less (by-lamport p (omega arith) h′)
+                      | no h′ ↦
+                          elim (decLt (b .lamport) (a .lamport)) [
+                            | yes k′ ↦ is-more (by-lamport (sym p) (omega arith) k′)
+                            | no k′ ↦
+                                elim (decLt (a .peer) (b .peer)) [
+                                  | yes h″ ↦ is-less (by-peer p (omega arith) (omega arith) h″)
+                                  | no h″ ↦
+                                      elim (decLt (b .peer) (a .peer)) [
+                                        | yes k″ ↦ is-more (by-peer (sym p) (omega arith) (omega arith) k″)
+                                        | no k″ ↦ is-same (identity-eq a b p (omega arith) (omega arith) (omega arith))
+                                      ]
+                                ]
+                          ]
+                    ]
+              ]
+        ]
 
 to-less : {a b : Identity} → stands a b ≡ Before → Cases a b → Less a b
 to-less e (is-less h) = h

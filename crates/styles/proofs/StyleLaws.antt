@@ -13,7 +13,7 @@ use Rattle.styles.proofs.PickLaws.{keep-by}
 -- two marks of one identity and one content are one
 pub mark-eq : (a b : Mark) → idOf a ≡ idOf b → a .flags ≡ b .flags → a .cnt ≡ b .cnt → a .value ≡ b .value → a ≡ b
 mark-eq a b e f c g =
-    λ i. record { key = e i .key; flags = f i; lamport = e i .lamport; cnt = c i; peer = e i .peer; value = g i }
+    λ i. record { key = e i .key; flags = f i; party = e i .party; lamport = e i .lamport; cnt = c i; peer = e i .peer; value = g i }
 
 -- ---- an identity that the table has not is in no set
 split-member : (a b : Bool) → (a || b) ≡ false → (a ≡ false) × (b ≡ false)

@@ -6,6 +6,8 @@ use mathlib.Core.Bool.{Bool, true, false, cond, _&&_, _||_, not}
 use mathlib.Core.List.{List, [], _∷_, _++_}
 use Rattle.styles.specs.declared.Identity.{Identity}
 use Rattle.styles.specs.declared.Mark.{Mark}
+use Rattle.styles.specs.declared.Party.{Party}
+use Rattle.styles.specs.declared.Party.the-variants.{Plant}
 use Rattle.styles.specs.declared.Stand.{Stand}
 use Rattle.styles.specs.declared.Stand.the-variants.{Before, Same, After}
 use Rattle.styles.specs.declared.Value.{Value}
@@ -16,7 +18,7 @@ use lib.Dec.{eqb, ltb, leb}
 use lib.IntN.{pos}
 use lib.ListN.{take, drop}
 use Rattle.styles.specs.Values.{sameWhole, sameValue, showsAs}
-use Rattle.styles.specs.Order.{stands, then, numbers, isBefore, idOf, less, sameId}
+use Rattle.styles.specs.Order.{stands, then, numbers, parties, rank, isBefore, idOf, less, sameId}
 
 -- the same content: the flag byte, the box's counter and the very same value
 unfoldable pub sameContent : Mark → Mark → Bool
@@ -87,9 +89,10 @@ unfoldable pub hasKey : ℕ → List Mark → Bool
 hasKey k [] = false
 hasKey k (m ∷ ms) = keyIs k m || hasKey k ms
 
--- of two marks with one key the second wins: the greater lamport, then the greater peer
+-- of two marks with one key the second wins: the greater lamport, then the greater peer. A winner is asked for among the marks of one party, so
+-- that the first step, without which this would not be the table's order, never decides
 abbrev pub later : Mark → Mark → Bool
-later a b = isBefore (then (numbers (a .lamport) (b .lamport)) (numbers (a .peer) (b .peer)))
+later a b = isBefore (then (parties (a .party) (b .party)) (then (numbers (a .lamport) (b .lamport)) (numbers (a .peer) (b .peer))))
 
 -- a mark with the key against the winner of the others
 abbrev pub better : Mark → Winner → Winner
@@ -114,10 +117,23 @@ shownBy w (Shows m) = valueIs w m
 abbrev pub showsValue : ℕ → Value → List Mark → Bool
 showsValue k w l = shownBy w (winner k l)
 
+-- ---- Parties
+-- one party is another
+abbrev pub sameParty : Party → Party → Bool
+sameParty a b = eqb (rank a) (rank b)
+
+-- the mark is a party's
+abbrev pub isOf : Party → Mark → Bool
+isOf who m = sameParty who (m .party)
+
+-- the marks of one party
+abbrev pub ofParty : Party → List Mark → List Mark
+ofParty who ms = only (isOf who) ms
+
 -- ---- A place without a mark
 -- what stands there
 abbrev pub blank : Mark
-blank = record { key = 0; flags = 0; lamport = 0; cnt = pos 0; peer = 0; value = Null }
+blank = record { key = 0; flags = 0; party = Plant; lamport = 0; cnt = pos 0; peer = 0; value = Null }
 
 -- ---- A table: marks at numbered places
 -- a mark put in at a place of a list

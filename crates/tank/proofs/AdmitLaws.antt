@@ -23,6 +23,7 @@ use Rattle.runs.proofs.RenumberLaws.{canon-open, gather-open, sets-less}
 use Rattle.tank.specs.declared.Tank.{Tank}
 use Rattle.tank.specs.State.{runsOf, tableOf, view, Numbers}
 use Rattle.tank.specs.Steps.{Stepped, CanAdmit}
+use Rattle.tank.proofs.CrowdLaws.{roomy-put}
 use Rattle.tank.proofs.Unique.{table-length}
 use Rattle.tank.proofs.ViewLaws.{view-renumbered}
 
@@ -105,6 +106,7 @@ module _ {t : Tank} (i : ℕ) (m : Mark) (h : CanAdmit t i m) where
                 table-64 = table-64;
                 sorted = rw (front, h .place) (sorted-put m (tableOf t) (f .sorted) (h .new));
                 numbers = rw front (numbers-put i m (tableOf t) (omega (arith, place-fits, table-length f)) (h .number) (f .numbers));
+                roomy = rw (front, h .place) (roomy-put m (tableOf t) (h .new) (h .room));
                 blanks = blanks;
                 inside = rw (g, add-one (t .marks)) (open-within (t .marks) i (gather (runsOf t)) (f .inside));
               };

@@ -1,15 +1,14 @@
 -- An annotate by its cases: a mark that the table has, and one that is new to it.
 use Prim.Native.Nat.{ℕ, zero, suc, _-_, _≤_, _<_, _^_}
 use mathlib.Core.Path.{_≡_, refl, sym, ap, _∙_}
-use mathlib.Core.Bool.{Bool, true, false, cond, true≢false, and-false}
+use mathlib.Core.Bool.{Bool, true, false, cond, true≢false}
 use mathlib.Core.List.{List, [], _∷_}
 use native.Mathlib.Omega.{arith}
 use native.Mathlib.Nat.{mod-eq-of-lt}
 use lib.Bits.{bitOr, or-comm, and-mask}
-use lib.Dec.{leb}
 use lib.ListN.{length, getD}
 use lib.Pow.{pow-lt}
-use borrow.Author.Tests.{lt-leb, le-leb, leb-false, lt-ltb, le-ltb}
+use borrow.Author.Tests.{lt-leb, le-leb, lt-ltb, le-ltb}
 use Rattle.styles.specs.declared.Mark.{Mark}
 use Rattle.styles.specs.Order.{idOf}
 use Rattle.styles.specs.Values.{valueNan}
@@ -22,12 +21,13 @@ use Rattle.runs.specs.Gather.{gather}
 use Rattle.styles.proofs.Digits.{or-within}
 use Rattle.tank.specs.declared.Tank.{Tank}
 use Rattle.tank.specs.declared.Room.the-variants.{Known, New, Clash, Full}
-use Rattle.tank.specs.Rules.{View, madeFlag, retiredFlag, annotating, after, afterAnnotate, empty, over, long, markNumber, ownNumber, clash, clashes, full, carried, runsHeld}
+use Rattle.tank.specs.Rules.{View, madeFlag, retiredFlag, annotating, after, afterAnnotate, barred, empty, over, long, markNumber, ownNumber, crowded, clash, clashes, full, carried, runsHeld}
 use Rattle.tank.specs.State.{runsOf, tableOf, view, Formed, Sound, Called}
 use Rattle.tank.specs.Steps.{Stepped, CanLay, CanAdmit, roomFor}
 use Rattle.tank.proofs.AdmitLaws.{place-fits}
 use Rattle.tank.proofs.Carried.{any-clash}
 use Rattle.tank.proofs.Calls.{number-3, number-4, number-own, number-7, number-8, number-0, refused, made}
+use Rattle.tank.proofs.CrowdLaws.{room-left}
 use Rattle.tank.proofs.RoomLaws.{room-says, no-clash, known-is, place-in}
 use Rattle.tank.proofs.Unique.{table-length, marks-carried, runs-held}
 
@@ -67,9 +67,13 @@ none-own m n e h = omega arith
 
 -- ---- the tests of an annotate
 module _ {t : Tank} (s : Sound t) (start end : ℕ) (m : Mark) where
+  allowed : barred (annotating start end m) ≡ false
+  unfolding barred
+  allowed = refl
+
   pub refused-3 : end ≤ start → Called (annotating start end m) t 3 t
   unfolding empty
-  refused-3 h = refused s 2 (number-3 (annotating start end m) (view t) (le-leb end start h))
+  refused-3 h = refused s 2 (number-3 (annotating start end m) (view t) allowed (le-leb end start h))
 
   module _ (up : start < end) where
     some : empty (annotating start end m) ≡ false
@@ -78,7 +82,7 @@ module _ {t : Tank} (s : Sound t) (start end : ℕ) (m : Mark) where
 
     pub refused-4 : t .length < end → Called (annotating start end m) t 4 t
     unfolding over view
-    refused-4 h = refused s 3 (number-4 (annotating start end m) (view t) some (lt-ltb (t .length) end h))
+    refused-4 h = refused s 3 (number-4 (annotating start end m) (view t) allowed some (lt-ltb (t .length) end h))
 
     module _ (fits : end ≤ t .length) where
       inside : over (annotating start end m) (view t) ≡ false
@@ -92,7 +96,7 @@ module _ {t : Tank} (s : Sound t) (start end : ℕ) (m : Mark) where
       pub refused-own : (n : ℕ) → n ≡ markNumber m → 0 < n → Called (annotating start end m) t n t
       unfolding ownNumber
       refused-own zero e h = absurd (omega arith)
-      refused-own (suc n) e h = refused s n (number-own (annotating start end m) (view t) some inside not-long (omega arith) ∙ sym e)
+      refused-own (suc n) e h = refused s n (number-own (annotating start end m) (view t) allowed some inside not-long (omega arith) ∙ sym e)
 
       module _ (own : markNumber m ≡ 0) where
         is-good : ownNumber (annotating start end m) ≡ 0
@@ -112,7 +116,7 @@ module _ {t : Tank} (s : Sound t) (start end : ℕ) (m : Mark) where
             any-clash m (tableOf t) (setAt (runsOf t)) (t .length) _ (s .formed .laid .sorted) (table ∙ sym (pick-all (tableOf t))) ∙ ap (clash m) (pick-all (tableOf t))
 
         pub refused-7 : roomFor m (tableOf t) ≡ Clash → Called (annotating start end m) t 7 t
-        refused-7 e = refused s 6 (number-7 (annotating start end m) (view t) some inside not-long is-good (clashing ∙ room-says m (tableOf t) e))
+        refused-7 e = refused s 6 (number-7 (annotating start end m) (view t) allowed some inside not-long is-good (clashing ∙ room-says m (tableOf t) e))
 
         clear : clash m (tableOf t) ≡ false → clashes (annotating start end m) (view t) ≡ false
         clear c = clashing ∙ c
@@ -122,7 +126,7 @@ module _ {t : Tank} (s : Sound t) (start end : ℕ) (m : Mark) where
         refused-8 e =
             let f = room-says m (tableOf t) e in
             refused s 7
-            (number-8 (annotating start end m) (view t) some inside not-long is-good (clear (no-clash m (tableOf t) (f .0)))
+            (number-8 (annotating start end m) (view t) allowed some inside not-long is-good (clear (no-clash m (tableOf t) (f .0)))
             (rw (table, f .0, f .1)))
 
         -- ---- a mark that the table has
@@ -142,36 +146,37 @@ module _ {t : Tank} (s : Sound t) (start end : ℕ) (m : Mark) where
 
           not-full : full (annotating start end m) (view t) ≡ false
           unfolding full
-          not-full = rw (table, known .0) (and-false (leb 64 (length (tableOf t))))
+          not-full = rw (table, known .0)
 
           pub known-done : {r : Tank} → Stepped (afterAnnotate start end (getD (tableOf t) i blank) (view t)) (tableOf t) (bitOr (gather (runsOf t)) (2 ^ i)) r
               → Called (annotating start end m) t 0 r
           unfolding after afterAnnotate
           known-done {r} d =
               let l = table-length (s .formed .laid) in
-              made (number-0 (annotating start end m) (view t) some inside not-long is-good (clear (known .1)) not-full)
+              made (number-0 (annotating start end m) (view t) allowed some inside not-long is-good (clear (known .1)) not-full)
               (formed-of d refl
               (ap (λ x. bitOr x (2 ^ i)) (s .formed .whole) ∙ with-all (t .marks) i place-there ∙ ap (λ n. 2 ^ n - 1) (sym l)))
               (d .is ∙ ap (λ x. afterAnnotate start end x (view t)) mark-is)
 
         -- ---- a mark that is new to it
         module _ (i : ℕ) (e : roomFor m (tableOf t) ≡ New i) where
-          new : (member (idOf m) (tableOf t) ≡ false) × (leb 64 (length (tableOf t)) ≡ false) × (i ≡ placeOf (idOf m) (tableOf t))
+          new : (member (idOf m) (tableOf t) ≡ false) × (crowded m (tableOf t) ≡ false) × (i ≡ placeOf (idOf m) (tableOf t))
           new = room-says m (tableOf t) e
 
           pub can-admit : CanAdmit t i m
           can-admit =
               record {
                 laid = s .formed .laid;
-                few = omega (arith, leb-false 64 (length (tableOf t)) (new .1), table-length (s .formed .laid));
+                few = omega (arith, room-left m (tableOf t) (new .0) (new .1), table-length (s .formed .laid));
                 new = new .0;
                 place = new .2;
                 number = number;
+                room = new .1;
               }
 
           not-full-new : full (annotating start end m) (view t) ≡ false
           unfolding full
-          not-full-new = rw (table, new .1)
+          not-full-new = rw (table, new .0, new .1)
 
           fits-put : i ≤ length (tableOf t)
           fits-put = omega (arith, place-fits i m can-admit, table-length (s .formed .laid))
@@ -207,7 +212,7 @@ module _ {t : Tank} (s : Sound t) (start end : ℕ) (m : Mark) where
             new-done {r} d =
                 let l = table-length (s .formed .laid) in
                 made
-                (number-0 (annotating start end m) (view t) some inside not-long is-good (clear (no-clash m (tableOf t) (new .0))) not-full-new)
+                (number-0 (annotating start end m) (view t) allowed some inside not-long is-good (clear (no-clash m (tableOf t) (new .0))) not-full-new)
                 (formed-of d refl
                 (ap (λ x. bitOr x (2 ^ i)) (a .all-is ∙ ap (openBit i) (s .formed .whole))
                 ∙ open-all i (t .marks) (omega (arith, fits-put)) ∙ ap (λ n. 2 ^ n - 1) (sym marks-put ∙ sym (table-length (a .laid)))))

@@ -8,64 +8,70 @@ use Rattle.laws.proofs.Cases.{cond-by}
 use Rattle.styles.specs.Values.{valueNan}
 use borrow.Author.Tests.{lt-ltb, le-ltb, le-leb, lt-leb, ne-eqb}
 use Rattle.tank.specs.declared.Tank.{Tank}
-use Rattle.tank.specs.Rules.{View, Edit, annotating, inserting, deleting, removing, madeFlag, retiredFlag, markNumber, after, empty, over, long, ownNumber, clashes, full, refusal, whenAccepted, askedRange}
+use Rattle.tank.specs.Rules.{View, Edit, annotating, inserting, deleting, removing, madeFlag, retiredFlag, markNumber, after, barred, empty, over, long, ownNumber, clashes, full, refusal, whenAccepted, askedRange}
 use Rattle.tank.specs.State.{view, Formed, Sound, Called}
 use Rattle.tank.proofs.Unique.{same-tank}
 
 -- ---- the number of the first test that holds
 module _ (e : Edit) (v : View) where
+  pub number-16 : barred e ≡ true → refusal e v ≡ 16
+  unfolding refusal
+  number-16 a = simp a
+
+module _ (e : Edit) (v : View) (o : barred e ≡ false) where
   pub number-3 : empty e ≡ true → refusal e v ≡ 3
   unfolding refusal
-  number-3 a = simp a
+  number-3 a = simp (o, a)
 
   module _ (a : empty e ≡ false) where
     pub number-4 : over e v ≡ true → refusal e v ≡ 4
     unfolding refusal
-    number-4 b = simp (a, b)
+    number-4 b = simp (o, a, b)
 
     module _ (b : over e v ≡ false) where
       pub number-5 : long e v ≡ true → refusal e v ≡ 5
       unfolding refusal
-      number-5 c = simp (a, b, c)
+      number-5 c = simp (o, a, b, c)
 
       module _ (c : long e v ≡ false) where
         -- 6, 14 or 18, by the mark alone
         pub number-own : 0 < ownNumber e → refusal e v ≡ ownNumber e
         unfolding refusal
-        number-own d = simp (a, b, c) (rw (ne-eqb (ownNumber e) 0 (λ z. omega arith)))
+        number-own d = simp (o, a, b, c) (rw (ne-eqb (ownNumber e) 0 (λ z. omega arith)))
 
         module _ (d : ownNumber e ≡ 0) where
           pub number-7 : clashes e v ≡ true → refusal e v ≡ 7
           unfolding refusal
-          number-7 f = simp (a, b, c, d, f)
+          number-7 f = simp (o, a, b, c, d, f)
 
           module _ (f : clashes e v ≡ false) where
             pub number-8 : full e v ≡ true → refusal e v ≡ 8
             unfolding refusal
-            number-8 g = simp (a, b, c, d, f, g)
+            number-8 g = simp (o, a, b, c, d, f, g)
 
             pub number-0 : full e v ≡ false → refusal e v ≡ 0
             unfolding refusal
-            number-0 g = simp (a, b, c, d, f, g)
+            number-0 g = simp (o, a, b, c, d, f, g)
 
 -- what holds of every number that a tank's own rules give, and of 0
-own-by : (P : ℕ → Type 0) → P 0 → P 6 → P 14 → P 18 → (e : Edit) → P (ownNumber e)
+pub own-by : (P : ℕ → Type 0) → P 0 → P 6 → P 14 → P 18 → (e : Edit) → P (ownNumber e)
 unfolding ownNumber markNumber
 own-by P zero six fourteen eighteen (annotating a b m) =
     cond-by P (valueNan (m .value)) six (cond-by P (madeFlag (m .flags)) (cond-by P (retiredFlag (m .flags)) eighteen zero) fourteen)
-own-by P zero six fourteen eighteen (inserting pos len) = zero
-own-by P zero six fourteen eighteen (deleting a b) = zero
+own-by P zero six fourteen eighteen (inserting by pos len) = zero
+own-by P zero six fourteen eighteen (deleting by a b) = zero
 own-by P zero six fourteen eighteen (removing id last) = zero
 
-pub number-by : (P : ℕ → Type 0) → P 0 → P 3 → P 4 → P 5 → P 6 → P 7 → P 8 → P 14 → P 18 → (e : Edit) (v : View) → P (refusal e v)
+pub number-by : (P : ℕ → Type 0) → P 0 → P 3 → P 4 → P 5 → P 6 → P 7 → P 8 → P 14 → P 16 → P 18 → (e : Edit) (v : View) → P (refusal e v)
 unfolding refusal
-number-by P zero three four five six seven eight fourteen eighteen e v =
-    cond-by P (empty e) three
+number-by P zero three four five six seven eight fourteen sixteen eighteen e v =
+    cond-by P (barred e) sixteen
+    (cond-by P (empty e) three
     (cond-by P (over e v) four
     (cond-by P (long e v) five
     (cond-by P (eqb (ownNumber e) 0)
     (cond-by P (clashes e v) seven (cond-by P (full e v) eight zero))
-    (own-by P zero six fourteen eighteen e))))
+    (own-by P zero six fourteen eighteen e)))))
 
 -- ---- and of a range that is asked about
 module _ (a b later : ℕ) (v : View) where

@@ -8,7 +8,7 @@ use lib.Bits.{or-zero-r}
 use lib.ListN.{length, getD, set, length-set}
 use lib.Seq.{getD-set-same, getD-set-other}
 use Rattle.styles.specs.declared.Mark.{Mark}
-use Rattle.styles.specs.Marks.{Sorted, blank}
+use Rattle.styles.specs.Marks.{Sorted, blank, only}
 use Rattle.styles.specs.Bits.{pick}
 use Rattle.runs.specs.Runs.{run, runs, total, Canon, Other, Spare}
 use Rattle.runs.specs.Gather.{gather}
@@ -28,7 +28,7 @@ module _ (lens sets : List ℕ) (sp : Spare lens sets 0) (l : length lens ≡ 51
 
   pub fresh-sound : let t : Tank = record { touched = false; length = freshLength; runs = 1; marks = 0; lens = set lens 0 freshLength; sets = sets; table = table } in
       (Sound t) × (view t ≡ freshView)
-  unfolding Spare Canon Other total view freshView gather Sorted Numbers pick
+  unfolding Spare Canon Other total view freshView gather Sorted Numbers pick only
   fresh-sound =
       let e = first in (
         record {
@@ -47,6 +47,7 @@ module _ (lens sets : List ℕ) (sp : Spare lens sets 0) (l : length lens ≡ 51
                       table-64 = long;
                       sorted = tt;
                       numbers = tt;
+                      roomy = record { few = omega arith; lab = λ some. absurd (some refl) };
                       blanks = λ i h. blanks i;
                       inside = rw e (omega (arith, or-zero-r 0));
                     };

@@ -8,6 +8,7 @@ pub mod LayLaws
 pub mod AdmitLaws
 pub mod TrimLaws
 pub mod CutLaws
+pub mod CrowdLaws
 pub mod RoomLaws
 pub mod Calls
 pub mod AnnotateLaws
@@ -18,6 +19,9 @@ pub mod GrowLaws
 pub mod StripLaws
 pub mod InsertLaws
 pub mod RemoveLaws
+pub mod PartyLaws
+pub mod OwnRoom
+pub mod NarrowLaws
 pub mod Sequences
 pub mod TakenBack
 pub mod OnRuns

@@ -18,7 +18,7 @@ use Rattle.runs.specs.Gather.{gather}
 use Rattle.runs.specs.Scan.{commonAt}
 use Rattle.runs.proofs.EditLaws.{canon-altered, canon-deleted, canon-inserted}
 use Rattle.runs.proofs.ScanLaws.{stretch-le}
-use Rattle.tank.specs.Rules.{Edit, annotating, inserting, deleting, removing, afterAnnotate, afterInsert, afterDelete, stripped, afterRemove, backFrom, after, empty, over, long, markNumber, ownNumber, firstRefusal, clash, clashes, full, refusal}
+use Rattle.tank.specs.Rules.{Edit, annotating, inserting, deleting, removing, afterAnnotate, afterInsert, afterDelete, stripped, afterRemove, backFrom, after, barred, empty, over, long, markNumber, ownNumber, firstRefusal, crowded, clash, clashes, full, refusal}
 use Rattle.tank.specs.State.{viewOf}
 use Rattle.tank.proofs.Carried.{gathered-is, any-clash}
 use Rattle.tank.proofs.GrowLaws.{common-inherited}
@@ -35,8 +35,8 @@ bitOf ms id = withBit (placeOf id ms) 0
 -- the edit's mark is one of the table's
 unfoldable pub known : List Mark → Edit → Bool
 known ms (annotating a b m) = member (idOf m) ms && not (clash m ms)
-known ms (inserting pos len) = true
-known ms (deleting a b) = true
+known ms (inserting by pos len) = true
+known ms (deleting by a b) = true
 known ms (removing id last) = member id ms
 
 -- the refusal: the marks carried are those of all runs together
@@ -46,43 +46,43 @@ numberOn ms (annotating a b m) t rs =
     (cond (ltb (total rs) b) 4
     (firstRefusal (markNumber m)
     (cond (clash m (pick ms (gather rs))) 7
-    (cond (leb 64 (length (pick ms (gather rs))) && not (member (idOf m) (pick ms (gather rs)))) 8 0))))
-numberOn ms (inserting pos len) t rs = refusal (inserting pos len) (viewOf t (total rs) ms rs)
-numberOn ms (deleting a b) t rs = refusal (deleting a b) (viewOf t (total rs) ms rs)
+    (cond (not (member (idOf m) (pick ms (gather rs))) && crowded m (pick ms (gather rs))) 8 0))))
+numberOn ms (inserting by pos len) t rs = refusal (inserting by pos len) (viewOf t (total rs) ms rs)
+numberOn ms (deleting by a b) t rs = refusal (deleting by a b) (viewOf t (total rs) ms rs)
 numberOn ms (removing id last) t rs = refusal (removing id last) (viewOf t (total rs) ms rs)
 
 -- the runs after an accepted edit, and whether the tank is touched then
 unfoldable pub runsAfter : List Mark → Edit → Bool → List Run → List Run
 runsAfter ms (annotating a b m) t rs = altered rs a b (adding (bitOf ms (idOf m)))
-runsAfter ms (inserting pos len) t rs = cond t (inserted rs pos len (commonAt rs pos)) rs
-runsAfter ms (deleting a b) t rs = cond t (deleted rs a b) rs
+runsAfter ms (inserting by pos len) t rs = cond t (inserted rs pos len (commonAt rs pos)) rs
+runsAfter ms (deleting by a b) t rs = cond t (deleted rs a b) rs
 runsAfter ms (removing id last) t rs =
     altered rs (backFrom id last (viewOf t (total rs) ms rs)) (last + 1) (changing 0 (bitOf ms id))
 
 unfoldable pub touchedAfter : Edit → Bool → Bool
 touchedAfter (annotating a b m) t = true
-touchedAfter (inserting pos len) t = t
-touchedAfter (deleting a b) t = t
+touchedAfter (inserting by pos len) t = t
+touchedAfter (deleting by a b) t = t
 touchedAfter (removing id last) t = t
 
 -- no run is empty and neighbours differ, whatever the edit
 pub canon-after : (ms : List Mark) (e : Edit) (t : Bool) (rs : List Run) → Canon rs → Canon (runsAfter ms e t rs)
 unfolding runsAfter
 canon-after ms (annotating a b m) t rs c = canon-altered rs a b (adding (bitOf ms (idOf m)))
-canon-after ms (inserting pos len) true rs c = canon-inserted rs pos len (commonAt rs pos)
-canon-after ms (inserting pos len) false rs c = c
-canon-after ms (deleting a b) true rs c = canon-deleted rs a b
-canon-after ms (deleting a b) false rs c = c
+canon-after ms (inserting by pos len) true rs c = canon-inserted rs pos len (commonAt rs pos)
+canon-after ms (inserting by pos len) false rs c = c
+canon-after ms (deleting by a b) true rs c = canon-deleted rs a b
+canon-after ms (deleting by a b) false rs c = c
 canon-after ms (removing id last) t rs c = canon-altered rs _ (last + 1) (changing 0 (bitOf ms id))
 
 module _ (ms : List Mark) (sorted : Sorted ms) where
   pub refusal-on : (e : Edit) (t : Bool) (rs : List Run) → Canon rs → refusal e (viewOf t (total rs) ms rs) ≡ numberOn ms e t rs
-  unfolding refusal numberOn empty over long ownNumber clashes full
+  unfolding refusal numberOn barred empty over long ownNumber clashes full
   refusal-on (annotating a b m) t rs c =
       let all = gathered-is ms sorted rs c in
       rw (any-clash m ms (setAt rs) (total rs) (gather rs) sorted all, all)
-  refusal-on (inserting pos len) t rs c = refl
-  refusal-on (deleting a b) t rs c = refl
+  refusal-on (inserting by pos len) t rs c = refl
+  refusal-on (deleting by a b) t rs c = refl
   refusal-on (removing id last) t rs c = refl
 
   removed-on : (id : Identity) (last : ℕ) (t : Bool) (rs : List Run) → member id ms ≡ true → last < total rs
@@ -106,12 +106,12 @@ module _ (ms : List Mark) (sorted : Sorted ms) where
       sym
       (view-altered rs a b (adding (bitOf ms (idOf m))) (omega arith) (ltb-false (total rs) b o) ms (insertMark m) true
       (λ s. adds-mark ms (placeOf (idOf m) ms) sorted (place-in ms (idOf m) sorted (j .0)) s ∙ ap (λ x. insertMark x (pick ms s)) same))
-  after-on (inserting pos len) true rs k n o =
+  after-on (inserting by pos len) true rs k n o =
       let fits = ltb-false (total rs) pos o in
       sym (view-inserted rs pos len (commonAt rs pos) fits ms (common-inherited rs pos fits ms sorted))
-  after-on (inserting pos len) false rs k n o = refl
-  after-on (deleting a b) true rs k n o = let up = leb-false b a n in sym (view-deleted rs a b (omega arith) (ltb-false (total rs) b o) ms)
-  after-on (deleting a b) false rs k n o = refl
+  after-on (inserting by pos len) false rs k n o = refl
+  after-on (deleting by a b) true rs k n o = let up = leb-false b a n in sym (view-deleted rs a b (omega arith) (ltb-false (total rs) b o) ms)
+  after-on (deleting by a b) false rs k n o = refl
   after-on (removing id last) t rs k n o = removed-on id last t rs k (leb-false (total rs) last o)
 
   -- an accepted edit of runs is the edit of what they mean

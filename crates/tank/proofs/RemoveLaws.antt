@@ -22,7 +22,7 @@ use Rattle.runs.specs.Scan.{meets, CanScan}
 use Rattle.runs.proofs.ScanLaws.{stretch-le, stretch-end, stretch-ext}
 use Rattle.tank.specs.declared.Tank.{Tank}
 use Rattle.tank.specs.declared.Removed.{Removed}
-use Rattle.tank.specs.Rules.{View, removing, after, backFrom, stripped, afterRemove, empty, over, long, ownNumber, clashes, full, refusal, removedFirst}
+use Rattle.tank.specs.Rules.{View, removing, after, backFrom, stripped, afterRemove, barred, empty, over, long, ownNumber, clashes, full, refusal, removedFirst}
 use Rattle.tank.specs.State.{runsOf, tableOf, view, Laid, Formed, Sound, Called}
 use Rattle.tank.specs.Steps.{Trimmed, CanStrip}
 use Rattle.tank.proofs.Calls.{number-4, number-0, when-refused, refused, made}
@@ -66,15 +66,15 @@ member-touched {t} f id m = go (t .touched) refl
 
 module _ {t : Tank} (s : Sound t) (id : Identity) (last : ℕ) where
   pub remove-4 : t .length ≤ last → Gives t id last (record { number = 4; first = 0; tank = t })
-  unfolding empty over view
+  unfolding barred empty over view
   remove-4 h =
-      let r = number-4 (removing id last) (view t) refl (le-leb (t .length) last h) in
+      let r = number-4 (removing id last) (view t) refl refl (le-leb (t .length) last h) in
       (refused s 3 r, sym (when-refused (refusal (removing id last) (view t)) _ _ (omega arith)))
 
   module _ (fits : last < t .length) where
     accepted : refusal (removing id last) (view t) ≡ 0
-    unfolding empty over long ownNumber clashes full view
-    accepted = number-0 (removing id last) (view t) refl (lt-leb (t .length) last fits) refl refl refl refl
+    unfolding barred empty over long ownNumber clashes full view
+    accepted = number-0 (removing id last) (view t) refl refl (lt-leb (t .length) last fits) refl refl refl refl
 
     first-is : {first : ℕ} → first ≡ backFrom id last (view t) → first ≡ removedFirst id last (view t)
     first-is q = let a = accepted in q ∙ sym (simp a)

@@ -21,7 +21,7 @@ use Rattle.styles.proofs.TableLaws.{member-at}
 use Rattle.styles.proofs.ValueLaws.{content-eq}
 use Rattle.tank.specs.declared.Room.{Room}
 use Rattle.tank.specs.declared.Room.the-variants.{Known, New, Clash, Full}
-use Rattle.tank.specs.Rules.{clash}
+use Rattle.tank.specs.Rules.{clash, crowded}
 use Rattle.tank.specs.Steps.{roomFor}
 
 -- ---- a table that has not the identity has no clash with it
@@ -73,15 +73,15 @@ clash-at m (x ∷ xs) h e = clash-step (stands (idOf x) (idOf m)) m x (clash m x
 -- ---- the cases
 abbrev pub RoomSays : Mark → List Mark → Room → Type 0
 RoomSays m ms (Known i) = (member (idOf m) ms ≡ true) × (clash m ms ≡ false) × (i ≡ placeOf (idOf m) ms)
-RoomSays m ms (New i) = (member (idOf m) ms ≡ false) × (leb 64 (length ms) ≡ false) × (i ≡ placeOf (idOf m) ms)
+RoomSays m ms (New i) = (member (idOf m) ms ≡ false) × (crowded m ms ≡ false) × (i ≡ placeOf (idOf m) ms)
 RoomSays m ms Clash = clash m ms ≡ true
-RoomSays m ms Full = (member (idOf m) ms ≡ false) × (leb 64 (length ms) ≡ true)
+RoomSays m ms Full = (member (idOf m) ms ≡ false) × (crowded m ms ≡ true)
 
 pub room-says : (m : Mark) (ms : List Mark) {r : Room} → roomFor m ms ≡ r → RoomSays m ms r
 unfolding roomFor
-room-says m ms e = subst (RoomSays m ms) e (go (member (idOf m) ms) (clash m ms) (leb 64 (length ms)) refl refl refl)
+room-says m ms e = subst (RoomSays m ms) e (go (member (idOf m) ms) (clash m ms) (crowded m ms) refl refl refl)
   where
-    go : (a b c : Bool) → member (idOf m) ms ≡ a → clash m ms ≡ b → leb 64 (length ms) ≡ c
+    go : (a b c : Bool) → member (idOf m) ms ≡ a → clash m ms ≡ b → crowded m ms ≡ c
         → RoomSays m ms (cond a (cond b Clash (Known (placeOf (idOf m) ms))) (cond c Full (New (placeOf (idOf m) ms))))
     go true true c x y z = y
     go true false c x y z = (x, y, refl)
@@ -109,10 +109,10 @@ module _ (m : Mark) (ms : List Mark) (sorted : Sorted ms) (at : ℕ) (at-is : at
       let c : clash m ms ≡ true = clash-at m ms sorted e ∙ ap (λ i. not (sameContent m (getD ms i blank))) (sym at-is) ∙ ap not s in
       rw (e, c)
 
-  pub full-room : member (idOf m) ms ≡ false → length ms ≡ 64 → Full ≡ roomFor m ms
+  pub full-room : member (idOf m) ms ≡ false → crowded m ms ≡ true → Full ≡ roomFor m ms
   unfolding roomFor
-  full-room e l = rw (e, le-leb 64 (length ms) (omega arith))
+  full-room e l = rw (e, l)
 
-  pub new-room : member (idOf m) ms ≡ false → length ms < 64 → New at ≡ roomFor m ms
+  pub new-room : member (idOf m) ms ≡ false → crowded m ms ≡ false → New at ≡ roomFor m ms
   unfolding roomFor
-  new-room e l = rw (e, lt-leb 64 (length ms) l) (ap New at-is)
+  new-room e l = rw (e, l) (ap New at-is)

@@ -8,19 +8,19 @@ use lib.Dec.{eqb}
 use borrow.Author.Tests.{ltb-false, eqb-true}
 use Rattle.styles.specs.declared.Identity.{Identity}
 use Rattle.styles.specs.Marks.{only}
-use Rattle.tank.specs.Rules.{View, freshLength, freshView, Edit, annotating, inserting, deleting, removing, afterAnnotate, afterInsert, afterDelete, afterRemove, stripped, after, empty, over, long, ownNumber, clashes, full, refusal, firstRefusal}
+use Rattle.tank.specs.Rules.{View, freshLength, freshView, Edit, annotating, inserting, deleting, removing, afterAnnotate, afterInsert, afterDelete, afterRemove, stripped, after, barred, empty, over, long, ownNumber, clashes, full, refusal, firstRefusal}
 use Rattle.runs.specs.Positions.{within}
 use Rattle.tank.specs.Lengths.{gained, lost, annotates}
 use Rattle.tank.proofs.ViewLaws.{view-ext}
 use Rattle.laws.proofs.Cases.{cond-same}
 
 -- ---- calls on one tank in a row, refused ones among them
--- a call on this tank: an edit, and whether it is granted where many tanks share the runs (refusals 9 and 10 are not this tank's own)
+-- a call on this tank: an edit, and whether it is granted where many tanks share the runs (refusals 9, 10 and 17 are not this tank's own)
 pub record OwnCall : Type 0 where
   pub edit : Edit
   pub granted : Bool
 
--- granted, and none of refusals 3 to 8
+-- granted, and none of the tank's own refusals
 abbrev pub acceptedBy : OwnCall → View → Bool
 acceptedBy c v = c .granted && eqb (refusal (c .edit) v) 0
 
@@ -40,12 +40,21 @@ sumOf f (c ∷ cs) v = cond (acceptedBy c v) (f (c .edit)) 0 + sumOf f cs (after
 -- ---- a call is refused, or is of some positions, within the length
 pub accepted-fits : (e : Edit) (v : View) → refusal e v ≡ 0 → (empty e ≡ false) × (over e v ≡ false)
 unfolding refusal
-accepted-fits e v = go (empty e) (over e v) (cond (long e v) 5 (firstRefusal (ownNumber e) (cond (clashes e v) 7 (cond (full e v) 8 0))))
+accepted-fits e v = go (barred e) (empty e) (over e v) (cond (long e v) 5 (firstRefusal (ownNumber e) (cond (clashes e v) 7 (cond (full e v) 8 0))))
   where
-    go : (a b : Bool) (n : ℕ) → cond a 3 (cond b 4 n) ≡ 0 → (a ≡ false) × (b ≡ false)
-    go true b n h = absurd (omega arith)
-    go false true n h = absurd (omega arith)
-    go false false n h = (refl, refl)
+    go : (o a b : Bool) (n : ℕ) → cond o 16 (cond a 3 (cond b 4 n)) ≡ 0 → (a ≡ false) × (b ≡ false)
+    go true a b n h = absurd (omega arith)
+    go false true b n h = absurd (omega arith)
+    go false false true n h = absurd (omega arith)
+    go false false false n h = (refl, refl)
+
+pub accepted-open : (e : Edit) (v : View) → refusal e v ≡ 0 → barred e ≡ false
+unfolding refusal
+accepted-open e v = go (barred e) _
+  where
+    go : (o : Bool) (n : ℕ) → cond o 16 n ≡ 0 → o ≡ false
+    go true n h = absurd (omega arith)
+    go false n h = refl
 
 module _ (Q : Bool → Type 0) (c : OwnCall) (v : View) (refused : Q false) (made : over (c .edit) v ≡ false → Q true) where
   call-by : Q (acceptedBy c v)
@@ -64,8 +73,8 @@ record Grows (gain loss : ℕ) (v u : View) : Type 0 where
 edit-grows : (e : Edit) (v : View) → v .touched ≡ true → over e v ≡ false → Grows (gained e) (lost e) v (after e v)
 unfolding after afterAnnotate afterInsert afterDelete afterRemove stripped gained lost over
 edit-grows (annotating a b m) v t o = record { touched = refl; length = refl }
-edit-grows (inserting pos len) v t o = simp t (record { touched = refl; length = omega arith })
-edit-grows (deleting a b) v t o = let h = ltb-false (v .length) b o in simp t (record { touched = refl; length = omega arith })
+edit-grows (inserting by pos len) v t o = simp t (record { touched = refl; length = omega arith })
+edit-grows (deleting by a b) v t o = let h = ltb-false (v .length) b o in simp t (record { touched = refl; length = omega arith })
 edit-grows (removing id last) v t o = record { touched = t; length = refl }
 
 call-grows : (c : OwnCall) (v : View) → v .touched ≡ true
@@ -101,8 +110,8 @@ data OnFresh (c : OwnCall) : Type 0 where
 edit-fresh : (e : Edit) → annotates e ≡ false → after e freshView ≡ freshView
 unfolding annotates after afterInsert afterDelete afterRemove freshView
 edit-fresh (annotating a b m) h = absurd (false≢true (sym h))
-edit-fresh (inserting pos len) h = refl
-edit-fresh (deleting a b) h = refl
+edit-fresh (inserting by pos len) h = refl
+edit-fresh (deleting by a b) h = refl
 edit-fresh (removing id last) h = strip-fresh id _ _
 
 on-fresh : (c : OwnCall) → OnFresh c
@@ -120,8 +129,8 @@ record Touches (u : View) : Type 0 where
 edit-touches : (e : Edit) → annotates e ≡ true → Touches (after e freshView)
 unfolding annotates after afterAnnotate freshView
 edit-touches (annotating a b m) h = record { touched = refl; length = refl }
-edit-touches (inserting pos len) h = absurd (false≢true h)
-edit-touches (deleting a b) h = absurd (false≢true h)
+edit-touches (inserting by pos len) h = absurd (false≢true h)
+edit-touches (deleting by a b) h = absurd (false≢true h)
 edit-touches (removing id last) h = absurd (false≢true h)
 
 call-touches : (c : OwnCall) → acceptedBy c freshView ≡ true → annotates (c .edit) ≡ true → Touches (afterOne c freshView)

@@ -88,6 +88,7 @@ module _ {t : Tank} (f : Laid t) where
                 table-64 = f .table-64;
                 sorted = f .sorted;
                 numbers = f .numbers;
+                roomy = f .roomy;
                 blanks = f .blanks;
                 inside = rw e inside;
               };

@@ -5,9 +5,10 @@ use mathlib.Core.Bool.{Bool, true, false, cond}
 use native.Mathlib.Omega.{arith}
 use native.Mathlib.Decide.{decLt}
 use borrow.Author.Tests.{lt-ltb, le-ltb, lt-leb, eqb-false, ltb-false}
+use Rattle.styles.specs.declared.Party.{Party}
 use Rattle.runs.specs.Positions.{insertedAt, deletedAt}
-use Rattle.tank.specs.Rules.{View, inherited, afterInsert, afterDelete, inserting, deleting, after, empty, over, long, ownNumber, clashes, full, refusal}
-use Rattle.tank.proofs.Sequences.{accepted-fits}
+use Rattle.tank.specs.Rules.{View, inherited, afterInsert, afterDelete, inserting, deleting, after, barred, empty, over, long, ownNumber, clashes, full, refusal}
+use Rattle.tank.proofs.Sequences.{accepted-open, accepted-fits}
 use Rattle.tank.proofs.ViewLaws.{view-ext}
 
 -- what stood at each position stands there again
@@ -21,31 +22,31 @@ back-at pos len x at p =
           rw (le-ltb p pos (omega arith), e, le-ltb (p + len) pos (omega arith), le-ltb (p + len) (pos + len) (omega arith), g) refl
     ]
 
-module _ (pos len : ℕ) (v : View) (touched : v .touched ≡ true) where
+module _ (who : Party) (pos len : ℕ) (v : View) (touched : v .touched ≡ true) where
   filled : View
   filled = record { length = v .length + len; touched = true; at = insertedAt pos len (inherited pos v) (v .at) }
 
-  is-filled : after (inserting pos len) v ≡ filled
+  is-filled : after (inserting who pos len) v ≡ filled
   unfolding filled after afterInsert
   is-filled = ap (λ (b : Bool). cond b (record { length = v .length + len; touched = true; at = insertedAt pos len (inherited pos v) (v .at) }) v) touched
 
   -- the very same tank: its length, touched, and the marks at every position
-  pub taken-back : after (deleting pos (pos + len)) (after (inserting pos len) v) ≡ v
+  pub taken-back : after (deleting who pos (pos + len)) (after (inserting who pos len) v) ≡ v
   unfolding filled after afterDelete
   taken-back =
-      ap (after (deleting pos (pos + len))) is-filled
+      ap (after (deleting who pos (pos + len))) is-filled
       ∙ view-ext (afterDelete pos (pos + len) filled) v (omega arith) (sym touched) (back-at pos len (inherited pos v) (v .at))
 
-  filled-free : empty (inserting pos len) ≡ false → over (inserting pos len) v ≡ false → refusal (deleting pos (pos + len)) filled ≡ 0
-  unfolding filled refusal empty over long ownNumber clashes full
-  filled-free some fits =
+  filled-free : barred (inserting who pos len) ≡ false → empty (inserting who pos len) ≡ false → over (inserting who pos len) v ≡ false → refusal (deleting who pos (pos + len)) filled ≡ 0
+  unfolding filled refusal barred empty over long ownNumber clashes full
+  filled-free free some fits =
       let some′ = eqb-false len 0 some in
       let fits′ = ltb-false (v .length) pos fits in
       let l : pos < pos + len = elim (decLt 0 len) [ yes g ↦ omega arith | no g ↦ absurd (some′ (omega arith)) ] in
-      rw (lt-leb (pos + len) pos l, le-ltb (v .length + len) (pos + len) (omega arith)) refl
+      rw (free, lt-leb (pos + len) pos l, le-ltb (v .length + len) (pos + len) (omega arith)) refl
 
   -- and the deletion is refused nothing
-  pub back-accepted : refusal (inserting pos len) v ≡ 0 → refusal (deleting pos (pos + len)) (after (inserting pos len) v) ≡ 0
+  pub back-accepted : refusal (inserting who pos len) v ≡ 0 → refusal (deleting who pos (pos + len)) (after (inserting who pos len) v) ≡ 0
   back-accepted z =
-      let f = accepted-fits (inserting pos len) v z in
-      ap (refusal (deleting pos (pos + len))) is-filled ∙ filled-free (f .0) (f .1)
+      let f = accepted-fits (inserting who pos len) v z in
+      ap (refusal (deleting who pos (pos + len))) is-filled ∙ filled-free (accepted-open (inserting who pos len) v z) (f .0) (f .1)

@@ -31,6 +31,7 @@ use Rattle.runs.proofs.RenumberLaws.{canon-squeeze, gather-squeeze}
 use Rattle.tank.specs.declared.Tank.{Tank}
 use Rattle.tank.specs.State.{runsOf, tableOf, view, Numbers, Laid}
 use Rattle.tank.specs.Steps.{Trimmed}
+use Rattle.tank.proofs.CrowdLaws.{roomy-pick}
 use Rattle.tank.proofs.Unique.{table-length, inside-table}
 use Rattle.tank.proofs.ViewLaws.{view-renumbered}
 
@@ -125,6 +126,7 @@ module _ {t : Tank} (f : Laid t) (e : t .touched ≡ true) where
                       table-64 = table-64;
                       sorted = rw front (sorted-pick (tableOf t) carried (f .sorted));
                       numbers = rw front (numbers-pick (tableOf t) carried (f .numbers));
+                      roomy = rw front (roomy-pick (tableOf t) carried (f .roomy));
                       blanks = blanks;
                       inside = omega (arith, whole, pow-pos (kept .count));
                     };

@@ -5,13 +5,14 @@ use mathlib.Core.Bool.{Bool, false}
 use mathlib.Core.List.{List, [], _∷_}
 use lib.ListN.{length, getD, take}
 use Rattle.styles.specs.declared.Mark.{Mark}
-use Rattle.styles.specs.Marks.{Sorted, blank}
+use Rattle.styles.specs.declared.Party.the-variants.{Lab}
+use Rattle.styles.specs.Marks.{Sorted, blank, ofParty}
 use Rattle.styles.specs.Values.{valueNan}
 use Rattle.styles.specs.Bits.{pick}
 use Rattle.runs.specs.Runs.{Run, run, runs, total, setAt, Canon, Spare}
 use Rattle.runs.specs.Gather.{gather}
 use Rattle.tank.specs.declared.Tank.{Tank}
-use Rattle.tank.specs.Rules.{View, freshLength, Edit, refusal, afterCall}
+use Rattle.tank.specs.Rules.{View, freshLength, Edit, needs, refusal, afterCall}
 
 -- the tank's runs
 abbrev pub runsOf : Tank → List Run
@@ -34,6 +35,12 @@ unfoldable pub Numbers : List Mark → Type 0
 Numbers [] = Unit {0}
 Numbers (m ∷ ms) = (valueNan (m .value) ≡ false) × Numbers ms
 
+-- what is kept of a tank's marks: at most 64, and where the lab has one both parties' needs are at most 64. A tank of 49 to 64 plant marks
+-- and no mark of the lab's keeps it, and admits no mark
+pub record Roomy (ms : List Mark) : Type 0 where
+  pub few : length ms ≤ 64
+  pub lab : (ofParty Lab ms ≡ [] → ⊥) → needs ms ≤ 64
+
 -- runs in joined form over a sorted table, blank behind both; while an edit is under way the table may have marks that no position carries.
 -- There are 514 places for runs: the 512 that all tanks share, and two that an edit may add before it is judged
 pub record Laid (t : Tank) : Type 0 where
@@ -48,6 +55,7 @@ pub record Laid (t : Tank) : Type 0 where
   pub table-64 : length (t .table) ≡ 64
   pub sorted : Sorted (tableOf t)
   pub numbers : Numbers (tableOf t)
+  pub roomy : Roomy (tableOf t)
   pub blanks : (i : ℕ) → t .marks ≤ i → getD (t .table) i blank ≡ blank
   pub inside : gather (runsOf t) < 2 ^ t .marks
 

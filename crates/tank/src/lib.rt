@@ -1,12 +1,16 @@
-// One tank by value: its runs over a table of marks, and the four edits, each judged by refusals 3 to 8, 14 and 18.
+// One tank by value: its runs over a table of marks, and the four edits, each judged by refusals 3 to 8, 14, 16 and 18.
 ghost use mathlib.Core.Path.{_≡_};
-ghost use Prim.Native.Nat.{_≤_};
+ghost use Prim.Native.Nat.{_+_, _≤_, _<_, _^_, max};
+ghost use mathlib.Core.Bool.{false};
+ghost use lib.Dec.{ltb};
+ghost use Rattle.styles.specs.Order.{idOf};
 ghost use lib.ListN.{take};
 ghost use mathlib.Core.List.{[]};
-ghost use Rattle.styles.specs.Marks.{Sorted};
+ghost use Rattle.styles.specs.Bits.{pick};
+ghost use Rattle.styles.specs.Marks.{Sorted, member, ofParty};
 ghost use Rattle.styles.specs.Answers.{stylesOf};
-ghost use Rattle.tank.specs.Rules.{freshView, madeFlag, retiredFlag, markNumber, annotating, inserting, deleting, removing, insertedSet, removedFirst};
-ghost use Rattle.tank.specs.State.{view, Sound, Called};
+ghost use Rattle.tank.specs.Rules.{isLab, otherOf, shownTo, freshView, madeFlag, retiredFlag, markNumber, marksOf, crowded, annotating, inserting, deleting, removing, insertedSet, removedFirst};
+ghost use Rattle.tank.specs.State.{tableOf, view, Sound, Called};
 ghost use Rattle.tank.specs.Steps.{roomFor};
 
 mod steps; // steps.rt: what the edits are made of
@@ -14,6 +18,7 @@ mod steps; // steps.rt: what the edits are made of
 use richtext::TextStyleInfoFlag;
 use styles::Identity;
 use styles::Mark;
+use styles::Party;
 use styles::Styles;
 
 // The first `runs` places of `lens` and `sets` are the runs, a length and a set of bits each; the first `marks` of the table are the marks.
@@ -97,6 +102,34 @@ fn mark_number(mark: Mark) -> u64
     14
 }
 
+fn larger(a: usize, b: usize) -> usize
+    ensures { λ r. ⌜ r ≡ max a b ⌝ }
+{
+    if a < b { b } else { a }
+}
+
+// Do the marks of both parties need more than 64 places? The plant is assured 32, the lab 16.
+fn too_many(plant: usize, lab: usize) -> bool
+    requires { ⌜ (plant ≤ 65) × (lab ≤ 65) ⌝ }
+    ensures { λ r. ⌜ r ≡ ltb 64 (max plant 32 + max lab 16) ⌝ }
+{
+    64 < larger(plant, 32) + larger(lab, 16)
+}
+
+// Would they with a mark more that the table has not?
+fn crowded(table: [Mark; 64], n: usize, mark: Mark) -> bool
+    requires { ⌜ (n ≤ 64) × Sorted (take n table) × (member (idOf mark) (take n table) ≡ false) ⌝ }
+    ensures { λ r. ⌜ r ≡ crowded mark (take n table) ⌝ }
+{
+    let plant = styles::bits::count(styles::table::party_bits(table, n, Party::Plant));
+    let lab = styles::bits::count(styles::table::party_bits(table, n, Party::Lab));
+    let who = mark.party;
+    match who {
+        Party::Plant => too_many(plant + 1, lab),
+        Party::Lab => too_many(plant, lab + 1),
+    }
+}
+
 fn room_for(table: [Mark; 64], n: usize, mark: Mark) -> Room
     requires { ⌜ (n ≤ 64) × Sorted (take n table) ⌝ }
     ensures { λ r. ⌜ r ≡ roomFor mark (take n table) ⌝ }
@@ -111,7 +144,7 @@ fn room_for(table: [Mark; 64], n: usize, mark: Mark) -> Room
         }
         return Room::Clash;
     }
-    if n == 64 {
+    if crowded(table, n, mark) {
         return Room::Full;
     }
     Room::New(at)
@@ -128,7 +161,62 @@ fn not_inserted(number: u64, tank: Tank) -> Inserted
     }
 }
 
+// The other party.
+fn other(who: Party) -> Party
+    ensures { λ r. ⌜ r ≡ otherOf who ⌝ }
+{
+    match who {
+        Party::Plant => Party::Lab,
+        Party::Lab => Party::Plant,
+    }
+}
+
+// Is it the laboratory?
+pub fn is_lab(who: Party) -> bool
+    ensures { λ r. ⌜ r ≡ isLab who ⌝ }
+{
+    match who {
+        Party::Plant => false,
+        Party::Lab => true,
+    }
+}
+
+// The marks of a set that are a party's.
+fn shown_of(table: [Mark; 64], n: usize, set: u64, who: Party) -> Styles
+    requires { ⌜ (n ≤ 64) × (set < 2 ^ n) ⌝ }
+    ensures { λ r. ⌜ r ≡ stylesOf (ofParty who (pick (take n table) set)) ⌝ }
+{
+    let gone = styles::table::party_bits(table, n, other(who));
+    styles::table::styles_of(table, n, set - styles::bits::both(set, gone))
+}
+
 impl Tank {
+    // Has the other party a mark in the tank? Where it has none, a party is shown the tank as it is.
+    pub fn shared(self, who: Party) -> bool
+        requires { ⌜ Sound self ⌝ }
+        ensures { λ r. ⌜ r ≡ ltb 0 (marksOf (otherOf who) (tableOf self)) ⌝ }
+    {
+        let table = self.table;
+        let theirs = styles::table::party_bits(table, self.marks, other(who));
+        0 < styles::bits::count(theirs)
+    }
+
+    // What a party is shown: the tank with its marks alone, equal neighbours joined. Where the other has no mark, the tank as it is.
+    pub fn only(self, who: Party) -> Tank
+        requires { ⌜ Sound self ⌝ }
+        ensures { λ r. ⌜ (Sound r) × (view r ≡ shownTo who (view self)) ⌝ }
+    {
+        if !self.touched {
+            return self;
+        }
+        let table = self.table;
+        let gone = styles::table::party_bits(table, self.marks, other(who));
+        if gone == 0 {
+            return self;
+        }
+        steps::trim(steps::narrow(self, who, gone))
+    }
+
     // A fresh tank.
     pub fn fresh() -> Tank
         ensures { λ r. ⌜ (Sound r) × (view r ≡ freshView) ⌝ }
@@ -194,11 +282,17 @@ impl Tank {
         }
     }
 
-    // The positions start .. end go, and later ones move down. An untouched tank stays as it is.
-    pub fn delete(self, start: u64, end: u64) -> Edited
+    // The positions start .. end go, and later ones move down. An untouched tank stays as it is. The lab deletes nothing.
+    pub fn delete(self, who: Party, start: u64, end: u64) -> Edited
         requires { ⌜ Sound self ⌝ }
-        ensures { λ r. ⌜ Called (deleting start end) self (r .number) (r .tank) ⌝ }
+        ensures { λ r. ⌜ Called (deleting who start end) self (r .number) (r .tank) ⌝ }
     {
+        if is_lab(who) {
+            return Edited {
+                number: 16,
+                tank: self,
+            };
+        }
         if end <= start {
             return Edited {
                 number: 3,
@@ -223,12 +317,16 @@ impl Tank {
         }
     }
 
-    // `len` positions more before `pos`, with the marks that both its neighbours carry. An untouched tank stays as it is.
-    pub fn insert(self, pos: u64, len: u64) -> Inserted
+    // `len` positions more before `pos`, with the marks that both its neighbours carry: the answer is those that are the party's. An untouched
+    // tank stays as it is. The lab inserts nothing.
+    pub fn insert(self, who: Party, pos: u64, len: u64) -> Inserted
         requires { ⌜ Sound self ⌝ }
-        ensures { λ r. ⌜ Called (inserting pos len) self (r .number) (r .tank) ⌝ }
-        ensures { λ r. ⌜ r .styles ≡ stylesOf (insertedSet pos len (view self)) ⌝ }
+        ensures { λ r. ⌜ Called (inserting who pos len) self (r .number) (r .tank) ⌝ }
+        ensures { λ r. ⌜ r .styles ≡ stylesOf (insertedSet who pos len (view self)) ⌝ }
     {
+        if is_lab(who) {
+            return not_inserted(16, self);
+        }
         if len == 0 {
             return not_inserted(3, self);
         }
@@ -245,7 +343,7 @@ impl Tank {
         let sets = self.sets;
         let table = self.table;
         let set = runs::scan::common_at(&lens, &sets, self.runs, self.length, pos);
-        let styles = styles::table::styles_of(table, self.marks, set);
+        let styles = shown_of(table, self.marks, set, who);
         Inserted {
             number: 0,
             styles: styles,

@@ -8,11 +8,12 @@ ghost use Rattle.styles.specs.Order.{idOf};
 ghost use Rattle.styles.specs.Marks.{blank, insertAt};
 ghost use Rattle.styles.specs.Bits.{openBit};
 ghost use Rattle.runs.specs.Gather.{gather};
-ghost use Rattle.tank.specs.Rules.{afterAnnotate, afterInsert, afterDelete, stripped};
+ghost use Rattle.tank.specs.Rules.{shownTo, afterAnnotate, afterInsert, afterDelete, stripped};
 ghost use Rattle.tank.specs.State.{runsOf, tableOf, view, Laid};
-ghost use Rattle.tank.specs.Steps.{Stepped, Trimmed, CanLay, CanAdmit, CanCut, CanGrow, CanStrip};
+ghost use Rattle.tank.specs.Steps.{Stepped, Trimmed, CanLay, CanAdmit, CanCut, CanGrow, CanStrip, CanNarrow};
 use super::Tank;
 use styles::Mark;
+use styles::Party;
 
 // Mark i of the table laid on the positions start .. end.
 pub fn lay(t: Tank, start: u64, end: u64, i: usize) -> Tank
@@ -173,6 +174,41 @@ pub fn strip(t: Tank, start: u64, end: u64, i: usize) -> Tank
         end,
         0,
         bit,
+    );
+    Tank {
+        touched: t.touched,
+        length: all,
+        runs: n,
+        marks: t.marks,
+        lens: olens,
+        sets: osets,
+        table: table,
+    }
+}
+
+// The bits of `gone`, those of the other party's marks, taken off every set.
+pub fn narrow(t: Tank, who: Party, gone: u64) -> Tank
+    requires { ⌜ CanNarrow t who gone ⌝ }
+    ensures { λ r. ⌜ (Laid r) × (view r ≡ shownTo who (view t)) ⌝ }
+{
+    let lens = t.lens;
+    let sets = t.sets;
+    let m = t.runs;
+    let all = t.length;
+    let table = t.table;
+    let mut olens = [0u64; 514];
+    let mut osets = [0u64; 514];
+    let n = runs::alter(
+        &mut olens,
+        &mut osets,
+        &lens,
+        &sets,
+        m,
+        all,
+        0,
+        all,
+        0,
+        gone,
     );
     Tank {
         touched: t.touched,

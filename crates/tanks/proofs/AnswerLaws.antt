@@ -5,13 +5,13 @@ use mathlib.Core.List.{[]}
 use native.Mathlib.Omega.{arith}
 use Rattle.styles.specs.Answers.{stylesOf}
 use Rattle.tank.specs.declared.Tank.{Tank}
-use Rattle.tank.specs.Rules.{freshView, Edit, annotating, inserting, deleting, removing, refusal, insertedSet, removedFirst, View, forInsert, backFrom, whenAccepted}
+use Rattle.tank.specs.Rules.{freshView, Edit, annotating, inserting, deleting, removing, shownTo, refusal, insertedSet, removedFirst, View, forInsert, backFrom, whenAccepted}
 use Rattle.tank.specs.State.{view, Sound}
 use Rattle.tank.proofs.Calls.{when-refused}
 use Rattle.tanks.specs.declared.Done.{Done}
 use Rattle.tanks.specs.declared.Performed.{Performed}
 use Rattle.tanks.specs.declared.Tanks.{Tanks}
-use Rattle.tanks.specs.House.{tankAt, refusalAt, insertedSetAt, removedFirstAt}
+use Rattle.tanks.specs.House.{tankAt, ownAt, refusalAt, insertedSetAt, removedFirstAt}
 use Rattle.tanks.specs.Pool.{meaning}
 use Rattle.tanks.specs.Contracts.{CalledAt, Taken, setBeside, firstBeside, PerformedAs, DoneAt}
 use Rattle.tanks.proofs.SettingLaws.{first-zero, TakenOut}
@@ -20,7 +20,7 @@ use Rattle.tanks.proofs.CallLaws.{refusal-in}
 
 module _ (s : Tanks) (t : ℕ) where
   own-zero : (e : Edit) → t < 8 → refusalAt (meaning s) t e ≡ 0 → refusal e (tankAt (meaning s) t) ≡ 0
-  own-zero e h z = first-zero (refusal e (tankAt (meaning s) t)) _ (sym (refusal-in (meaning s) t e h) ∙ z)
+  own-zero e h z = first-zero (refusal e (tankAt (meaning s) t)) _ (first-zero (ownAt (meaning s) t e) _ (sym (refusal-in (meaning s) t e h) ∙ z))
 
   -- what a tank taken out means
   own-view : (x : Tank) → t < 8 → TakenOut s t x → view x ≡ tankAt (meaning s) t
@@ -39,32 +39,32 @@ module _ (s : Tanks) (t : ℕ) where
   beside-done e given none x h taken z = rw (own-view x h taken, z, own-zero e h z)
 
   -- the same for every edit
-  set-beside : (e : Edit) (x : Tank) → t < 8 → TakenOut s t x → refusalAt (meaning s) t e ≡ 0 → setBeside (λ pos len. insertedSet pos len (view x)) e ≡ setBeside (insertedSetAt (meaning s) t) e
+  set-beside : (e : Edit) (x : Tank) → t < 8 → TakenOut s t x → refusalAt (meaning s) t e ≡ 0 → setBeside (λ who pos len. insertedSet who pos len (view x)) e ≡ setBeside (insertedSetAt (meaning s) t) e
   unfolding insertedSetAt
   set-beside (annotating a b m) x h taken z = refl
-  set-beside (inserting pos len) x h taken z = beside-done (inserting pos len) (forInsert pos) [] x h taken z
-  set-beside (deleting a b) x h taken z = refl
+  set-beside (inserting who pos len) x h taken z = beside-done (inserting who pos len) (λ v. forInsert pos (shownTo who v)) [] x h taken z
+  set-beside (deleting who a b) x h taken z = refl
   set-beside (removing id last) x h taken z = refl
 
   first-beside : (e : Edit) (x : Tank) → t < 8 → TakenOut s t x → refusalAt (meaning s) t e ≡ 0 → firstBeside (λ id last. removedFirst id last (view x)) e ≡ firstBeside (removedFirstAt (meaning s) t) e
   unfolding removedFirstAt
   first-beside (annotating a b m) x h taken z = refl
-  first-beside (inserting pos len) x h taken z = refl
-  first-beside (deleting a b) x h taken z = refl
+  first-beside (inserting who pos len) x h taken z = refl
+  first-beside (deleting who a b) x h taken z = refl
   first-beside (removing id last) x h taken z = beside-done (removing id last) (backFrom id last) 0 x h taken z
 
   no-set : (e : Edit) → 0 < refusalAt (meaning s) t e → [] ≡ setBeside (insertedSetAt (meaning s) t) e
   unfolding insertedSetAt
   no-set (annotating a b m) h = refl
-  no-set (inserting pos len) h = sym (when-refused _ _ _ h)
-  no-set (deleting a b) h = refl
+  no-set (inserting who pos len) h = sym (when-refused _ _ _ h)
+  no-set (deleting who a b) h = refl
   no-set (removing id last) h = refl
 
   no-first : (e : Edit) → 0 < refusalAt (meaning s) t e → 0 ≡ firstBeside (removedFirstAt (meaning s) t) e
   unfolding removedFirstAt
   no-first (annotating a b m) h = refl
-  no-first (inserting pos len) h = refl
-  no-first (deleting a b) h = refl
+  no-first (inserting who pos len) h = refl
+  no-first (deleting who a b) h = refl
   no-first (removing id last) h = sym (when-refused _ _ _ h)
 
   -- a refused edit

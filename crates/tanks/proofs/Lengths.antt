@@ -9,20 +9,23 @@ use lib.Dec.{eqb}
 use borrow.Author.Tests.{eqb-true, eq-eqb, ne-eqb}
 use lib.ListN.{length, length-set, getD-replicate}
 use Rattle.laws.proofs.Cases.{cond-ap}
-use Rattle.tank.specs.Rules.{View, freshLength, freshView, runsHeld, Edit, annotating, inserting, deleting, removing, afterInsert, afterDelete, afterRemove, stripped, after, refusal, firstRefusal}
+use Rattle.tank.specs.Rules.{View, freshLength, freshView, runsHeld, Edit, annotating, inserting, deleting, removing, madeBy, afterInsert, afterDelete, afterRemove, stripped, after, refusal, firstRefusal}
 use Rattle.tank.specs.Lengths.{gained, lost, annotates}
 use Rattle.tank.proofs.Sequences as own
 use Rattle.tanks.specs.declared.Setting.{Setting}
-use Rattle.tanks.specs.Settings.{accepted, judgement}
-use Rattle.tanks.specs.House.{House, tankAt, held, opening, refusalAt, withTank, afterAt, Call, afterAll, reached, sumOn, FirstOn, houseThen}
+use Rattle.tanks.specs.Settings.{shareOf, accepted, judgement}
+use Rattle.tanks.specs.House.{House, tankAt, held, opening, shareNumber, ownAt, refusalAt, withTank, afterAt, Call, afterAll, reached, sumOn, FirstOn, houseThen}
 use Rattle.tanks.proofs.SettingLaws.{at-each}
 use Rattle.tanks.proofs.CallLaws.{refusal-in}
 use Rattle.tanks.proofs.Theorems.{with-same, others-stay, reached-kept, after-by}
 
 -- ---- the calls on tank t
--- neither 9 nor 10 applies: the edit would leave the tank within its limit, and the sum within 512
+-- none of 17, 9 and 10 applies: the edit would leave the tank within its limit and the sum within 512, and one of the lab's the tank within
+-- its share
 abbrev pub granted : House → ℕ → Edit → Bool
-granted h t e = eqb (judgement (h .settings) (held h) t (runsHeld (after e (tankAt h t)))) 0
+granted h t e =
+    eqb (judgement (h .settings) (held h) t (runsHeld (after e (tankAt h t)))) 0
+    && eqb (shareNumber (madeBy e) (shareOf (h .settings) t) (held h t) (runsHeld (after e (tankAt h t)))) 0
 
 -- an edit on tank t, as a call on that tank alone
 abbrev pub ownCall : House → ℕ → Edit → own.OwnCall
@@ -47,9 +50,19 @@ first-both n m = go (eqb n 0) (eqb m 0) refl refl
     go false true e f = simp (e, f)
     go false false e f = simp (e, f)
 
+and-three : (a b c : Bool) → (a && (b && c)) ≡ ((a && b) && c)
+and-three true b c = refl
+and-three false b c = refl
+
 -- a call is accepted by the house exactly where it is granted and the tank's own rules accept it
 pub accepted-own : (h : House) (t : ℕ) (e : Edit) → t < 8 → eqb (refusalAt h t e) 0 ≡ own.acceptedBy (ownCall h t e) (tankAt h t)
-accepted-own h t e t8 = ap (λ (n : ℕ). eqb n 0) (refusal-in h t e t8) ∙ first-both (refusal e (tankAt h t)) _
+accepted-own h t e t8 =
+    let s = shareNumber (madeBy e) (shareOf (h .settings) t) (held h t) (runsHeld (after e (tankAt h t))) in
+    let j = judgement (h .settings) (held h) t (runsHeld (after e (tankAt h t))) in
+    ap (λ (n : ℕ). eqb n 0) (refusal-in h t e t8)
+    ∙ first-both (ownAt h t e) j
+    ∙ ap (λ (b : Bool). eqb j 0 && b) (first-both (refusal e (tankAt h t)) s)
+    ∙ and-three (eqb j 0) (eqb s 0) (eqb (refusal e (tankAt h t)) 0)
 
 -- no call changes how many tanks there are
 count-stays : (h : House) (t : ℕ) (e : Edit) → length (afterAt h t e .tanks) ≡ length (h .tanks)
@@ -125,8 +138,8 @@ own-sum f h (c ∷ cs) t t8 eight =
 touches-only : (e : Edit) (v : View) → v .touched ≡ false → after e v .touched ≡ true → annotates e ≡ true
 unfolding annotates after afterInsert afterDelete afterRemove stripped
 touches-only (annotating a b m) v u t = refl
-touches-only (inserting pos len) v u t = absurd (false≢true (rw u at t))
-touches-only (deleting a b) v u t = absurd (false≢true (rw u at t))
+touches-only (inserting who pos len) v u t = absurd (false≢true (rw u at t))
+touches-only (deleting who a b) v u t = absurd (false≢true (rw u at t))
 touches-only (removing id last) v u t = absurd (false≢true (sym u ∙ t))
 
 -- what a call on tank u is that touches tank t: on that tank, an annotate, accepted

@@ -15,5 +15,6 @@ pub mod Sequences
 pub mod TakenBack
 pub mod Lengths
 pub mod Sorted
+pub mod PartyLaws
 pub mod OnRuns
 pub mod Tests

@@ -18,15 +18,15 @@ use Rattle.runs.specs.Runs.{Run, run, total, Other, Canon}
 use Rattle.runs.specs.Gather.{gather}
 use Rattle.runs.proofs.GatherLaws.{all-at}
 use Rattle.runs.proofs.MapLaws.{AllSets}
-use Rattle.tank.specs.Rules.{View, freshLength, freshView, runsHeld, Edit, after, refusal, firstRefusal}
+use Rattle.tank.specs.Rules.{View, freshLength, freshView, runsHeld, Edit, madeBy, after, refusal, firstRefusal}
 use Rattle.tank.specs.State.{viewOf}
 use Rattle.tank.proofs.Counted.{counted}
 use Rattle.tank.proofs.OnRuns.{known, numberOn, runsAfter, touchedAfter, canon-after, refusal-on, call-on}
 use Rattle.tank.proofs.ViewLaws.{view-ext}
 use Rattle.tanks.specs.declared.Setting.{Setting}
-use Rattle.tanks.specs.Settings.{accepted, judgement}
-use Rattle.tanks.specs.House.{House, tankAt, held, opening, noTank, refusalAt, withTank, afterAt, Call, afterAll}
-use Rattle.tanks.proofs.CallLaws.{first-when}
+use Rattle.tanks.specs.Settings.{shareOf, accepted, judgement}
+use Rattle.tanks.specs.House.{House, tankAt, held, opening, noTank, shareNumber, refusalAt, withTank, afterAt, Call, afterAll}
+use Rattle.tanks.proofs.CallLaws.{first-twice}
 use Rattle.tanks.proofs.SettingLaws.{first-zero}
 
 -- ---- tanks on runs
@@ -58,7 +58,10 @@ keptAfter ms e k = record { touched = touchedAfter e (k .touched); runs = runsAf
 -- its number, and the tanks after it, where its tank would become `new`: an argument, so that it is computed once
 unfoldable numberWith : List Setting → List Mark → List RunsKept → ℕ → Edit → RunsKept → ℕ
 numberWith st ms ks t e new =
-    cond (noTank t) 1 (firstRefusal (numberOn ms e (keptAt ks t .touched) (keptAt ks t .runs)) (judgement st (heldOn ks) t (length (new .runs))))
+    cond (noTank t) 1
+    (firstRefusal
+    (firstRefusal (numberOn ms e (keptAt ks t .touched) (keptAt ks t .runs)) (shareNumber (madeBy e) (shareOf st t) (heldOn ks t) (length (new .runs))))
+    (judgement st (heldOn ks) t (length (new .runs))))
 
 unfoldable allWith : List Setting → List Mark → List RunsKept → ℕ → Edit → RunsKept → List RunsKept
 unfolding numberWith
@@ -118,9 +121,9 @@ all-set P d x (y ∷ l) zero h k (suc u) = h (suc u)
 all-set P d x (y ∷ l) (suc t) h k zero = h zero
 all-set P d x (y ∷ l) (suc t) h k (suc u) = all-set P d x l t (λ v. h (suc v)) k u
 
-own-zero : (b : Bool) (n m : ℕ) → cond b 1 (firstRefusal n m) ≡ 0 → n ≡ 0
-own-zero true n m h = absurd (omega arith)
-own-zero false n m h = first-zero n m h
+own-zero : (b : Bool) (n s m : ℕ) → cond b 1 (firstRefusal (firstRefusal n s) m) ≡ 0 → n ≡ 0
+own-zero true n s m h = absurd (omega arith)
+own-zero false n s m h = first-zero n s (first-zero (firstRefusal n s) m h)
 
 pub tried-clear : (ms : List Mark) (w : Way) (t : ℕ) (e : Edit) → tried ms w t e .clear ≡ true
     → (w .clear ≡ true) × ((may ms e (keptAfter ms e (keptAt (w .kept) t)) && eqb (numberOn ms e (keptAt (w .kept) t .touched) (keptAt (w .kept) t .runs)) 0) ≡ true)
@@ -182,11 +185,12 @@ module _ (ms : List Mark) (sorted : Sorted ms) where
         number-on =
             let k = keptAt ks t in
             let v = viewOn ms k in
-            ap (λ (u : View). cond (noTank t) 1 (firstRefusal (refusal e u) (judgement st (held h) t (runsHeld (after e u))))) (tank-on t)
-            ∙ ap (λ (n : ℕ → ℕ). cond (noTank t) 1 (firstRefusal (refusal e v) (judgement st n t (runsHeld (after e v))))) (held-on f)
-            ∙ ap (λ n. cond (noTank t) 1 (firstRefusal n (judgement st (heldOn ks) t (runsHeld (after e v))))) (refusal-on ms sorted e (k .touched) (k .runs) (f t .canon))
+            ap (λ (u : View). cond (noTank t) 1 (firstRefusal (firstRefusal (refusal e u) (shareNumber (madeBy e) (shareOf st t) (held h t) (runsHeld (after e u)))) (judgement st (held h) t (runsHeld (after e u))))) (tank-on t)
+            ∙ ap (λ (n : ℕ → ℕ). cond (noTank t) 1 (firstRefusal (firstRefusal (refusal e v) (shareNumber (madeBy e) (shareOf st t) (n t) (runsHeld (after e v)))) (judgement st n t (runsHeld (after e v))))) (held-on f)
+            ∙ ap (λ n. cond (noTank t) 1 (firstRefusal (firstRefusal n (shareNumber (madeBy e) (shareOf st t) (heldOn ks t) (runsHeld (after e v)))) (judgement st (heldOn ks) t (runsHeld (after e v))))) (refusal-on ms sorted e (k .touched) (k .runs) (f t .canon))
             ∙ ap (cond (noTank t) 1)
-            (first-when _ _ _ (λ z. ap (judgement st (heldOn ks) t) (ap runsHeld (edit-on e k (f t) is-known z) ∙ held-in new new-fit)))
+            (first-twice (numberOn ms e (k .touched) (k .runs)) (shareNumber (madeBy e) (shareOf st t) (heldOn ks t)) (judgement st (heldOn ks) t) (runsHeld (after e v)) (length (new .runs))
+            (λ z. ap runsHeld (edit-on e k (f t) is-known z) ∙ held-in new new-fit))
 
         own-by : numberOn ms e (keptAt ks t .touched) (keptAt ks t .runs) ≡ 0
             → (refusal e (tankAt h t) ≡ 0) × (runsHeld (after e (tankAt h t)) ≡ length (new .runs))
@@ -202,7 +206,7 @@ module _ (ms : List Mark) (sorted : Sorted ms) where
 
         moved : numberAt st ms ks t e ≡ 0 → after e (tankAt h t) ≡ viewOn ms new
         unfolding numberAt
-        moved z = ap (after e) (tank-on t) ∙ edit-on e (keptAt ks t) (f t) is-known (own-zero (noTank t) _ _ z)
+        moved z = ap (after e) (tank-on t) ∙ edit-on e (keptAt ks t) (f t) is-known (own-zero (noTank t) _ _ _ z)
 
         pub after-on : afterAt h t e ≡ houseOn st ms (allAfter st ms ks t e)
         unfolding afterAt allAfter numberAt

@@ -8,18 +8,19 @@ use native.Mathlib.Decide.{decLt}
 use lib.Dec.{ltb, eqb}
 use lib.ListN.{length}
 use Rattle.laws.proofs.Cases.{cond-by}
+use Rattle.styles.specs.declared.Party.{Party}
 use Rattle.styles.specs.Marks.{Sorted}
 use Rattle.styles.proofs.WalkLaws.{sorted-pick}
 use Rattle.styles.proofs.SetLaws.{sorted-insert, sorted-only}
 use Rattle.tank.specs.declared.Tank.{Tank}
-use Rattle.tank.specs.Rules.{View, freshView, Edit, annotating, inserting, deleting, removing, afterAnnotate, inherited, afterInsert, forInsert, afterDelete, backFrom, stripped, afterRemove, after}
+use Rattle.tank.specs.Rules.{View, freshView, Edit, annotating, inserting, deleting, removing, shownTo, afterAnnotate, inherited, afterInsert, forInsert, afterDelete, backFrom, stripped, afterRemove, after}
 use Rattle.runs.specs.Positions.{within}
 use Rattle.tank.specs.State.{view, Laid, tableOf}
 use Rattle.tank.proofs.Sequences as own
 use Rattle.tanks.specs.declared.Setting.{Setting}
 use Rattle.tanks.specs.declared.Tanks.{Tanks}
 use Rattle.tanks.specs.Settings.{accepted}
-use Rattle.tanks.specs.House.{House, tankAt, refusalAt, insertedSetAt, opening, Call, reached}
+use Rattle.tanks.specs.House.{House, tankAt, shownAt, refusalAt, insertedSetAt, opening, Call, reached}
 use Rattle.tanks.specs.Pool.{meaning, Sound, tankOf}
 use Rattle.tanks.proofs.MeaningLaws.{tank-at}
 use Rattle.tanks.proofs.CallLaws.{refusal-past}
@@ -56,15 +57,20 @@ for-insert : (pos : ℕ) (v : View) → InOrder v → Sorted (forInsert pos v)
 unfolding forInsert
 for-insert pos v h = cond-by Sorted (v .touched) (inherited-sorted pos v h) none-sorted
 
+-- what a party is shown
+pub shown-sorted : (who : Party) (v : View) → InOrder v → InOrder (shownTo who v)
+unfolding shownTo
+shown-sorted who v h p = sorted-only _ (v .at p) (h p)
+
 -- ---- each edit keeps every position sorted
-edit-sorted : (e : Edit) (v : View) → InOrder v → InOrder (after e v)
+pub edit-sorted : (e : Edit) (v : View) → InOrder v → InOrder (after e v)
 unfolding after afterAnnotate afterInsert afterDelete afterRemove stripped
 edit-sorted (annotating a b m) v h = λ p. cond-by Sorted (within a b p) (sorted-insert m (v .at p) (h p)) (h p)
-edit-sorted (inserting pos len) v h =
+edit-sorted (inserting who pos len) v h =
     cond-by InOrder (v .touched)
     (λ p. cond-by Sorted (ltb p pos) (h p) (cond-by Sorted (ltb p (pos + len)) (inherited-sorted pos v h) (h (p - len))))
     h
-edit-sorted (deleting a b) v h =
+edit-sorted (deleting who a b) v h =
     cond-by InOrder (v .touched) (λ p. cond-by Sorted (ltb p a) (h p) (h (p + (b - a)))) h
 edit-sorted (removing id last) v h =
     λ p. cond-by Sorted (within (backFrom id last v) (last + 1) p) (sorted-only _ (v .at p) (h p)) (h p)
@@ -77,7 +83,7 @@ calls-sorted (c ∷ cs) v h =
     calls-sorted cs (own.afterOne c v) (cond-by InOrder (own.acceptedBy c v) (edit-sorted (c .edit) v h) h)
 
 -- a fresh tank has no marks
-fresh-sorted : InOrder freshView
+pub fresh-sorted : InOrder freshView
 unfolding freshView Sorted
 fresh-sorted p = tt
 
@@ -89,19 +95,20 @@ reached-sorted st l ok cs t p t8 =
 
 -- ---- the sets that are handed out
 -- an insertion's answer, where its tank is sorted
-answer-sorted : (h : House) (t pos len : ℕ) → (t < 8 → InOrder (tankAt h t)) → Sorted (insertedSetAt h t pos len)
+answer-sorted : (h : House) (t : ℕ) (who : Party) (pos len : ℕ) → (t < 8 → InOrder (tankAt h t)) → Sorted (insertedSetAt h t who pos len)
 unfolding insertedSetAt
-answer-sorted h t pos len ok =
+answer-sorted h t who pos len ok =
     elim (decLt t 8) [
-      | yes l ↦ cond-by Sorted (eqb (refusalAt h t (inserting pos len)) 0) (for-insert pos (tankAt h t) (ok l)) none-sorted
-      | no l ↦ rw (refusal-past h t (inserting pos len) (omega arith)) none-sorted
+      | yes l ↦ cond-by Sorted (eqb (refusalAt h t (inserting who pos len)) 0) (for-insert pos (shownAt h who t) (shown-sorted who (tankAt h t) (ok l))) none-sorted
+      | no l ↦ rw (refusal-past h t (inserting who pos len) (omega arith)) none-sorted
     ]
 
 module _ (s : Tanks) (ok : Sound s) where
   -- the set that an insertion answers is sorted, accepted or refused
-  pub inserted-sorted : (t pos len : ℕ) → Sorted (insertedSetAt (meaning s) t pos len)
-  inserted-sorted t pos len = answer-sorted (meaning s) t pos len (λ l p. sets-sorted s ok t p l)
+  pub inserted-sorted : (t : ℕ) (who : Party) (pos len : ℕ) → Sorted (insertedSetAt (meaning s) t who pos len)
+  inserted-sorted t who pos len = answer-sorted (meaning s) t who pos len (λ l p. sets-sorted s ok t p l)
 
   -- so is the set for an insertion at a position, asked without editing
-  pub for-insert-sorted : (t pos : ℕ) → t < 8 → Sorted (forInsert pos (tankAt (meaning s) t))
-  for-insert-sorted t pos t8 = for-insert pos (tankAt (meaning s) t) (λ p. sets-sorted s ok t p t8)
+  pub for-insert-sorted : (t : ℕ) (who : Party) (pos : ℕ) → t < 8 → Sorted (forInsert pos (shownAt (meaning s) who t))
+  for-insert-sorted t who pos t8 =
+      for-insert pos (shownAt (meaning s) who t) (shown-sorted who (tankAt (meaning s) t) (λ p. sets-sorted s ok t p t8))

@@ -6,10 +6,11 @@ use mathlib.Core.Logic.{_≢_}
 use native.Mathlib.Omega.{arith}
 use native.Mathlib.Decide.{decLt}
 use lib.Seq.{set-getD, set-set, set-comm}
+use Rattle.styles.specs.declared.Party.{Party}
 use Rattle.tank.specs.Rules.{View, freshView, Edit, inserting, deleting, after, refusal}
 use Rattle.tank.proofs.TakenBack.{taken-back, back-accepted}
 use Rattle.tanks.specs.declared.Tanks.{Tanks}
-use Rattle.tanks.specs.House.{House, tankAt, refusalAt, withTank, afterAt}
+use Rattle.tanks.specs.House.{House, tankAt, ownAt, refusalAt, withTank, afterAt}
 use Rattle.tanks.specs.Pool.{meaning, Sound}
 use Rattle.tanks.specs.Contracts.{CalledAt}
 use Rattle.tanks.proofs.SettingLaws.{first-zero}
@@ -23,32 +24,32 @@ accepted-in h t e z = elim (decLt t 8) [ yes l ↦ l | no l ↦ absurd (omega (a
 
 -- and the tank's own rules refuse it nothing
 accepted-there : (h : House) (t : ℕ) (e : Edit) → refusalAt h t e ≡ 0 → refusal e (tankAt h t) ≡ 0
-accepted-there h t e z = first-zero (refusal e (tankAt h t)) _ (sym (refusal-in h t e (accepted-in h t e z)) ∙ z)
+accepted-there h t e z = first-zero (refusal e (tankAt h t)) _ (first-zero (ownAt h t e) _ (sym (refusal-in h t e (accepted-in h t e z)) ∙ z))
 
 -- ---- a late fill taken back
-module _ (h : House) (t pos len : ℕ) (kept : Kept h) (touched : tankAt h t .touched ≡ true) (made : refusalAt h t (inserting pos len) ≡ 0) where
-  tank-then : tankAt (afterAt h t (inserting pos len)) t ≡ after (inserting pos len) (tankAt h t)
-  tank-then = ap (λ (g : House). tankAt g t) (after-done h t (inserting pos len) made) ∙ with-same h t _ (kept .eight) (accepted-in h t (inserting pos len) made)
+module _ (h : House) (t : ℕ) (who : Party) (pos len : ℕ) (kept : Kept h) (touched : tankAt h t .touched ≡ true) (made : refusalAt h t (inserting who pos len) ≡ 0) where
+  tank-then : tankAt (afterAt h t (inserting who pos len)) t ≡ after (inserting who pos len) (tankAt h t)
+  tank-then = ap (λ (g : House). tankAt g t) (after-done h t (inserting who pos len) made) ∙ with-same h t _ (kept .eight) (accepted-in h t (inserting who pos len) made)
 
   -- the deletion is refused nothing
-  pub fill-back-accepted : refusalAt (afterAt h t (inserting pos len)) t (deleting pos (pos + len)) ≡ 0
+  pub fill-back-accepted : refusalAt (afterAt h t (inserting who pos len)) t (deleting who pos (pos + len)) ≡ 0
   fill-back-accepted =
-      delete-own (afterAt h t (inserting pos len)) t pos (pos + len) (kept-call h t (inserting pos len) kept) (accepted-in h t (inserting pos len) made)
-      ∙ ap (refusal (deleting pos (pos + len))) tank-then
-      ∙ back-accepted pos len (tankAt h t) touched (accepted-there h t (inserting pos len) made)
+      delete-own (afterAt h t (inserting who pos len)) t who pos (pos + len) (kept-call h t (inserting who pos len) kept) (accepted-in h t (inserting who pos len) made)
+      ∙ ap (refusal (deleting who pos (pos + len))) tank-then
+      ∙ back-accepted who pos len (tankAt h t) touched (accepted-there h t (inserting who pos len) made)
 
   -- and gives the very same house back: every length, every set, every count of runs, touched and the settings
-  pub fill-taken-back : afterAt (afterAt h t (inserting pos len)) t (deleting pos (pos + len)) ≡ h
+  pub fill-taken-back : afterAt (afterAt h t (inserting who pos len)) t (deleting who pos (pos + len)) ≡ h
   fill-taken-back =
-      after-done (afterAt h t (inserting pos len)) t (deleting pos (pos + len)) fill-back-accepted
-      ∙ ap (λ (v : View). withTank (afterAt h t (inserting pos len)) t v) (ap (after (deleting pos (pos + len))) tank-then ∙ taken-back pos len (tankAt h t) touched)
-      ∙ ap (λ (g : House). withTank g t (tankAt h t)) (after-done h t (inserting pos len) made)
+      after-done (afterAt h t (inserting who pos len)) t (deleting who pos (pos + len)) fill-back-accepted
+      ∙ ap (λ (v : View). withTank (afterAt h t (inserting who pos len)) t v) (ap (after (deleting who pos (pos + len))) tank-then ∙ taken-back who pos len (tankAt h t) touched)
+      ∙ ap (λ (g : House). withTank g t (tankAt h t)) (after-done h t (inserting who pos len) made)
       ∙ as-was
     where
-      as-was : withTank (withTank h t (after (inserting pos len) (tankAt h t))) t (tankAt h t) ≡ h
+      as-was : withTank (withTank h t (after (inserting who pos len) (tankAt h t))) t (tankAt h t) ≡ h
       as-was = λ i. record {
         settings = h .settings;
-        tanks = (set-set (h .tanks) t (after (inserting pos len) (tankAt h t)) (tankAt h t) ∙ set-getD (h .tanks) t freshView) i;
+        tanks = (set-set (h .tanks) t (after (inserting who pos len) (tankAt h t)) (tankAt h t) ∙ set-getD (h .tanks) t freshView) i;
       }
 
 -- ---- edits of any kind on two tanks, accepted in both orders (that one order is not enough: Tests)
@@ -69,14 +70,14 @@ module _ (h : House) (t u : ℕ) (e f : Edit) (ne : t ≢ u)
       swapped = λ i. record { settings = h .settings; tanks = set-comm (h .tanks) t u (after e (tankAt h t)) (after f (tankAt h u)) ne i }
 
 -- ---- the same of the code's own states: there they are equal place by place
-pub state-taken-back : (s x y : Tanks) (t pos len number : ℕ) → Sound s → tankAt (meaning s) t .touched ≡ true
-    → CalledAt s t (inserting pos len) 0 x → CalledAt x t (deleting pos (pos + len)) number y → (number ≡ 0) × (y ≡ s)
-state-taken-back s x y t pos len number ok touched fill back =
+pub state-taken-back : (s x y : Tanks) (t : ℕ) (who : Party) (pos len number : ℕ) → Sound s → tankAt (meaning s) t .touched ≡ true
+    → CalledAt s t (inserting who pos len) 0 x → CalledAt x t (deleting who pos (pos + len)) number y → (number ≡ 0) × (y ≡ s)
+state-taken-back s x y t who pos len number ok touched fill back =
     let made = sym (fill .number-is) in
     let kept = kept-sound s ok in (
-      back .number-is ∙ ap (λ (g : House). refusalAt g t (deleting pos (pos + len))) (fill .is) ∙ fill-back-accepted (meaning s) t pos len kept touched made,
+      back .number-is ∙ ap (λ (g : House). refusalAt g t (deleting who pos (pos + len))) (fill .is) ∙ fill-back-accepted (meaning s) t who pos len kept touched made,
       unique y s (back .sound) ok
-          (back .is ∙ ap (λ (g : House). afterAt g t (deleting pos (pos + len))) (fill .is) ∙ fill-taken-back (meaning s) t pos len kept touched made),
+          (back .is ∙ ap (λ (g : House). afterAt g t (deleting who pos (pos + len))) (fill .is) ∙ fill-taken-back (meaning s) t who pos len kept touched made),
     )
 
 pub state-either-order : (s x y x′ y′ : Tanks) (t u : ℕ) (e f : Edit) → t ≢ u

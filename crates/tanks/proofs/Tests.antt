@@ -8,11 +8,13 @@ use lib.Dec.{ltb}
 use lib.IntN.{pos}
 use lib.ListN.{replicate, getD, set}
 use Rattle.styles.specs.declared.Mark.{Mark}
+use Rattle.styles.specs.declared.Party.the-variants.{Plant}
 use Rattle.styles.specs.declared.Value.the-variants.{Null}
 use Rattle.styles.specs.Order.{stands, numbers}
-use Rattle.styles.specs.Marks.{insertMark, eitherOf, member, sameContent, sameMarks}
+use Rattle.styles.specs.Marks.{insertMark, eitherOf, member, only, sameContent, sameMarks}
 use Rattle.runs.specs.Positions.{sumBelow, allAt, anyAt, starts}
-use Rattle.tank.specs.Rules.{View, annotating, deleting, madeFlag, retiredFlag, markNumber, ownNumber, empty, over, long, clash, clashes, full, gathered, refusal, after, afterAnnotate, afterDelete}
+use Rattle.tank.specs.Rules.{View, annotating, deleting, madeFlag, retiredFlag, markNumber, ownNumber, barred, empty, over, long, clash, clashes, full, gathered, needs, passesShare, refusal, after, afterAnnotate, afterDelete}
+use Rattle.tank.specs.Rules as rules
 use Rattle.tanks.specs.declared.Setting.{Setting}
 use Rattle.tanks.specs.declared.Head.{Head}
 use Rattle.tanks.specs.declared.Run.{Run}
@@ -102,17 +104,17 @@ unfolding less sumBelow judgement
 two-to-41-then = refl
 
 -- ---- 1 before the tank's own numbers: tank 8 and an empty range; tank 2^32 is no tank 0
-no-tank : refusalAt (freshHouse (replicate 8 (pair 40 200))) 8 (deleting 5 5) ≡ 1
+no-tank : refusalAt (freshHouse (replicate 8 (pair 40 200))) 8 (deleting Plant 5 5) ≡ 1
 unfolding refusalAt
 no-tank = refl
 
-no-tank-wide : refusalAt (freshHouse (replicate 8 (pair 40 200))) 4294967296 (deleting 5 5) ≡ 1
+no-tank-wide : refusalAt (freshHouse (replicate 8 (pair 40 200))) 4294967296 (deleting Plant 5 5) ≡ 1
 unfolding refusalAt
 no-tank-wide = refl
 
 -- ---- two edits on two tanks that are accepted in one order and not in the other
 abbrev mark : Mark
-mark = record { key = 1; flags = 0x84; lamport = 5; cnt = pos 0; peer = 1; value = Null }
+mark = record { key = 1; flags = 0x84; party = Plant; lamport = 5; cnt = pos 0; peer = 1; value = Null }
 
 -- n positions, of which the first k carry the mark
 abbrev marked : ℕ → ℕ → View
@@ -127,9 +129,9 @@ crowded =
     }
 
 -- tank 0 gives it back, and then tank 1 may have it; asked first, tank 1 is refused by 10
-one-order : (refusalAt crowded 0 (deleting 2 4) ≡ 0)
-    × (refusalAt (afterAt crowded 0 (deleting 2 4)) 1 (annotating 0 2 mark) ≡ 0) × (refusalAt crowded 1 (annotating 0 2 mark) ≡ 10)
-unfolding refusalAt afterAt refusal empty over long ownNumber markNumber madeFlag retiredFlag clashes clash anyAt full gathered eitherOf insertMark member sameMarks sameContent after afterDelete afterAnnotate judgement sumBelow starts stands numbers
+one-order : (refusalAt crowded 0 (deleting Plant 2 4) ≡ 0)
+    × (refusalAt (afterAt crowded 0 (deleting Plant 2 4)) 1 (annotating 0 2 mark) ≡ 0) × (refusalAt crowded 1 (annotating 0 2 mark) ≡ 10)
+unfolding refusalAt afterAt refusal barred empty over long ownNumber markNumber madeFlag retiredFlag clashes clash anyAt full needs rules.crowded passesShare gathered eitherOf insertMark member only sameMarks sameContent after afterDelete afterAnnotate judgement sumBelow starts stands numbers
 one-order = (refl, refl, refl)
 
 -- ---- packed: two runs of tank 0, then one of tank 1

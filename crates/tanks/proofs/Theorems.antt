@@ -1,26 +1,29 @@
 -- Demand 3, over the rules of document 01: for accepted settings and any list of calls, refused ones among them.
 use Prim.Native.Nat.{ℕ, _≤_, _<_, max}
 use mathlib.Core.Path.{_≡_, refl, sym, ap, _∙_, subst}
-use mathlib.Core.Bool.{Bool, true, false}
+use mathlib.Core.Bool.{Bool, true, false, cond, _&&_, false≢true}
 use mathlib.Core.Logic.{_≢_}
 use mathlib.Core.List.{List, [], _∷_}
 use native.Mathlib.Omega.{arith}
 use native.Mathlib.Decide.{decLt, decLe, ℕ-discrete}
-use borrow.Author.Tests.{ltb-false, leb-false, eq-eqb, ne-eqb}
+use lib.Dec.{eqb}
+use borrow.Author.Tests.{ltb-false, leb-false, eq-eqb, ne-eqb, lt-ltb, le-ltb}
 use lib.ListN.{length, replicate, length-set}
 use lib.Seq.{getD-set-same, getD-set-other}
 use Rattle.laws.proofs.Cases.{cond-by}
 use Rattle.styles.specs.declared.Identity.{Identity}
+use Rattle.styles.specs.declared.Party.{Party}
+use Rattle.styles.specs.declared.Party.the-variants.{Plant, Lab}
 use Rattle.runs.specs.Positions.{sumBelow}
 use Rattle.runs.proofs.SumLaws.{sum-least}
-use Rattle.tank.specs.Rules.{View, freshView, runsHeld, Edit, inserting, deleting, removing, after, empty, over, long, ownNumber, clashes, full, refusal}
+use Rattle.tank.specs.Rules.{View, freshView, runsHeld, Edit, inserting, deleting, removing, isLab, madeBy, after, barred, empty, over, long, ownNumber, clashes, full, refusal, firstRefusal, passesShare}
 use Rattle.tank.proofs.Calls.{number-by}
 use Rattle.tank.proofs.Sequences.{accepted-fits}
 use Rattle.tank.proofs.DeleteCount.{delete-fewer}
 use Rattle.tanks.specs.declared.Setting.{Setting}
 use Rattle.tanks.specs.declared.Tanks.{Tanks}
 use Rattle.tanks.specs.Settings.{shareOf, limitOf, accepted, claim, claims, heldAfter, judgement}
-use Rattle.tanks.specs.House.{House, tankAt, held, smallest, opening, refusalAt, withTank, afterAt, insertedSetAt, removedFirstAt, Call, afterAll, reached, Ten}
+use Rattle.tanks.specs.House.{House, tankAt, held, smallest, opening, shareNumber, ownAt, refusalAt, withTank, afterAt, insertedSetAt, removedFirstAt, Call, afterAll, reached, Ten}
 use Rattle.tanks.specs.Pool.{runsIn, meaning, Sound, freshly}
 use Rattle.tanks.proofs.SettingLaws.{accepted-at, claims-cong, runs-claims, judge-9, judge-10, judge-0, second-zero, at-each, held-set, judged-limits, judged-sum}
 use Rattle.tanks.proofs.MeaningLaws.{held-is, tanks-length}
@@ -54,7 +57,7 @@ after-by P h t e before made =
           let z : refusalAt h t e ≡ 0 = omega arith in
           elim (decLt t 8) [
             | no l ↦ absurd (omega (arith, refusal-past h t e (omega arith)))
-            | yes l ↦ subst P (sym (after-done h t e z)) (made l (second-zero (refusal e (tankAt h t)) _ (sym (refusal-in h t e l) ∙ z)))
+            | yes l ↦ subst P (sym (after-done h t e z)) (made l (second-zero (ownAt h t e) _ (sym (refusal-in h t e l) ∙ z)))
           ]
     ]
 
@@ -110,16 +113,20 @@ others-stay h t e u ne =
 
 -- ---- refusal 10 comes exactly when no earlier one applies and the sum would pass 512
 pub ten-then : (h : House) (t : ℕ) (e : Edit) → Ten h t e → refusalAt h t e ≡ 10
-ten-then h t e p = refusal-in h t e (p .tank) ∙ rw (p .own) (judge-10 (h .settings) (held h) t _ (p .limit) (p .over))
+ten-then h t e p =
+    refusal-in h t e (p .tank)
+    ∙ ap (λ (n : ℕ). firstRefusal n (judgement (h .settings) (held h) t (runsHeld (after e (tankAt h t))))) (p .own)
+    ∙ (judge-10 (h .settings) (held h) t _ (p .limit) (p .over))
 
 -- a number that is neither 9 nor 10
 abbrev pub NoWant : ℕ → Type 0
 NoWant n = (n ≢ 9) × (n ≢ 10)
 
--- the tank's own numbers are 3 to 8, 14 and 18
-own-free : (e : Edit) (v : View) → NoWant (refusal e v)
-own-free e v =
+-- the tank's own numbers are 3 to 8, 14, 16 and 18
+rule-free : (e : Edit) (v : View) → NoWant (refusal e v)
+rule-free e v =
     number-by NoWant
+    (λ z. omega arith, λ z. omega arith)
     (λ z. omega arith, λ z. omega arith)
     (λ z. omega arith, λ z. omega arith)
     (λ z. omega arith, λ z. omega arith)
@@ -131,21 +138,29 @@ own-free e v =
     (λ z. omega arith, λ z. omega arith)
     e v
 
--- where the tank's own rules refuse, that is the number
-own-first : (h : House) (t : ℕ) (e : Edit) → t < 8 → refusal e (tankAt h t) ≢ 0 → refusalAt h t e ≡ refusal e (tankAt h t)
-own-first h t e l ne = refusal-in h t e l ∙ rw (ne-eqb (refusal e (tankAt h t)) 0 ne)
+-- and 17 behind them is neither 9 nor 10
+own-free : (h : House) (t : ℕ) (e : Edit) → NoWant (ownAt h t e)
+own-free h t e =
+    cond-by NoWant (eqb (refusal e (tankAt h t)) 0)
+    (cond-by NoWant (passesShare (madeBy e) (shareOf (h .settings) t) (held h t) (runsHeld (after e (tankAt h t)))) (λ z. omega arith, λ z. omega arith) (λ z. omega arith, λ z. omega arith))
+    (rule-free e (tankAt h t))
 
-judged-next : (h : House) (t : ℕ) (e : Edit) → t < 8 → refusal e (tankAt h t) ≡ 0
+-- where the tank refuses, that is the number
+own-first : (h : House) (t : ℕ) (e : Edit) → t < 8 → ownAt h t e ≢ 0 → refusalAt h t e ≡ ownAt h t e
+own-first h t e l ne = refusal-in h t e l ∙ ap (λ (b : Bool). cond b (judgement (h .settings) (held h) t (runsHeld (after e (tankAt h t)))) (ownAt h t e)) (ne-eqb (ownAt h t e) 0 ne)
+
+judged-next : (h : House) (t : ℕ) (e : Edit) → t < 8 → ownAt h t e ≡ 0
     → refusalAt h t e ≡ judgement (h .settings) (held h) t (runsHeld (after e (tankAt h t)))
-judged-next h t e l z = refusal-in h t e l ∙ rw z
+judged-next h t e l z =
+    refusal-in h t e l ∙ ap (λ (n : ℕ). firstRefusal n (judgement (h .settings) (held h) t (runsHeld (after e (tankAt h t))))) z
 
 pub ten-only : (h : House) (t : ℕ) (e : Edit) → refusalAt h t e ≡ 10 → Ten h t e
 ten-only h t e ten =
     elim (decLt t 8) [
       | no l ↦ absurd (omega (arith, refusal-past h t e (omega arith)))
       | yes l ↦
-          elim (ℕ-discrete (refusal e (tankAt h t)) 0) [
-            | no ne ↦ absurd (own-free e (tankAt h t) .1 (sym (own-first h t e l ne) ∙ ten))
+          elim (ℕ-discrete (ownAt h t e) 0) [
+            | no ne ↦ absurd (own-free h t e .1 (sym (own-first h t e l ne) ∙ ten))
             | yes z ↦
                 let j = sym (judged-next h t e l z) ∙ ten in
                 let n : ℕ = runsHeld (after e (tankAt h t)) in
@@ -177,14 +192,79 @@ module _ (h : House) (t : ℕ) (n : ℕ) (le : n ≤ max (held h t) (shareOf (h 
       (omega (arith, accepted-at (h .settings) (kept .rule) t t8, kept .limits t t8))
       (omega (arith, claims-less, kept .sum))
 
--- its number is that of the tank's own rules
+-- its number is what its tank refuses it by
 own-number : (h : House) (t : ℕ) (e : Edit) → Kept h → t < 8
-    → (refusal e (tankAt h t) ≡ 0 → runsHeld (after e (tankAt h t)) ≤ max (held h t) (shareOf (h .settings) t))
-    → refusalAt h t e ≡ refusal e (tankAt h t)
+    → (ownAt h t e ≡ 0 → runsHeld (after e (tankAt h t)) ≤ max (held h t) (shareOf (h .settings) t))
+    → refusalAt h t e ≡ ownAt h t e
 own-number h t e kept t8 le =
-    elim (ℕ-discrete (refusal e (tankAt h t)) 0) [
+    elim (ℕ-discrete (ownAt h t e) 0) [
       | no ne ↦ own-first h t e t8 ne
       | yes z ↦ judged-next h t e t8 z ∙ no-more-judged h t _ (le z) kept t8 ∙ sym z
+    ]
+
+-- ---- 17
+-- where it does not come, the tank's own rules alone decide within it
+no-17 : (h : House) (t : ℕ) (e : Edit)
+    → (refusal e (tankAt h t) ≡ 0 → passesShare (madeBy e) (shareOf (h .settings) t) (held h t) (runsHeld (after e (tankAt h t))) ≡ false)
+    → ownAt h t e ≡ refusal e (tankAt h t)
+no-17 h t e free =
+    elim (ℕ-discrete (refusal e (tankAt h t)) 0) [
+      | no ne ↦ ap (λ (b : Bool). cond b (shareNumber (madeBy e) (shareOf (h .settings) t) (held h t) (runsHeld (after e (tankAt h t)))) (refusal e (tankAt h t))) (ne-eqb (refusal e (tankAt h t)) 0 ne)
+      | yes z ↦
+          ap (λ (n : ℕ). firstRefusal n (shareNumber (madeBy e) (shareOf (h .settings) t) (held h t) (runsHeld (after e (tankAt h t))))) z
+          ∙ ap (λ (b : Bool). cond b 17 0) (free z)
+          ∙ sym z
+    ]
+
+-- not for runs that do not rise, and not at or under the share
+within-share : (who : Party) (share before n : ℕ) → n ≤ max before share → passesShare who share before n ≡ false
+unfolding passesShare
+within-share who share before n le =
+    elim (decLe n before) [
+      | yes l ↦ rw (le-ltb before n l) (and-false (isLab who))
+      | no l ↦ rw (lt-ltb before n (omega arith), le-ltb share n (omega arith)) (and-false (isLab who))
+    ]
+  where
+    and-false : (b : Bool) → (b && false) ≡ false
+    and-false true = refl
+    and-false false = refl
+
+-- and it comes for every other edit of the lab's
+past-share : (share before n : ℕ) → passesShare Lab share before n ≡ false → n ≤ max before share
+unfolding passesShare
+past-share share before n e =
+    elim (decLe n before) [
+      | yes l ↦ omega arith
+      | no l ↦
+          elim (decLe n share) [
+            | yes k ↦ omega arith
+            | no k ↦
+                let q : true ≡ false = rw (lt-ltb before n (omega arith), lt-ltb share n (omega arith)) at e in
+                absurd (false≢true (sym q))
+          ]
+    ]
+
+-- the number 17 itself
+share-zero : (who : Party) (share before n : ℕ) → shareNumber who share before n ≡ 0 → passesShare who share before n ≡ false
+share-zero who share before n = go (passesShare who share before n)
+  where
+    go : (b : Bool) → _≡_ {A = ℕ} (cond b 17 0) 0 → b ≡ false
+    go true e = absurd (omega arith)
+    go false e = refl
+
+-- ---- the lab is never refused for want of runs that others hold: 17 comes before, and else 9 and 10 cannot
+pub lab-never-9-or-10 : (h : House) (t : ℕ) (e : Edit) → Kept h → madeBy e ≡ Lab → NoWant (refusalAt h t e)
+lab-never-9-or-10 h t e kept lab =
+    elim (decLt t 8) [
+      | no l ↦ subst NoWant (sym (refusal-past h t e (omega arith))) (λ z. omega arith, λ z. omega arith)
+      | yes l ↦
+          subst NoWant
+          (sym (own-number h t e kept l
+          (λ z.
+          let s = second-zero (refusal e (tankAt h t)) _ z in
+          let p = share-zero (madeBy e) (shareOf (h .settings) t) (held h t) _ s in
+          past-share (shareOf (h .settings) t) (held h t) _ (subst (λ (who : Party). passesShare who (shareOf (h .settings) t) (held h t) (runsHeld (after e (tankAt h t))) ≡ false) lab p))))
+          (own-free h t e)
     ]
 
 -- at or under its share: neither 9 nor 10
@@ -192,30 +272,44 @@ pub share-free : (h : House) (t : ℕ) (e : Edit) → Kept h → t < 8 → runsH
     → (refusalAt h t e ≡ refusal e (tankAt h t)) × NoWant (refusalAt h t e)
 share-free h t e kept t8 le =
     let f = own-number h t e kept t8 (λ _. omega arith) in
-    (f, subst NoWant (sym f) (own-free e (tankAt h t)))
+    let g = no-17 h t e (λ _. within-share (madeBy e) (shareOf (h .settings) t) (held h t) _ (omega arith)) in
+    (f ∙ g, subst NoWant (sym (f ∙ g)) (rule-free e (tankAt h t)))
 
--- ---- a deletion: its own numbers are 3 and 4, and an accepted one leaves no more runs
-delete-most : (a b : ℕ) (v : View) → refusal (deleting a b) v ≤ 4
-unfolding refusal long ownNumber clashes full
+-- ---- a deletion: the plant's own numbers are 3 and 4, the lab's is 16, and an accepted one leaves no more runs
+delete-most : (a b : ℕ) (v : View) → refusal (deleting Plant a b) v ≤ 4
+unfolding refusal barred long ownNumber clashes full
 delete-most a b v =
-    cond-by (λ (x : ℕ). x ≤ 4) (empty (deleting a b)) (omega arith) (cond-by (λ (x : ℕ). x ≤ 4) (over (deleting a b) v) (omega arith) (omega arith))
+    cond-by (λ (x : ℕ). x ≤ 4) (empty (deleting Plant a b)) (omega arith) (cond-by (λ (x : ℕ). x ≤ 4) (over (deleting Plant a b) v) (omega arith) (omega arith))
 
-delete-no-more : (a b : ℕ) (v : View) → refusal (deleting a b) v ≡ 0 → runsHeld (after (deleting a b) v) ≤ runsHeld v
+delete-no-more : (who : Party) (a b : ℕ) (v : View) → refusal (deleting who a b) v ≡ 0 → runsHeld (after (deleting who a b) v) ≤ runsHeld v
 unfolding after empty over
-delete-no-more a b v z =
-    let f = accepted-fits (deleting a b) v z in
+delete-no-more who a b v z =
+    let f = accepted-fits (deleting who a b) v z in
     let up = leb-false b a (f .0) in
     delete-fewer a b v (omega arith) (ltb-false (v .length) b (f .1))
 
--- so the tank's own rules alone refuse it, and with 1 for no such tank its number is at most 4
-pub delete-own : (h : House) (t a b : ℕ) → Kept h → t < 8 → refusalAt h t (deleting a b) ≡ refusal (deleting a b) (tankAt h t)
-delete-own h t a b kept t8 = own-number h t (deleting a b) kept t8 (λ z. omega (arith, delete-no-more a b (tankAt h t) z))
+-- so the tank's own rules alone refuse it, and with 1 for no such tank the plant's number is at most 4
+pub delete-own : (h : House) (t : ℕ) (who : Party) (a b : ℕ) → Kept h → t < 8 → refusalAt h t (deleting who a b) ≡ refusal (deleting who a b) (tankAt h t)
+delete-own h t who a b kept t8 =
+    let g =
+    no-17 h t (deleting who a b)
+    (λ z. within-share who (shareOf (h .settings) t) (held h t) _ (omega (arith, delete-no-more who a b (tankAt h t) z)))
+    in
+    own-number h t (deleting who a b) kept t8 (λ z. omega (arith, delete-no-more who a b (tankAt h t) (sym g ∙ z))) ∙ g
 
-pub delete-free : (h : House) (t a b : ℕ) → Kept h → refusalAt h t (deleting a b) ≤ 4
+pub delete-free : (h : House) (t a b : ℕ) → Kept h → refusalAt h t (deleting Plant a b) ≤ 4
 delete-free h t a b kept =
     elim (decLt t 8) [
-      | no l ↦ omega (arith, refusal-past h t (deleting a b) (omega arith))
-      | yes l ↦ omega (arith, delete-own h t a b kept l, delete-most a b (tankAt h t))
+      | no l ↦ omega (arith, refusal-past h t (deleting Plant a b) (omega arith))
+      | yes l ↦ omega (arith, delete-own h t Plant a b kept l, delete-most a b (tankAt h t))
+    ]
+
+-- whoever tries it, it is neither 9 nor 10
+pub delete-no-want : (h : House) (t : ℕ) (who : Party) (a b : ℕ) → Kept h → NoWant (refusalAt h t (deleting who a b))
+delete-no-want h t who a b kept =
+    elim (decLt t 8) [
+      | no l ↦ subst NoWant (sym (refusal-past h t (deleting who a b) (omega arith))) (λ z. omega arith, λ z. omega arith)
+      | yes l ↦ subst NoWant (sym (delete-own h t who a b kept l)) (rule-free (deleting who a b) (tankAt h t))
     ]
 
 -- ---- a call on one tank changes no answer of another, refusal 10 aside
@@ -235,15 +329,17 @@ judge-not-10 st f g t n p q =
 
 module _ (h : House) (t : ℕ) (e : Edit) (u : ℕ) (ne : u ≢ t) where
   -- the tank's own numbers stay, and what the edit would leave
-  pub own-stays : (d : Edit) → refusal d (tankAt (afterAt h t e) u) ≡ refusal d (tankAt h u)
-  own-stays d = ap (refusal d) (others-stay h t e u ne)
+  pub own-stays : (d : Edit) → ownAt (afterAt h t e) u d ≡ ownAt h u d
+  own-stays d =
+      ap (λ (st : List Setting). firstRefusal (refusal d (tankAt (afterAt h t e) u)) (shareNumber (madeBy d) (shareOf st u) (held (afterAt h t e) u) (runsHeld (after d (tankAt (afterAt h t e) u))))) (settings-stay h t e)
+      ∙ ap (λ (v : View). firstRefusal (refusal d v) (shareNumber (madeBy d) (shareOf (h .settings) u) (runsHeld v) (runsHeld (after d v)))) (others-stay h t e u ne)
 
   pub number-stays : (d : Edit) → refusalAt (afterAt h t e) u d ≢ 10 → refusalAt h u d ≢ 10 → refusalAt (afterAt h t e) u d ≡ refusalAt h u d
   number-stays d p q =
       elim (decLt u 8) [
         | no l ↦ refusal-past (afterAt h t e) u d (omega arith) ∙ sym (refusal-past h u d (omega arith))
         | yes l ↦
-            elim (ℕ-discrete (refusal d (tankAt h u)) 0) [
+            elim (ℕ-discrete (ownAt h u d) 0) [
               | no f ↦
                   own-first (afterAt h t e) u d l (λ z. f (sym (own-stays d) ∙ z)) ∙ own-stays d ∙ sym (own-first h u d l f)
               | yes z ↦
@@ -258,10 +354,10 @@ module _ (h : House) (t : ℕ) (e : Edit) (u : ℕ) (ne : u ≢ t) where
             ]
       ]
 
-  pub set-stays : (pos len : ℕ) → refusalAt (afterAt h t e) u (inserting pos len) ≢ 10 → refusalAt h u (inserting pos len) ≢ 10
-      → insertedSetAt (afterAt h t e) u pos len ≡ insertedSetAt h u pos len
+  pub set-stays : (who : Party) (pos len : ℕ) → refusalAt (afterAt h t e) u (inserting who pos len) ≢ 10 → refusalAt h u (inserting who pos len) ≢ 10
+      → insertedSetAt (afterAt h t e) u who pos len ≡ insertedSetAt h u who pos len
   unfolding insertedSetAt
-  set-stays pos len p q = rw (number-stays (inserting pos len) p q, others-stay h t e u ne)
+  set-stays who pos len p q = rw (number-stays (inserting who pos len) p q, others-stay h t e u ne)
 
   pub first-stays : (id : Identity) (last : ℕ) → refusalAt (afterAt h t e) u (removing id last) ≢ 10 → refusalAt h u (removing id last) ≢ 10
       → removedFirstAt (afterAt h t e) u id last ≡ removedFirstAt h u id last
@@ -294,5 +390,9 @@ module _ (st : List Setting) (l : length st ≡ 8) (ok : accepted st ≡ true) (
   never-9-or-10 t e t8 le = share-free (reached st cs) t e reached-kept t8 (rw reached-settings le) .1
 
   -- a deletion is refused by neither, however many runs the tanks hold
-  pub delete-never-9-or-10 : (t a b : ℕ) → refusalAt (reached st cs) t (deleting a b) ≤ 4
-  delete-never-9-or-10 t a b = delete-free (reached st cs) t a b reached-kept
+  pub delete-never-9-or-10 : (t : ℕ) (who : Party) (a b : ℕ) → NoWant (refusalAt (reached st cs) t (deleting who a b))
+  delete-never-9-or-10 t who a b = delete-no-want (reached st cs) t who a b reached-kept
+
+  -- so is no edit of the lab's
+  pub lab-reached : (t : ℕ) (e : Edit) → madeBy e ≡ Lab → NoWant (refusalAt (reached st cs) t e)
+  lab-reached t e lab = lab-never-9-or-10 (reached st cs) t e reached-kept lab

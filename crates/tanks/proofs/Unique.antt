@@ -12,6 +12,7 @@ use Rattle.tanks.specs.declared.Head.{Head}
 use Rattle.tanks.specs.declared.Run.{Run}
 use Rattle.tank.specs.declared.Tank.{Tank}
 use Rattle.styles.specs.declared.Identity.{Identity}
+use Rattle.styles.specs.declared.Party.{Party}
 use Rattle.styles.specs.Answers.{stylesOf}
 use Rattle.tank.specs.Rules.{freshView, Edit, inserting, removing}
 use Rattle.tank.proofs.Unique.{same-tank}
@@ -116,10 +117,10 @@ module _ {s : Tanks} {t : ℕ} {e : Edit} {n n′ : ℕ} {x x′ : Tanks} (p : C
 pub one-edit : (s : Tanks) (t : ℕ) (e : Edit) (r r′ : Edited) → CalledAt s t e (r .number) (r .tanks) → CalledAt s t e (r′ .number) (r′ .tanks) → r ≡ r′
 one-edit s t e r r′ p q = λ i. record { number = one-number p q i; tanks = one-next p q i }
 
-pub one-insert : (s : Tanks) (t pos len : ℕ) (r r′ : Inserted)
-    → CalledAt s t (inserting pos len) (r .number) (r .tanks) → r .styles ≡ stylesOf (insertedSetAt (meaning s) t pos len)
-    → CalledAt s t (inserting pos len) (r′ .number) (r′ .tanks) → r′ .styles ≡ stylesOf (insertedSetAt (meaning s) t pos len) → r ≡ r′
-one-insert s t pos len r r′ p a q b = let f = a ∙ sym b in λ i. record { number = one-number p q i; styles = f i; tanks = one-next p q i }
+pub one-insert : (s : Tanks) (t : ℕ) (who : Party) (pos len : ℕ) (r r′ : Inserted)
+    → CalledAt s t (inserting who pos len) (r .number) (r .tanks) → r .styles ≡ stylesOf (insertedSetAt (meaning s) t who pos len)
+    → CalledAt s t (inserting who pos len) (r′ .number) (r′ .tanks) → r′ .styles ≡ stylesOf (insertedSetAt (meaning s) t who pos len) → r ≡ r′
+one-insert s t who pos len r r′ p a q b = let f = a ∙ sym b in λ i. record { number = one-number p q i; styles = f i; tanks = one-next p q i }
 
 pub one-remove : (s : Tanks) (t : ℕ) (id : Identity) (last : ℕ) (r r′ : Removed)
     → CalledAt s t (removing id last) (r .number) (r .tanks) → r .first ≡ removedFirstAt (meaning s) t id last

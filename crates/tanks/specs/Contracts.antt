@@ -5,6 +5,7 @@ use mathlib.Core.Bool.{Bool, true}
 use mathlib.Core.List.{List, [], _∷_}
 use Rattle.styles.specs.declared.Identity.{Identity}
 use Rattle.styles.specs.declared.Mark.{Mark}
+use Rattle.styles.specs.declared.Party.{Party}
 use Rattle.styles.specs.Answers.{stylesOf}
 use Rattle.tank.specs.declared.Tank.{Tank}
 use Rattle.tank.specs.Rules.{Edit, annotating, inserting, deleting, removing, insertedSet, removedFirst, whenAccepted}
@@ -51,22 +52,22 @@ says = refusedOrGiven YesNo.Refused YesNo.Says
 -- an edit as the rules have it
 abbrev pub editOf : code.Edit → Edit
 editOf (code.Edit.Annotate start end mark) = annotating start end mark
-editOf (code.Edit.Insert pos len) = inserting pos len
-editOf (code.Edit.Delete start end) = deleting start end
+editOf (code.Edit.Insert who pos len) = inserting who pos len
+editOf (code.Edit.Delete who start end) = deleting who start end
 editOf (code.Edit.Remove id last) = removing id last
 
 -- what stands beside the number of an edit: the set that an insertion gives; empty beside any other edit
-abbrev pub setBeside : (ℕ → ℕ → List Mark) → Edit → List Mark
+abbrev pub setBeside : (Party → ℕ → ℕ → List Mark) → Edit → List Mark
 setBeside gives (annotating a b m) = []
-setBeside gives (inserting pos len) = gives pos len
-setBeside gives (deleting a b) = []
+setBeside gives (inserting who pos len) = gives who pos len
+setBeside gives (deleting who a b) = []
 setBeside gives (removing id last) = []
 
 -- and the first position that a removal gives; 0 beside any other edit
 abbrev pub firstBeside : (Identity → ℕ → ℕ) → Edit → ℕ
 firstBeside gives (annotating a b m) = 0
-firstBeside gives (inserting pos len) = 0
-firstBeside gives (deleting a b) = 0
+firstBeside gives (inserting who pos len) = 0
+firstBeside gives (deleting who a b) = 0
 firstBeside gives (removing id last) = gives id last
 
 -- what an edit of tank t hands back
@@ -95,7 +96,7 @@ pub record Small (st : List Setting) (hs : List Head) (n : ℕ) : Type 0 where
 -- what an edit of a tank taken out hands back
 pub record PerformedAs (e : Edit) (x : Tank) (r : Performed) : Type 0 where
   pub called : state.Called e x (r .number) (r .tank)
-  pub styles-are : r .styles ≡ stylesOf (setBeside (λ pos len. insertedSet pos len (state.view x)) e)
+  pub styles-are : r .styles ≡ stylesOf (setBeside (λ who pos len. insertedSet who pos len (state.view x)) e)
   pub first-is : r .first ≡ firstBeside (λ id last. removedFirst id last (state.view x)) e
 
 -- ---- What the theorems speak of

@@ -7,10 +7,11 @@ use lib.Dec.{leb, eqb}
 use lib.ListN.{getD, set, replicate}
 use Rattle.styles.specs.declared.Identity.{Identity}
 use Rattle.styles.specs.declared.Mark.{Mark}
-use Rattle.tank.specs.Rules.{View, freshView, runsHeld, Edit, inserting, removing, after, refusal, forInsert, backFrom, firstRefusal, whenAccepted}
+use Rattle.styles.specs.declared.Party.{Party}
+use Rattle.tank.specs.Rules.{View, freshView, runsHeld, Edit, inserting, removing, shownTo, madeBy, after, refusal, passesShare, forInsert, backFrom, firstRefusal, whenAccepted}
 use Rattle.tank.specs.Lengths.{annotates}
 use Rattle.tanks.specs.declared.Setting.{Setting}
-use Rattle.tanks.specs.Settings.{limitOf, accepted, claims, heldAfter, judgement}
+use Rattle.tanks.specs.Settings.{shareOf, limitOf, accepted, claims, heldAfter, judgement}
 
 -- the settings, and eight tanks
 pub record House : Type 0 where
@@ -24,6 +25,10 @@ tankAt h t = getD (h .tanks) t freshView
 -- the runs that a tank holds, counted from its positions
 abbrev pub held : House → ℕ → ℕ
 held h t = runsHeld (tankAt h t)
+
+-- what a party is shown of it
+abbrev pub shownAt : House → Party → ℕ → View
+shownAt h who t = shownTo who (tankAt h t)
 
 -- ---- Opening
 -- eight fresh tanks
@@ -55,11 +60,21 @@ noTank t = leb 8 t
 abbrev pub askNumber : ℕ → ℕ
 askNumber t = cond (noTank t) 1 0
 
--- an edit's number, the first that applies, 0 for none: 1, then the tank's own (`refusal`), then 9 and 10 by the runs that it would hold
+-- 17: an edit of the lab's that raises its tank's runs would leave it over its share
+abbrev pub shareNumber : Party → ℕ → ℕ → ℕ → ℕ
+shareNumber who share before n = cond (passesShare who share before n) 17 0
+
+-- what an edit is refused by within its tank: the tank's own (`refusal`), then 17
+abbrev pub ownAt : House → ℕ → Edit → ℕ
+ownAt h t e =
+    firstRefusal (refusal e (tankAt h t))
+    (shareNumber (madeBy e) (shareOf (h .settings) t) (held h t) (runsHeld (after e (tankAt h t))))
+
+-- an edit's number, the first that applies, 0 for none: 1, then those, then 9 and 10 by the runs that it would hold
 unfoldable pub refusalAt : House → ℕ → Edit → ℕ
 refusalAt h t e =
     cond (noTank t) 1
-    (firstRefusal (refusal e (tankAt h t))
+    (firstRefusal (ownAt h t e)
     (judgement (h .settings) (held h) t (runsHeld (after e (tankAt h t)))))
 
 -- ---- Edits
@@ -71,9 +86,9 @@ withTank h t v = record { settings = h .settings; tanks = set (h .tanks) t v }
 unfoldable pub afterAt : House → ℕ → Edit → House
 afterAt h t e = whenAccepted (refusalAt h t e) (withTank h t (after e (tankAt h t))) h
 
--- the answer of an insert: the set that the new positions carry; refused: the empty one
-unfoldable pub insertedSetAt : House → ℕ → ℕ → ℕ → List Mark
-insertedSetAt h t pos len = whenAccepted (refusalAt h t (inserting pos len)) (forInsert pos (tankAt h t)) []
+-- the answer of an insert: of the set that the new positions carry, what the party is shown; refused: the empty one
+unfoldable pub insertedSetAt : House → ℕ → Party → ℕ → ℕ → List Mark
+insertedSetAt h t who pos len = whenAccepted (refusalAt h t (inserting who pos len)) (forInsert pos (shownAt h who t)) []
 
 -- the answer of a removal: the first position of the stretch, or last + 1; refused: 0
 unfoldable pub removedFirstAt : House → ℕ → Identity → ℕ → ℕ
@@ -94,10 +109,10 @@ afterAll = foldl λ h c. afterAt h (c .tank) (c .edit)
 unfoldable pub reached : List Setting → List Call → House
 reached st cs = afterAll (opening st) cs
 
--- when 10 is due: no lower number applies, and the sum over tanks of max(runs after, share) would pass 512
+-- when 10 is due: no number before it applies, and the sum over tanks of max(runs after, share) would pass 512
 pub record Ten (h : House) (t : ℕ) (e : Edit) : Type 0 where
   pub tank : t < 8
-  pub own : refusal e (tankAt h t) ≡ 0
+  pub own : ownAt h t e ≡ 0
   pub limit : runsHeld (after e (tankAt h t)) ≤ limitOf (h .settings) t
   pub over : 512 < claims (h .settings) (heldAfter (held h) t (runsHeld (after e (tankAt h t)))) 8
 

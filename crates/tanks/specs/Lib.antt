@@ -1,5 +1,6 @@
 pub mod Settings
 pub mod House
+pub mod Parties
 pub mod Pool
 pub mod Contracts
 pub mod Answers

@@ -16,9 +16,10 @@ use pool::table_in;
 use pool::taken;
 use pool::turn;
 use settings::accepts;
-use settings::verdict;
+use settings::edit_verdict;
 use styles::Identity;
 use styles::Mark;
+use styles::Party;
 use styles::Styles;
 use tank::Tank;
 
@@ -92,11 +93,11 @@ pub struct Removed {
     pub tanks: Tanks,
 }
 
-// An edit of one tank.
+// An edit of one tank. Insertions and deletions name the party that tries them.
 pub enum Edit {
     Annotate(u64, u64, Mark),
-    Insert(u64, u64),
-    Delete(u64, u64),
+    Insert(Party, u64, u64),
+    Delete(Party, u64, u64),
     Remove(Identity, u64),
 }
 
@@ -192,9 +193,9 @@ fn perform(x: Tank, call: Edit) -> Performed
 {
     match call {
         Edit::Annotate(start, end, mark) => plain(x.annotate(start, end, mark)),
-        Edit::Delete(start, end) => plain(x.delete(start, end)),
-        Edit::Insert(pos, len) => {
-            let e = x.insert(pos, len);
+        Edit::Delete(who, start, end) => plain(x.delete(who, start, end)),
+        Edit::Insert(who, pos, len) => {
+            let e = x.insert(who, pos, len);
             let styles = e.styles;
             let tank = e.tank;
             Performed {
@@ -256,7 +257,7 @@ impl Tanks {
         let done = perform(taken(heads, self.pool, self.tables[t], t), call);
         let x = done.tank;
         let m = x.runs;
-        let number = verdict(self.settings, heads, t, done.number, m as u64);
+        let number = edit_verdict(self.settings, heads, t, call, done.number, m as u64);
         if 0 < number {
             return refused(number, self);
         }
@@ -302,12 +303,12 @@ impl Tanks {
         }
     }
 
-    // The positions start .. end of the tank go, and later ones move down.
-    pub fn delete(self, tank: u64, start: u64, end: u64) -> Edited
+    // The positions start .. end of the tank go, and later ones move down. The lab deletes nothing.
+    pub fn delete(self, tank: u64, who: Party, start: u64, end: u64) -> Edited
         requires { ⌜ Sound self ⌝ }
-        ensures { λ r. ⌜ CalledAt self tank (deleting start end) (r .number) (r .tanks) ⌝ }
+        ensures { λ r. ⌜ CalledAt self tank (deleting who start end) (r .number) (r .tanks) ⌝ }
     {
-        let done = self.edit(tank, Edit::Delete(start, end));
+        let done = self.edit(tank, Edit::Delete(who, start, end));
         let tanks = done.tanks;
         Edited {
             number: done.number,
@@ -315,13 +316,14 @@ impl Tanks {
         }
     }
 
-    // `len` positions more before `pos` of the tank, with the marks that both its neighbours carry: the answer is that set.
-    pub fn insert(self, tank: u64, pos: u64, len: u64) -> Inserted
+    // `len` positions more before `pos` of the tank, with the marks that both its neighbours carry: the answer is those of them that are the
+    // party's. The lab inserts nothing.
+    pub fn insert(self, tank: u64, who: Party, pos: u64, len: u64) -> Inserted
         requires { ⌜ Sound self ⌝ }
-        ensures { λ r. ⌜ CalledAt self tank (inserting pos len) (r .number) (r .tanks) ⌝ }
-        ensures { λ r. ⌜ r .styles ≡ stylesOf (insertedSetAt (meaning self) tank pos len) ⌝ }
+        ensures { λ r. ⌜ CalledAt self tank (inserting who pos len) (r .number) (r .tanks) ⌝ }
+        ensures { λ r. ⌜ r .styles ≡ stylesOf (insertedSetAt (meaning self) tank who pos len) ⌝ }
     {
-        let done = self.edit(tank, Edit::Insert(pos, len));
+        let done = self.edit(tank, Edit::Insert(who, pos, len));
         let tanks = done.tanks;
         let styles = done.styles;
         Inserted {

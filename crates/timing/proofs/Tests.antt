@@ -1,6 +1,7 @@
 -- The definitions on numbers that can be worked out by hand.
 use Prim.Native.Nat.{_+_, _^_}
 use mathlib.Core.Path.{_≡_, refl}
+use Rattle.styles.specs.declared.Party.the-variants.{Plant}
 use Rattle.runs.specs.Positions.{sumBelow}
 use Rattle.tank.specs.Rules.{inserting, removing}
 use Rattle.styles.specs.Order.{idOf}
@@ -11,7 +12,7 @@ spots : (spot 50 0 ≡ 30) × (spot 50 1 ≡ 100) × (spot 50 7 ≡ 30)
 spots = (refl, refl, refl)
 
 -- between two runs, and from the end of the marked part
-calls : (editAt 3 50 0 ≡ inserting 40 2) × (editAt 7 50 0 ≡ removing (idOf extra) 489)
+calls : (editAt 3 50 0 ≡ inserting Plant 40 2) × (editAt 7 50 0 ≡ removing (idOf extra) 489)
 calls = (refl, refl)
 
 -- the sum has 64 bits

@@ -7,6 +7,7 @@ use lib.Dec.{ltb, eqb}
 use lib.IntN.{pos}
 use lib.ListN.{length, replicate}
 use Rattle.styles.specs.declared.Mark.{Mark}
+use Rattle.styles.specs.declared.Party.the-variants.{Plant}
 use Rattle.styles.specs.declared.Value.the-variants.{Null, Whole}
 use Rattle.styles.specs.Order.{idOf}
 use Rattle.styles.specs.Values.{sameValue}
@@ -26,16 +27,16 @@ sized runs = min 503 (max 3 runs)
 
 -- at least one mark, and room for the extra one
 abbrev pub marked : ℕ → ℕ
-marked marks = min 63 (max 1 marks)
+marked marks = min 47 (max 1 marks)
 
 -- ---- The tank that the work starts from: runs of ten positions each, and the unmarked rest
 -- mark b
 abbrev pub markB : ℕ → Mark
-markB b = record { key = b + 1; flags = 0x84; lamport = b + 10; cnt = pos 0; peer = 1; value = Whole (pos (b + 1)) }
+markB b = record { key = b + 1; flags = 0x84; party = Plant; lamport = b + 10; cnt = pos 0; peer = 1; value = Whole (pos (b + 1)) }
 
 -- the mark that annotate and removal are timed with
 abbrev pub extra : Mark
-extra = record { key = 777; flags = 0x84; lamport = 1; cnt = pos 0; peer = 1; value = Null }
+extra = record { key = 777; flags = 0x84; party = Plant; lamport = 1; cnt = pos 0; peer = 1; value = Null }
 
 -- all room for tank 0
 abbrev pub settings : List Setting
@@ -94,10 +95,10 @@ abbrev pub editAt : ℕ → ℕ → ℕ → Edit
 editAt work runs turn =
     cond (eqb work 0) (annotating (spot runs turn + 3) (spot runs turn + 8) extra)
     (cond (eqb work 1) (annotating 1 (runs * 10 - 11) extra)
-    (cond (eqb work 2) (inserting (spot runs turn + 5) 1)
-    (cond (eqb work 3) (inserting (spot runs turn + 10) 2)
-    (cond (eqb work 4) (deleting (spot runs turn + 4) (spot runs turn + 6))
-    (cond (eqb work 5) (deleting (spot runs turn + 5) (spot runs turn + 15))
+    (cond (eqb work 2) (inserting Plant (spot runs turn + 5) 1)
+    (cond (eqb work 3) (inserting Plant (spot runs turn + 10) 2)
+    (cond (eqb work 4) (deleting Plant (spot runs turn + 4) (spot runs turn + 6))
+    (cond (eqb work 5) (deleting Plant (spot runs turn + 5) (spot runs turn + 15))
     (cond (eqb work 6) (removing (idOf extra) (middle runs + 9))
     (removing (idOf extra) (runs * 10 - 11))))))))
 
@@ -138,11 +139,11 @@ ifShown n (Shown.Shows v) = cond (sameValue v (Whole (pos n))) n 0
 
 -- turn k of works 8 and 9: a key that no mark has
 abbrev pub keyScore : ℕ → ℕ → House → ℕ → ℕ
-keyScore work runs h k = oneIfYes (keyAsked h 0 (keyFrom work runs k) (keyTo work runs k) 999)
+keyScore work runs h k = oneIfYes (keyAsked h 0 Plant (keyFrom work runs k) (keyTo work runs k) 999)
 
 -- turn k of work 10: the value of the highest key at a position
 abbrev pub valueScore : ℕ → ℕ → House → ℕ → ℕ
-valueScore runs marks h k = ifShown marks (valueAsked h 0 (spot runs k + 5) marks)
+valueScore runs marks h k = ifShown marks (valueAsked h 0 Plant (spot runs k + 5) marks)
 
 -- ---- The sums, in 64 bits
 -- of turns 0 to n - 1
@@ -157,7 +158,7 @@ left edit (suc n) h = afterAt h 0 (edit n)
 -- edits: at the end the last house is asked for a key which no mark has, so that a compiler can't leave the edits undone
 abbrev pub editSum : ℕ → ℕ → ℕ → House → ℕ
 editSum work runs turns h =
-    (summed (editScore work runs h) turns + oneIfYes (keyAsked (left (editAt work runs) turns h) 0 0 5000 999)) % 2 ^ 64
+    (summed (editScore work runs h) turns + oneIfYes (keyAsked (left (editAt work runs) turns h) 0 Plant 0 5000 999)) % 2 ^ 64
 
 -- the sum of a work on a tank of so many runs and marks; there is no other work
 abbrev pub timed : ℕ → ℕ → ℕ → ℕ → ℕ

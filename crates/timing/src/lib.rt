@@ -8,6 +8,7 @@ ghost use Rattle.styles.specs.Order.{idOf};
 ghost use Rattle.tanks.specs.House.{tankAt};
 ghost use Rattle.tanks.specs.Pool.{meaning, Sound};
 ghost use Rattle.tanks.specs.Contracts.{editOf};
+ghost use Rattle.styles.specs.declared.Party.the-variants.{Plant};
 ghost use Rattle.ask.specs.Asks.{keyAsked};
 ghost use Rattle.timing.specs.Work as rules;
 ghost use Rattle.timing.specs.Contracts.{MeansHouse, Sized};
@@ -16,6 +17,7 @@ use questions::Told;
 use std::num::wrapping_add_u64;
 use styles::Identity;
 use styles::Mark;
+use styles::Party;
 use styles::Value;
 use styles::values::same_value;
 use tanks::Count;
@@ -40,7 +42,7 @@ fn marked(marks: u64) -> u64
     if marks < 1 {
         return 1;
     }
-    if 63 < marks { 63 } else { marks }
+    if 47 < marks { 47 } else { marks }
 }
 
 // Mark b of the tank.
@@ -51,6 +53,7 @@ fn mark(b: u64) -> Mark
     Mark {
         key: (b + 1) as u16,
         flags: 0x84,
+        party: Party::Plant,
         lamport: (b + 10) as u32,
         cnt: 0,
         peer: 1,
@@ -65,6 +68,7 @@ fn extra() -> Mark
     Mark {
         key: 777,
         flags: 0x84,
+        party: Party::Plant,
         lamport: 1,
         cnt: 0,
         peer: 1,
@@ -77,6 +81,7 @@ fn extra_id() -> Identity
     ensures { λ r. ⌜ r ≡ idOf rules.extra ⌝ }
 {
     Identity {
+        party: Party::Plant,
         key: 777,
         lamport: 1,
         peer: 1,
@@ -190,16 +195,16 @@ fn edit_at(work: u64, runs: u64, turn: u64) -> Edit
         return Edit::Annotate(1, runs * 10 - 11, extra());
     }
     if work == 2 {
-        return Edit::Insert(at + 5, 1);
+        return Edit::Insert(Party::Plant, at + 5, 1);
     }
     if work == 3 {
-        return Edit::Insert(at + 10, 2);
+        return Edit::Insert(Party::Plant, at + 10, 2);
     }
     if work == 4 {
-        return Edit::Delete(at + 4, at + 6);
+        return Edit::Delete(Party::Plant, at + 4, at + 6);
     }
     if work == 5 {
-        return Edit::Delete(at + 5, at + 15);
+        return Edit::Delete(Party::Plant, at + 5, at + 15);
     }
     if work == 6 {
         return Edit::Remove(extra_id(), middle(runs) + 9);
@@ -274,9 +279,9 @@ fn if_shown(n: u64, s: Shown) -> u64
 // A key that no mark has, in a range: 1 for yes.
 fn has_key(s: Tanks, start: u64, end: u64) -> u64
     requires { ⌜ Sound s ⌝ }
-    ensures { λ r. ⌜ r ≡ rules.oneIfYes (keyAsked (meaning s) 0 start end 999) ⌝ }
+    ensures { λ r. ⌜ r ≡ rules.oneIfYes (keyAsked (meaning s) 0 Plant start end 999) ⌝ }
 {
-    one_if_yes(ask::range_contains_key(s, 0, start, end, 999))
+    one_if_yes(ask::range_contains_key(s, 0, Party::Plant, start, end, 999))
 }
 
 // Where the range begins in which works 8 and 9 ask: three positions of a run, or the whole marked part.
@@ -344,7 +349,7 @@ fn values(s: Tanks, runs: u64, marks: u64, turns: u64) -> u64
     let mut sum = 0;
     let mut k = 0;
     while k < turns {
-        let v = ask::value_at(s, 0, spot(runs, k) + 5, marks as u16);
+        let v = ask::value_at(s, 0, Party::Plant, spot(runs, k) + 5, marks as u16);
         sum = wrapping_add_u64(sum, if_shown(marks, v));
         k += 1;
     }

@@ -18,7 +18,7 @@ returns c =
     let s = c .before .before in
     let a = s .args in (
       sym (ap numbered (le-leb 8 (a .tank) (c .if1 .taken))),
-      past (a .s) (a .tank) (a .out .now) (λ v. windows v (a .keys) (a .start) (a .k) (length (a .out .now))) (c .if1 .taken) refl,
+      past (a .s) (a .tank) (a .who) (a .out .now) (λ v. windows v (a .keys) (a .start) (a .k) (length (a .out .now))) (c .if1 .taken) refl,
     )
 
 returns-2 : tie.Need-returns-2
@@ -29,7 +29,7 @@ returns-2 c =
     let s = e .before .before in
     let a = s .args in (
       sym (ap numbered (lt-leb 8 (a .tank) (e .if1 .left))),
-      inside (a .s) (a .tank) (a .out .now) (λ v. windows v (a .keys) (a .start) (a .k) (length (a .out .now))) (e .if1 .left) (k .take .ensures) (w .first-shown .ensures),
+      inside (a .s) (a .tank) (a .who) (a .out .now) (λ v. windows v (a .keys) (a .start) (a .k) (length (a .out .now))) (e .if1 .left) (k .shown .ensures) (w .first-shown .ensures),
     )
 
 pub first-shown-spec : {M : Type 1} → statement M

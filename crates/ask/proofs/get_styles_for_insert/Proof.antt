@@ -9,14 +9,14 @@ use Rattle.ask.proofs.get_styles_for_insert.Tie as tie
 returns : tie.Need-returns
 returns c =
     let s = c .before .before in
-    past (s .args .s) (s .args .tank) (setOf 1 []) (stylesForInsert (s .args .pos)) (c .before .if1 .taken) (c .no-set .ensures)
+    past (s .args .s) (s .args .tank) (s .args .who) (setOf 1 []) (stylesForInsert (s .args .pos)) (c .before .if1 .taken) (c .no-set .ensures)
 
 returns-2 : tie.Need-returns-2
 returns-2 c =
     let k = c .before in
     let e = k .before in
     let s = e .before in
-    inside (s .args .s) (s .args .tank) (setOf 1 []) (stylesForInsert (s .args .pos)) (e .if1 .left) (k .take .ensures)
+    inside (s .args .s) (s .args .tank) (s .args .who) (setOf 1 []) (stylesForInsert (s .args .pos)) (e .if1 .left) (k .shown .ensures)
     (c .get-styles-for-insert .ensures)
 
 pub get-styles-for-insert-spec : {M : Type 1} → statement M

@@ -12,13 +12,13 @@ returns : tie.Need-returns
 returns c =
     let w = c .before .before .before in
     let s = w .before .before .before in
-    (asked-part (meaning (s .args .s)) (s .args .tank) (λ v. wholeNumber (length (s .args .out .now)) v) wholeList (s .args .out .now) _ _ (w .list-whole .ensures), refl)
+    (asked-part (meaning (s .args .s)) (s .args .tank) (s .args .who) (λ v. wholeNumber (length (s .args .out .now)) v) wholeList (s .args .out .now) _ _ (w .list-whole .ensures), refl)
 
 slice-aggregate-result : tie.Need-slice-aggregate-result
 slice-aggregate-result c =
     let w = c .before .before .before in
     let s = w .before .before .before in
-    asked-count (meaning (s .args .s)) (s .args .tank) (λ v. wholeNumber (length (s .args .out .now)) v) wholeList (s .args .out .now) _ _ (w .list-whole .ensures)
+    asked-count (meaning (s .args .s)) (s .args .tank) (s .args .who) (λ v. wholeNumber (length (s .args .out .now)) v) wholeList (s .args .out .now) _ _ (w .list-whole .ensures)
 
 pub iter-spec : {M : Type 1} → statement M
 iter-spec = tie.close (tie.spec (λ c κs. search needs) slice-aggregate-result returns)

@@ -42,12 +42,15 @@ use Rattle.tanks.specs.declared.Tanks.{Tanks}
 use Rattle.lists.specs.declared.Listed.{Listed}
 use Rattle.lists.specs.declared.anchors.Anchor.{Anchor}
 use Rattle.tank.specs.State as state
-use Rattle.tanks.specs.Contracts.{Taken}
+use Rattle.ask.specs.declared.Spot.{Spot}
+use Rattle.ask.specs.Asks.{ShownIn}
 use Rattle.tanks.specs.House.{askNumber}
 use Rattle.tanks.specs.Pool.{Sound}
 use Rattle.ask.proofs.AskLaws.{Said-listed, Says-asked, anchors-asked}
 use Rattle.tanks.proofs.Tanks as S
 use Rattle.tanks.proofs.Tanks.Laws as S′
+use Rattle.ask.proofs.Spot as K
+use Rattle.ask.proofs.Spot.Laws as K′
 use Rattle.tank.proofs.Tank as X
 use Rattle.tank.proofs.Tank.Laws as X′
 use Rattle.lists.proofs.Listed as R
@@ -71,7 +74,7 @@ use Rattle.ask.proofs.iter_anchors.Statement as stated
 use Rattle.ask.proofs.iter_anchors.Code as code
 
 abbrev stayed : Stays (iter-anchors.ended .signature .params) (iter-anchors.ended .kept)
-stayed = (stay-none (λ _. S.the-row) is-kept, (stay-none (λ _. u64) is-kept, (gave-slice (0 ∷ []) tt (plain (λ _. T.the-row)), tt)))
+stayed = (stay-none (λ _. S.the-row) is-kept, (stay-none (λ _. K.the-row) is-kept, (gave-slice (0 ∷ []) tt (plain (λ _. T.the-row)), tt)))
 
 module _ {M : Type 1} (𝓤 : URA M) (H : Heap 𝓤) (A : Atoms 𝓤) (mem : Memory → SProp 𝓤) (run : Routine → Fun 𝓤) where
   -- the contracts that the proof cites
@@ -85,19 +88,19 @@ module _ {M : Type 1} (𝓤 : URA M) (H : Heap 𝓤) (A : Atoms 𝓤) (mem : Mem
   List-of = tripleOf 𝓤 H A list.signature (list.spec 𝓤 H A mem run)
 
   -- of the covered callees' `ensured`, the clause alone
-  found-of : (h : Tanks) (k : ℕ) (r : Tank) → ent 𝓤 (ensured 𝓤 H A found.ended (found.clauses 𝓤 H A mem run) tt (h, (k, tt)) tt r) (fact 𝓤 (Taken h k r))
-  found-of h k r = exE 𝓤 _ (λ ws. snd∗ 𝓤 (sem 𝓤 H A (lasts found.ended tt (h, (k, tt)) ws)) (fact 𝓤 (Taken h k r)))
+  found-of : (h : Tanks) (k : Spot) (r : Tank) → ent 𝓤 (ensured 𝓤 H A found.ended (found.clauses 𝓤 H A mem run) tt (h, (k, tt)) tt r) (fact 𝓤 (ShownIn h (k .tank) (k .who) r))
+  found-of h k r = exE 𝓤 _ (λ ws. snd∗ 𝓤 (sem 𝓤 H A (lasts found.ended tt (h, (k, tt)) ws)) (fact 𝓤 (ShownIn h (k .tank) (k .who) r)))
 
-  missing-of : (k r : ℕ) → ent 𝓤 (ensured 𝓤 H A missing.ended (missing.clauses 𝓤 H A mem run) tt (k, tt) tt r) (fact 𝓤 (r ≡ askNumber k))
-  missing-of k r = exE 𝓤 _ (λ ws. snd∗ 𝓤 (sem 𝓤 H A (lasts missing.ended tt (k, tt) ws)) (fact 𝓤 (r ≡ askNumber k)))
+  missing-of : (k : Spot) (r : ℕ) → ent 𝓤 (ensured 𝓤 H A missing.ended (missing.clauses 𝓤 H A mem run) tt (k, tt) tt r) (fact 𝓤 (r ≡ askNumber (k .tank)))
+  missing-of k r = exE 𝓤 _ (λ ws. snd∗ 𝓤 (sem 𝓤 H A (lasts missing.ended tt (k, tt) ws)) (fact 𝓤 (r ≡ askNumber (k .tank))))
 
-module _ {M : Type 1} (𝓤 : URA M) (H : Heap 𝓤) (A : Atoms 𝓤) (W : Given 𝓤 H A) (mem : Memory → SProp 𝓤) (run : Routine → Fun 𝓤) (κ : Lft) (q : Share) (b o : ℕ) (γ : GName) (ys : List Anchor) (h : Tanks) (k : ℕ)
-    (room : Room T.the-row (length ys)) (is-h : Is S.the-row h (LL.val S.the-type S′.the-laws h ∷ [])) (is-k : Is u64 k (uint-vals w64 k)) (sound : Sound h) where
+module _ {M : Type 1} (𝓤 : URA M) (H : Heap 𝓤) (A : Atoms 𝓤) (W : Given 𝓤 H A) (mem : Memory → SProp 𝓤) (run : Routine → Fun 𝓤) (κ : Lft) (q : Share) (b o : ℕ) (γ : GName) (ys : List Anchor) (h : Tanks) (k : Spot)
+    (room : Room T.the-row (length ys)) (is-h : Is S.the-row h (LL.val S.the-type S′.the-laws h ∷ [])) (is-k : Is K.the-row k (LL.val K.the-type K′.the-laws k ∷ [])) (sound : Sound h) where
   abbrev slice : RefT (List Anchor)
   slice = record { ptr = (b, o); name = γ; now = ys }
 
   abbrev Arg : Type 0
-  Arg = Tanks × (ℕ × (RefT (List Anchor) × Unit {0}))
+  Arg = Tanks × (Spot × (RefT (List Anchor) × Unit {0}))
 
   abbrev x : Arg
   x = (h, (k, (slice, tt)))
@@ -106,11 +109,14 @@ module _ {M : Type 1} (𝓤 : URA M) (H : Heap 𝓤) (A : Atoms 𝓤) (W : Given
   abbrev hv : Val
   hv = LL.val S.the-type S′.the-laws h
 
+  abbrev kv : Val
+  kv = LL.val K.the-type K′.the-laws k
+
   abbrev sv : Val
   sv = sliceVal (b, o) (length ys)
 
   abbrev at : List Val × (List Val × (List Val × Unit {0}))
-  at = (hv ∷ [], (vint w64 k ∷ [], (sv ∷ [], tt)))
+  at = (hv ∷ [], (kv ∷ [], (sv ∷ [], tt)))
 
   abbrev Post : Val → SProp 𝓤
   Post = walkOf 𝓤 H A iter-anchors.ended stayed (iter-anchors.clauses 𝓤 H A mem run) .post (((κ, tt), (q, tt), tt, x, at), tt)
@@ -120,22 +126,22 @@ module _ {M : Type 1} (𝓤 : URA M) (H : Heap 𝓤) (A : Atoms 𝓤) (W : Given
   exits r w zs long e =
       qed W ((‵ (flft κ q) ⊛ ‵ ftrue) ∷ ‵ (finally T.the-row γ zs) ∷ ‵ (R.the-row .own r (w ∷ [])) ∷ []) ∵
       suffices ! _ (ends-at 𝓤 H A iter-anchors.ended stayed (iter-anchors.clauses 𝓤 H A mem run) W (((κ, tt), (q, tt), tt, x, at), tt) w r (tt, (tt, (zs, tt))) (tt, (tt, (long, tt)))) $
-      says ! e $ frame ! $ nothing ! $ move ! (1 ∷ 0 ∷ []) $ fjoin ! $ owned ! u64 (Is u64) (uint-makes 𝓤 H A W w64) k _ is-k $ fjoin ! $
+      says ! e $ frame ! $ nothing ! $ move ! (1 ∷ 0 ∷ []) $ fjoin ! $ owned ! K.the-row (Is K.the-row) (LL.makes K.the-type K′.the-plain 𝓤 H A) k _ is-k $ fjoin ! $
       owned ! S.the-row (Is S.the-row) (LL.makes S.the-type S′.the-plain 𝓤 H A) h _ is-h $ fjoin ! $ frame ! $ done !
 
   -- what each callee's triple binds outside, and what it asks
   abbrev to-found : Found 𝓤 H A mem run .Ghost
-  to-found = ((tt, tt, tt, (h, (k, tt)), (hv ∷ [], (vint w64 k ∷ [], tt))), tt)
+  to-found = ((tt, tt, tt, (h, (k, tt)), (hv ∷ [], (kv ∷ [], tt))), tt)
 
   goes-found : ent 𝓤 (sem 𝓤 H A ftrue) (Found 𝓤 H A mem run .pre to-found)
-  goes-found = qed W (‵ ftrue ∷ []) ∵ says ! sound $ frame ! $ nothing ! $ owned ! u64 (Is u64) (uint-makes 𝓤 H A W w64) k _ is-k $ fjoin ! $
+  goes-found = qed W (‵ ftrue ∷ []) ∵ says ! sound $ frame ! $ nothing ! $ owned ! K.the-row (Is K.the-row) (LL.makes K.the-type K′.the-plain 𝓤 H A) k _ is-k $ fjoin ! $
       owned ! S.the-row (Is S.the-row) (LL.makes S.the-type S′.the-plain 𝓤 H A) h _ is-h $ fjoin ! $ done !
 
   abbrev to-missing : Missing 𝓤 H A mem run .Ghost
-  to-missing = ((tt, tt, tt, (k, tt), (vint w64 k ∷ [], tt)), tt)
+  to-missing = ((tt, tt, tt, (k, tt), (kv ∷ [], tt)), tt)
 
   goes-missing : ent 𝓤 (sem 𝓤 H A ftrue) (Missing 𝓤 H A mem run .pre to-missing)
-  goes-missing = qed W (‵ ftrue ∷ []) ∵ nothing ! $ owned ! u64 (Is u64) (uint-makes 𝓤 H A W w64) k _ is-k $ fjoin ! $ move ! (1 ∷ 0 ∷ []) $ join ! $ frame ! $ done !
+  goes-missing = qed W (‵ ftrue ∷ []) ∵ nothing ! $ owned ! K.the-row (Is K.the-row) (LL.makes K.the-type K′.the-plain 𝓤 H A) k _ is-k $ fjoin ! $ move ! (1 ∷ 0 ∷ []) $ join ! $ frame ! $ done !
 
   module _ (d : Tank) (dv : Val) (n : ℕ) (is-d : Is X.the-row d (dv ∷ [])) (is-n : Is u64 n (uint-vals w64 n)) (sound-d : state.Sound d) where
     abbrev to-list : List-of 𝓤 H A mem run .Ghost
@@ -147,23 +153,23 @@ module _ {M : Type 1} (𝓤 : URA M) (H : Heap 𝓤) (A : Atoms 𝓤) (W : Given
         owned ! u64 (Is u64) (uint-makes 𝓤 H A W w64) n _ is-n $ fjoin ! $ owned ! X.the-row (Is X.the-row) (LL.makes X.the-type X′.the-plain 𝓤 H A) d _ is-d $ fjoin ! $ done !
 
   module _ (C : Calls 𝓤 H) (Λ : Loops 𝓤 H) (fm : FmC 𝓤 H (W .laws) C) (known-found : Triple 𝓤 (C #found) (Found 𝓤 H A mem run)) (known-missing : Triple 𝓤 (C #missing) (Missing 𝓤 H A mem run)) (known-list : Triple 𝓤 (C #list) (List-of 𝓤 H A mem run)) where
-    walk : ent 𝓤 (onEntry 𝓤 H A iter-anchors.signature (κ, tt) (q, tt) x at) (WpFn 𝓤 H C Λ code.function (hv ∷ vint w64 k ∷ sv ∷ []) Post)
+    walk : ent 𝓤 (onEntry 𝓤 H A iter-anchors.signature (κ, tt) (q, tt) x at) (WpFn 𝓤 H C Λ code.function (hv ∷ kv ∷ sv ∷ []) Post)
     walk =
-        qed W ((‵ (flft κ q) ⊛ ‵ ftrue) ∷ ‵ (owns (S.the-row ∷ u64 ∷ MutSlice (named 0) κ T.the-row ∷ []) x at) ∷ []) ∵ enter ! C Λ code.function (hv ∷ vint w64 k ∷ sv ∷ []) _ $
+        qed W ((‵ (flft κ q) ⊛ ‵ ftrue) ∷ ‵ (owns (S.the-row ∷ K.the-row ∷ MutSlice (named 0) κ T.the-row ∷ []) x at) ∷ []) ∵ enter ! C Λ code.function (hv ∷ kv ∷ sv ∷ []) _ $
         alloc1 ! (λ l₀. alloc1 ! (λ l₁. alloc1 ! (λ l₂. alloc1 ! (λ l₃. alloc1 ! (λ l₄. alloc1 ! (λ l₅. alloc1 ! (λ l₆. alloc1 ! (λ l₇. alloc0 ! $ params1 ! $
-        pass1 ! (init ! 12 refl (LL.lawful S.the-type S′.the-laws 𝓤 H A W .typed h _ is-h .0)) $ pass1 ! (init ! 10 refl (uint-lawful 𝓤 H A W w64 .typed k _ is-k .0)) $ pass1 ! (init ! 8 refl (tt, (tt, (record { fits = room .0 }, tt)))) $ pass0 ! $
+        pass1 ! (init ! 12 refl (LL.lawful S.the-type S′.the-laws 𝓤 H A W .typed h _ is-h .0)) $ pass1 ! (init ! 10 refl (LL.lawful K.the-type K′.the-laws 𝓤 H A W .typed k _ is-k .0)) $ pass1 ! (init ! 8 refl (tt, (tt, (record { fits = room .0 }, tt)))) $ pass0 ! $
         -- [_7; …; _6; …; … _0; …; the token; what the parameters own]
         nothing ! $ use1 W (raw (Found 𝓤 H A mem run .pre to-found)) goes-found $
         calls-at ! fm (Found 𝓤 H A mem run) known-found to-found (and-then ! (load ! (from ! (stop !)) (look ! 13 refl)) (and-then ! (load ! (from ! (stop !)) (look ! 11 refl)) (no-more !))) (λ dv.
         use1 W (later (some (λ (d : Tank). (‵ ftrue ⊛ ‵ (X.the-row .own d (dv ∷ []))) ⊛ raw (ensured 𝓤 H A found.ended (found.clauses 𝓤 H A mem run) tt (h, (k, tt)) tt d)))) (id⊢ 𝓤 _) $ await ! tt $ pick ! (λ d.
-        split ! $ move ! (1 ∷ []) $ use1 W (raw (fact 𝓤 (Taken h k d))) (found-of 𝓤 H A mem run h k d) $ heard ! (Taken h k d) (λ e.
+        split ! $ move ! (1 ∷ []) $ use1 W (raw (fact 𝓤 (ShownIn h (k .tank) (k .who) d))) (found-of 𝓤 H A mem run h k d) $ heard ! (ShownIn h (k .tank) (k .who) d) (λ e.
         split ! $ drop ! $ peeks ! X.the-row (Is X.the-row) (shows 𝓤 H A X.the-row) d (dv ∷ []) (λ is-d. drop ! $
         land ! (from ! (stop !)) (init ! 6 refl (LL.lawful X.the-type X′.the-laws 𝓤 H A W .typed d _ is-d .0)) $
         -- the number
         nothing ! $ use1 W (raw (Missing 𝓤 H A mem run .pre to-missing)) goes-missing $
         calls-at ! fm (Missing 𝓤 H A mem run) known-missing to-missing (and-then ! (load ! (from ! (stop !)) (look ! 11 refl)) (no-more !)) (λ nv.
         use1 W (later (some (λ (n : ℕ). (‵ ftrue ⊛ ‵ (u64 .own n (nv ∷ []))) ⊛ raw (ensured 𝓤 H A missing.ended (missing.clauses 𝓤 H A mem run) tt (k, tt) tt n)))) (id⊢ 𝓤 _) $ await ! tt $ pick ! (λ n.
-        split ! $ move ! (1 ∷ []) $ use1 W (raw (fact 𝓤 (n ≡ askNumber k))) (missing-of 𝓤 H A mem run k n) $ heard ! (n ≡ askNumber k) (λ f.
+        split ! $ move ! (1 ∷ []) $ use1 W (raw (fact 𝓤 (n ≡ askNumber (k .tank)))) (missing-of 𝓤 H A mem run k n) $ heard ! (n ≡ askNumber (k .tank)) (λ f.
         split ! $ drop ! $ peeks ! u64 (Is u64) (shows 𝓤 H A u64) n (nv ∷ []) (λ is. drop ! $
         land ! (from ! (stop !)) (init ! 4 refl (uint-lawful 𝓤 H A W w64 .typed n _ is .0)) $
         rewrite ! 4 (λ (v : Val). ‵ (fat fullShare (tyInt w64) l₅ 0 v)) (ap only (uint-tells w64 n _ is)) refl $
@@ -188,7 +194,7 @@ module _ {M : Type 1} (𝓤 : URA M) (H : Heap 𝓤) (A : Atoms 𝓤) (W : Given
     (known-found : Triple 𝓤 (𝓣 .C #found) (Found 𝓤 H A mem run)) (known-missing : Triple 𝓤 (𝓣 .C #missing) (Missing 𝓤 H A mem run)) (known-list : Triple 𝓤 (𝓣 .C #list) (List-of 𝓤 H A mem run)) where
   iter-anchors-walks : Walks 𝓤 H A iter-anchors.ended stayed (WpFn 𝓤 H (𝓣 .C) (𝓣 .Λ) code.function) (iter-anchors.clauses 𝓤 H A mem run)
   iter-anchors-walks = walked 𝓤 H A iter-anchors.ended stayed (iter-anchors.clauses 𝓤 H A mem run) (WpFn 𝓤 H (𝓣 .C) (𝓣 .Λ) code.function)
-      (λ κs. (LL.vals S.the-type S′.the-laws, (uint-vals w64, (slice-vals, tt)))) (λ κs. (LL.tells S.the-type S′.the-laws, (uint-tells w64, (mut-slice-tells (named 0) (κs .0) T.the-row, tt))))
+      (λ κs. (LL.vals S.the-type S′.the-laws, (LL.vals K.the-type K′.the-laws, (slice-vals, tt)))) (λ κs. (LL.tells S.the-type S′.the-laws, (LL.tells K.the-type K′.the-laws, (mut-slice-tells (named 0) (κs .0) T.the-row, tt))))
       (λ κs qs bounds a g are. needs 𝓤 (Sound (a .0)) _ (λ sound.
       walk 𝓤 H A W mem run (κs .0) (qs .0) (a .1 .1 .0 .ptr .0) (a .1 .1 .0 .ptr .1) (a .1 .1 .0 .name) (a .1 .1 .0 .now) (a .0) (a .1 .0) (are .1 .1 .0 .0 .1) (are .0) (are .1 .0) sound
       (𝓣 .C) (𝓣 .Λ) (fmOf 𝓤 H (W .laws) 𝓣) known-found known-missing known-list))
@@ -196,7 +202,7 @@ module _ {M : Type 1} (𝓤 : URA M) (H : Heap 𝓤) (A : Atoms 𝓤) (W : Given
   iter-anchors-meets : Meets 𝓤 H A iter-anchors.signature (WpFn 𝓤 H (𝓣 .C) (𝓣 .Λ) code.function) (iter-anchors.spec 𝓤 H A mem run)
   iter-anchors-meets =
       walk-meets 𝓤 H A iter-anchors.ended stayed W
-      (goes-none 𝓤 H A W 1 (λ _. S.the-row) is-kept (λ κs x f. refl), (goes-none 𝓤 H A W 1 (λ _. u64) is-kept (λ κs x f. refl), (goes-gave-slice 𝓤 H A W 1 0 tt (plain (λ _. T.the-row)), tt)))
+      (goes-none 𝓤 H A W 1 (λ _. S.the-row) is-kept (λ κs x f. refl), (goes-none 𝓤 H A W 1 (λ _. K.the-row) is-kept (λ κs x f. refl), (goes-gave-slice 𝓤 H A W 1 0 tt (plain (λ _. T.the-row)), tt)))
       (iter-anchors.clauses 𝓤 H A mem run) (WpFn 𝓤 H (𝓣 .C) (𝓣 .Λ) code.function) (WpFn-mono 𝓤 H (W .laws) 𝓣 code.function) iter-anchors-walks
 
 pub iter-anchors-spec : {M : Type 1} → stated.statement M

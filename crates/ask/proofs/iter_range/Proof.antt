@@ -12,13 +12,13 @@ returns : tie.Need-returns
 returns c =
     let w = c .before .before .before in
     let s = w .before .before .before in
-    (asked-part (meaning (s .args .s)) (s .args .tank) (λ v. rangeNumber (s .args .start) (s .args .end) (length (s .args .out .now)) v) (rangeList (s .args .start) (s .args .end)) (s .args .out .now) _ _ (w .list-range .ensures), refl)
+    (asked-part (meaning (s .args .s)) (s .args .tank) (s .args .who) (λ v. rangeNumber (s .args .start) (s .args .end) (length (s .args .out .now)) v) (rangeList (s .args .start) (s .args .end)) (s .args .out .now) _ _ (w .list-range .ensures), refl)
 
 slice-aggregate-result : tie.Need-slice-aggregate-result
 slice-aggregate-result c =
     let w = c .before .before .before in
     let s = w .before .before .before in
-    asked-count (meaning (s .args .s)) (s .args .tank) (λ v. rangeNumber (s .args .start) (s .args .end) (length (s .args .out .now)) v) (rangeList (s .args .start) (s .args .end)) (s .args .out .now) _ _ (w .list-range .ensures)
+    asked-count (meaning (s .args .s)) (s .args .tank) (s .args .who) (λ v. rangeNumber (s .args .start) (s .args .end) (length (s .args .out .now)) v) (rangeList (s .args .start) (s .args .end)) (s .args .out .now) _ _ (w .list-range .ensures)
 
 pub iter-range-spec : {M : Type 1} → statement M
 iter-range-spec = tie.close (tie.spec (λ c κs. search needs) slice-aggregate-result returns)

@@ -10,7 +10,7 @@ use Rattle.ask.proofs.list_whole.Tie as tie
 returns : tie.Need-returns
 returns c =
     let s = c .before .before .before in
-    list-past (s .args .s) (s .args .tank) (wholeNumber (length (s .args .out .now))) wholeList (s .args .out .now) (c .before .if1 .taken) (c .no-list .ensures) refl
+    list-past (s .args .s) (s .args .tank) (s .args .who) (wholeNumber (length (s .args .out .now))) wholeList (s .args .out .now) (c .before .if1 .taken) (c .no-list .ensures) refl
 
 returns-2 : tie.Need-returns-2
 returns-2 c =
@@ -18,7 +18,7 @@ returns-2 c =
     let k = w .before .before in
     let e = k .before in
     let s = e .before .before in
-    list-inside (s .args .s) (s .args .tank) (wholeNumber (length (s .args .out .now))) wholeList (s .args .out .now) (e .if1 .left) (k .take .ensures) (w .list-whole .ensures)
+    list-inside (s .args .s) (s .args .tank) (s .args .who) (wholeNumber (length (s .args .out .now))) wholeList (s .args .out .now) (e .if1 .left) (k .shown .ensures) (w .list-whole .ensures)
 
 pub list-whole-spec : {M : Type 1} → statement M
 list-whole-spec =

@@ -10,14 +10,14 @@ use Rattle.ask.proofs.range_contains_key.Tie as tie
 returns : tie.Need-returns
 returns c =
     let s = c .before in
-    past (s .args .s) (s .args .tank) (Told.Refused 1) (rangeContainsKey (s .args .start) (s .args .end) (s .args .key)) (c .if1 .taken) refl
+    past (s .args .s) (s .args .tank) (s .args .who) (Told.Refused 1) (rangeContainsKey (s .args .start) (s .args .end) (s .args .key)) (c .if1 .taken) refl
 
 returns-2 : tie.Need-returns-2
 returns-2 c =
     let k = c .before in
     let e = k .before in
     let s = e .before in
-    inside (s .args .s) (s .args .tank) (Told.Refused 1) (rangeContainsKey (s .args .start) (s .args .end) (s .args .key)) (e .if1 .left) (k .take .ensures)
+    inside (s .args .s) (s .args .tank) (s .args .who) (Told.Refused 1) (rangeContainsKey (s .args .start) (s .args .end) (s .args .key)) (e .if1 .left) (k .shown .ensures)
     (c .range-contains-key .ensures)
 
 pub range-contains-key-spec : {M : Type 1} → statement M

@@ -10,14 +10,14 @@ use Rattle.ask.proofs.range_has_key_value.Tie as tie
 returns : tie.Need-returns
 returns c =
     let s = c .before in
-    past (s .args .s) (s .args .tank) (Told.Refused 1) (rangeHasKeyValue (s .args .start) (s .args .end) (s .args .key) (s .args .value)) (c .if1 .taken) refl
+    past (s .args .s) (s .args .tank) (s .args .who) (Told.Refused 1) (rangeHasKeyValue (s .args .start) (s .args .end) (s .args .key) (s .args .value)) (c .if1 .taken) refl
 
 returns-2 : tie.Need-returns-2
 returns-2 c =
     let k = c .before in
     let e = k .before in
     let s = e .before in
-    inside (s .args .s) (s .args .tank) (Told.Refused 1) (rangeHasKeyValue (s .args .start) (s .args .end) (s .args .key) (s .args .value)) (e .if1 .left) (k .take .ensures)
+    inside (s .args .s) (s .args .tank) (s .args .who) (Told.Refused 1) (rangeHasKeyValue (s .args .start) (s .args .end) (s .args .key) (s .args .value)) (e .if1 .left) (k .shown .ensures)
     (c .range-has-key-value .ensures)
 
 pub range-has-key-value-spec : {M : Type 1} → statement M

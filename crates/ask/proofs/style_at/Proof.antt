@@ -10,14 +10,14 @@ use Rattle.ask.proofs.style_at.Tie as tie
 returns : tie.Need-returns
 returns c =
     let s = c .before in
-    past (s .args .s) (s .args .tank) (Asked.Refused 1) (styleAt (s .args .pos) (s .args .rank)) (c .if1 .taken) refl
+    past (s .args .s) (s .args .tank) (s .args .who) (Asked.Refused 1) (styleAt (s .args .pos) (s .args .rank)) (c .if1 .taken) refl
 
 returns-2 : tie.Need-returns-2
 returns-2 c =
     let k = c .before in
     let e = k .before in
     let s = e .before in
-    inside (s .args .s) (s .args .tank) (Asked.Refused 1) (styleAt (s .args .pos) (s .args .rank)) (e .if1 .left) (k .take .ensures)
+    inside (s .args .s) (s .args .tank) (s .args .who) (Asked.Refused 1) (styleAt (s .args .pos) (s .args .rank)) (e .if1 .left) (k .shown .ensures)
     (c .style-at .ensures)
 
 pub style-at-spec : {M : Type 1} → statement M

@@ -10,7 +10,7 @@ use Rattle.ask.proofs.whole_needed.Tie as tie
 returns : tie.Need-returns
 returns c =
     let s = c .before .before in
-    past (s .args .s) (s .args .tank) noList wholeNeeded (c .before .if1 .taken) (c .no-list .ensures)
+    past (s .args .s) (s .args .tank) (s .args .who) noList wholeNeeded (c .before .if1 .taken) (c .no-list .ensures)
 
 returns-2 : tie.Need-returns-2
 returns-2 c =
@@ -18,7 +18,7 @@ returns-2 c =
     let k = w .before in
     let e = k .before in
     let s = e .before in
-    inside (s .args .s) (s .args .tank) noList wholeNeeded (e .if1 .left) (k .take .ensures)
+    inside (s .args .s) (s .args .tank) (s .args .who) noList wholeNeeded (e .if1 .left) (k .shown .ensures)
     (listed-eq _ _ _ (c .counted .ensures .0) (c .counted .ensures .1 ∙ w .whole-needed .ensures))
 
 pub whole-needed-spec : {M : Type 1} → statement M

@@ -1,47 +1,52 @@
 -- By the op.
 use borrow.Author.Needs.{needs}
 use Rattle.clerk.proofs.Performing.{as-answer}
+use Rattle.clerk.specs.Calls.{answerSays}
 use Rattle.clerk.proofs.answer.Statement.{statement}
 use Rattle.clerk.proofs.answer.Tie as tie
 
 returns : tie.Need-returns
-returns c = as-answer _ _ (c .before .before .before .before .enum-told .given .1) (c .before .before .length .ensures)
+unfolding answerSays
+returns c = as-answer _ _ _ (c .before .before .before .before .enum-told .given .1) (c .before .before .length .ensures)
 
 returns-2 : tie.Need-returns-2
-returns-2 c = as-answer _ _ (c .before .before .before .before .enum-told2 .given .1) (c .before .before .touched .ensures)
+unfolding answerSays
+returns-2 c = as-answer _ _ _ (c .before .before .before .before .enum-told2 .given .1) (c .before .before .touched .ensures)
 
 returns-3 : tie.Need-returns-3
-returns-3 c = as-answer _ _ (c .before .before .before .before .enum-told3 .given .1) (c .before .before .runs .ensures)
+unfolding answerSays
+returns-3 c = as-answer _ _ _ (c .before .before .before .before .enum-told3 .given .1) (c .before .before .runs .ensures)
 
 returns-4 : tie.Need-returns-4
-returns-4 c = as-answer _ _ (c .before .before .before .before .enum-told4 .given .1) (c .before .before .value .ensures)
+returns-4 c = as-answer _ _ _ (c .before .before .before .before .enum-told4 .given .1) (c .before .before .value .ensures)
 
 returns-5 : tie.Need-returns-5
-returns-5 c = as-answer _ _ (c .before .before .before .before .enum-told5 .given .1) (c .before .before .has-key .ensures)
+returns-5 c = as-answer _ _ _ (c .before .before .before .before .enum-told5 .given .1) (c .before .before .has-key .ensures)
 
 returns-6 : tie.Need-returns-6
-returns-6 c = as-answer _ _ (c .before .before .before .before .enum-told6 .given .1) (c .before .before .all-value .ensures)
+returns-6 c = as-answer _ _ _ (c .before .before .before .before .enum-told6 .given .1) (c .before .before .all-value .ensures)
 
 returns-7 : tie.Need-returns-7
-returns-7 c = as-answer _ _ (c .before .before .before .before .enum-told7 .given .1) (c .before .before .same .ensures)
+returns-7 c = as-answer _ _ _ (c .before .before .before .before .enum-told7 .given .1) (c .before .before .same .ensures)
 
 returns-8 : tie.Need-returns-8
-returns-8 c = as-answer _ _ (c .before .before .before .before .enum-told8 .given .1) (c .before .before .marks .ensures)
+returns-8 c = as-answer _ _ _ (c .before .before .before .before .enum-told8 .given .1) (c .before .before .marks .ensures)
 
 returns-9 : tie.Need-returns-9
-returns-9 c = as-answer _ _ (c .before .before .before .before .enum-told9 .given .1) (c .before .before .inherit .ensures)
+returns-9 c = as-answer _ _ _ (c .before .before .before .before .enum-told9 .given .1) (c .before .before .inherit .ensures)
 
 returns-10 : tie.Need-returns-10
-returns-10 c = as-answer _ _ (c .before .before .before .before .enum-told10 .given .1) (c .before .before .mark .ensures)
+returns-10 c = as-answer _ _ _ (c .before .before .before .before .enum-told10 .given .1) (c .before .before .mark .ensures)
 
 returns-11 : tie.Need-returns-11
-returns-11 c = as-answer _ _ (c .before .before .before .before .enum-told11 .given .1) (c .before .before .inherited .ensures)
+returns-11 c = as-answer _ _ _ (c .before .before .before .before .enum-told11 .given .1) (c .before .before .inherited .ensures)
 
 returns-12 : tie.Need-returns-12
-returns-12 c = as-answer _ _ (c .before .before .before .before .enum-told12 .given .1) (c .before .before .find .ensures)
+returns-12 c = as-answer _ _ _ (c .before .before .before .before .enum-told12 .given .1) (c .before .before .find .ensures)
 
 returns-13 : tie.Need-returns-13
-returns-13 c = as-answer _ _ (c .before .before .before .before .enum-told13 .given .1) (c .before .before .propose .ensures)
+unfolding answerSays
+returns-13 c = as-answer _ _ _ (c .before .before .before .before .enum-told13 .given .1) (c .before .before .propose .ensures)
 
 pub answer-spec : {M : Type 1} → statement M
 answer-spec = tie.close (tie.spec (λ c. search needs) (λ c κs. search needs) (λ c. search needs) (λ c κs. search needs) (λ c. search needs) (λ c κs. search needs) (λ c. search needs) (λ c κs. search needs) (λ c. search needs) (λ c κs. search needs) (λ c. search needs) (λ c κs. search needs) (λ c. search needs) (λ c κs. search needs) (λ c. search needs) (λ c κs. search needs) (λ c. search needs) (λ c κs. search needs) (λ c. search needs) (λ c κs. search needs) (λ c. search needs) (λ c κs. search needs) (λ c. search needs) (λ c κs. search needs) (λ c. search needs) (λ c κs. search needs) (λ c. search needs) returns (λ c. search needs) returns-2 (λ c. search needs) returns-3 (λ c. search needs) returns-4 (λ c. search needs) returns-5 (λ c. search needs) returns-6 (λ c. search needs) returns-7 (λ c. search needs) returns-8 (λ c. search needs) returns-9 (λ c. search needs) returns-10 (λ c. search needs) returns-11 (λ c. search needs) returns-12 (λ c. search needs) returns-13)

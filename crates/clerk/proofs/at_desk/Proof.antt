@@ -20,5 +20,9 @@ returns-4 : tie.Need-returns-4
 unfolding deskSide deskSays
 returns-4 c = as-desk _ _ (c .before .before .before .before .enum-told4 .given .1) (c .before .before .legend .ensures)
 
+returns-5 : tie.Need-returns-5
+unfolding deskSide deskSays
+returns-5 c = as-desk _ _ (c .before .before .before .before .enum-told5 .given .1) (c .before .before .party .ensures)
+
 pub at-desk-spec : {M : Type 1} → statement M
-at-desk-spec = tie.close (tie.spec (λ c. search needs) (λ c κs. search needs) (λ c. search needs) (λ c κs. search needs) (λ c. search needs) (λ c κs. search needs) (λ c. search needs) (λ c κs. search needs) (λ c. search needs) returns (λ c. search needs) returns-2 (λ c. search needs) returns-3 (λ c. search needs) returns-4)
+at-desk-spec = tie.close (tie.spec (λ c. search needs) (λ c κs. search needs) (λ c. search needs) (λ c κs. search needs) (λ c. search needs) (λ c κs. search needs) (λ c. search needs) (λ c κs. search needs) (λ c. search needs) (λ c κs. search needs) (λ c. search needs) returns (λ c. search needs) returns-2 (λ c. search needs) returns-3 (λ c. search needs) returns-4 (λ c. search needs) returns-5)

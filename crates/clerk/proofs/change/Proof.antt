@@ -1,11 +1,11 @@
 -- By the op.
 use borrow.Author.Needs.{needs}
-use Rattle.clerk.proofs.Performing.{as-change}
+use Rattle.clerk.proofs.Performing.{as-change, any-opens}
 use Rattle.clerk.proofs.change.Statement.{statement}
 use Rattle.clerk.proofs.change.Tie as tie
 
 returns : tie.Need-returns
-returns c = as-change (c .before .before .before .before .enum-told .given .1) (c .before .before .opened .ensures)
+returns c = as-change (c .before .before .before .before .enum-told .given .1) (any-opens (c .before .before .opened .ensures))
 
 returns-2 : tie.Need-returns-2
 returns-2 c = as-change (c .before .before .before .before .enum-told2 .given .1) (c .before .before .annotated .ensures)

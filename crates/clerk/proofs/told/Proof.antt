@@ -8,31 +8,31 @@ use Rattle.clerk.proofs.told.Tie as tie
 
 returns : tie.Need-returns
 unfolding askingSays
-returns c = untold _ _ (c .enum-told .given .1) refl
+returns c = untold _ _ _ (c .enum-told .given .1) refl
 
 returns-2 : tie.Need-returns-2
 unfolding askingSays
-returns-2 c = untold _ _ (c .enum-told2 .given .1) refl
+returns-2 c = untold _ _ _ (c .enum-told2 .given .1) refl
 
 returns-3 : tie.Need-returns-3
 unfolding askingSays
-returns-3 c = as-told _ _ (c .before .before .before .before .before .op .given .1) (c .before .before .answer .ensures)
+returns-3 c = as-told _ _ _ (c .before .before .before .before .before .op .given .1) (c .before .before .answer .ensures)
 
 returns-4 : tie.Need-returns-4
 unfolding askingSays
-returns-4 c = as-told _ _ (c .before .before .before .before .before .op2 .given .1) (c .before .before .listed .ensures)
+returns-4 c = as-told _ _ _ (c .before .before .before .before .before .op2 .given .1) (c .before .before .listed .ensures)
 
 returns-5 : tie.Need-returns-5
 unfolding askingSays
-returns-5 c = untold _ _ (c .enum-told3 .given .1) refl
+returns-5 c = untold _ _ _ (c .enum-told3 .given .1) refl
 
 returns-6 : tie.Need-returns-6
 unfolding askingSays
-returns-6 c = untold _ _ (c .enum-told4 .given .1) refl
+returns-6 c = untold _ _ _ (c .enum-told4 .given .1) refl
 
 returns-7 : tie.Need-returns-7
 unfolding askingSays
-returns-7 c = untold _ _ (c .enum-told5 .given .1) refl
+returns-7 c = untold _ _ _ (c .enum-told5 .given .1) refl
 
 pub told-spec : {M : Type 1} → statement M
 told-spec =

@@ -12,32 +12,14 @@ enum-told c = search needs
 enum-told-2 : tie.Need-enum-told-2
 enum-told-2 c = search needs
 
-array-read-t7 : tie.Need-array-read-t7
-array-read-t7 c = search needs
-
-array-read-t10 : tie.Need-array-read-t10
-array-read-t10 c = search needs
-
 mark-of-requires : tie.Need-mark-of-requires
 mark-of-requires c κs = search needs
 
 enum-told-3 : tie.Need-enum-told-3
 enum-told-3 c = search needs
 
-array-read-t14 : tie.Need-array-read-t14
-array-read-t14 c = search needs
-
-array-read-t17 : tie.Need-array-read-t17
-array-read-t17 c = search needs
-
 enum-told-4 : tie.Need-enum-told-4
 enum-told-4 c = search needs
-
-array-read-t20 : tie.Need-array-read-t20
-array-read-t20 c = search needs
-
-array-read-t23 : tie.Need-array-read-t23
-array-read-t23 c = search needs
 
 enum-told-5 : tie.Need-enum-told-5
 enum-told-5 c = search needs
@@ -46,7 +28,7 @@ enum-told-6 : tie.Need-enum-told-6
 enum-told-6 c = search needs
 
 returns : tie.Need-returns
-returns c = search needs
+returns c = rw (c .enum-told .given .1)
 
 returns-2 : tie.Need-returns-2
 returns-2 c = rw (c .before .enum-told2 .given .1) (ap (annotating (numberAt (c .before .before .before .before .args .call) 1) (numberAt (c .before .before .before .before .args .call) 2)) (c .mark-of .ensures))
@@ -58,10 +40,10 @@ returns-4 : tie.Need-returns-4
 returns-4 c = rw (c .enum-told4 .given .1)
 
 returns-5 : tie.Need-returns-5
-returns-5 c = search needs
+returns-5 c = rw (c .enum-told5 .given .1)
 
 returns-6 : tie.Need-returns-6
-returns-6 c = search needs
+returns-6 c = rw (c .enum-told6 .given .1)
 
 pub change-in-spec : {M : Type 1} → statement M
 change-in-spec =
@@ -69,15 +51,15 @@ change-in-spec =
     (tie.spec
     enum-told
     enum-told-2
-    array-read-t7
-    array-read-t10
+    (λ c. search needs)
+    (λ c. search needs)
     mark-of-requires
     enum-told-3
-    array-read-t14
-    array-read-t17
+    (λ c. search needs)
+    (λ c. search needs)
     enum-told-4
-    array-read-t20
-    array-read-t23
+    (λ c. search needs)
+    (λ c. search needs)
     enum-told-5
     enum-told-6
     returns

@@ -9,7 +9,8 @@ use borrow.Author.Tests.{lt-leb}
 use lib.ListN.{length, replicate}
 use Rattle.runs.specs.Stretches.{inFront}
 use Rattle.windows.specs.Windows.{windows}
-use Rattle.tanks.specs.House.{tankAt}
+use Rattle.styles.specs.declared.Party.the-variants.{Plant}
+use Rattle.tanks.specs.House.{shownAt}
 use Rattle.tanks.specs.Pool.{meaning}
 use Rattle.strip.specs.Strip.{strip, stripNumber}
 use Rattle.strip.specs.Cells.{lettersOf}
@@ -46,7 +47,7 @@ returns-4 c =
     let f = g .before in
     let e = f .before in
     let a = e .before .before .args in
-    let v = tankAt (meaning (a .s)) (a .tank) in
+    let v = shownAt (meaning (a .s)) Plant (a .tank) in
     let n = number-0 (a .tank) (a .k) (length (a .out .now)) (e .if1 .left) (f .if2 .left) (g .if3 .left) in
     let blank : List ℕ = replicate 96 0 in
     let seen = q .first-shown .ensures .1 ∙ ap (λ (b : Bool). cond b blank (windows v (a .keys) (a .start) (a .k) 96)) (lt-leb 8 (a .tank) (e .if1 .left)) in (

@@ -56,24 +56,29 @@ returns-2 c =
     clash-room (s .args .mark) ms (s .pre .1) _ (at-is p) (sym (there-is p) ∙ o .before .if1 .taken)
     (ap (sameContent (s .args .mark)) (getD-take (s .args .n) (s .args .t1) _ blank (in-table (o .before))) ∙ sym (c .before .same-content .ensures) ∙ c .if2 .left)
 
+crowded-requires : tie.Need-crowded-requires
+crowded-requires c κs =
+    let p = c .before in
+    let s = p .before .before in
+    (s .pre .0, s .pre .1, sym (there-is p) ∙ c .if1 .left)
+
 returns-3 : tie.Need-returns-3
 returns-3 c =
-    let p = c .before .before in
+    let e = c .before .before in
+    let p = e .before in
     let s = p .before .before in
-    let l = s .good .0 .1 .0 .1 in
-    full-room (s .args .mark) (take (s .args .n) (s .args .t1)) (s .pre .1) _ (at-is p) (sym (there-is p) ∙ c .before .if1 .left)
-    (omega (arith, c .if3 .taken, length-take (s .args .n) (s .args .t1)))
+    full-room (s .args .mark) (take (s .args .n) (s .args .t1)) (s .pre .1) _ (at-is p) (sym (there-is p) ∙ e .if1 .left)
+    (sym (c .before .crowded .ensures) ∙ c .if3 .taken)
 
 returns-4 : tie.Need-returns-4
 returns-4 c =
-    let p = c .before .before in
+    let e = c .before .before in
+    let p = e .before in
     let s = p .before .before in
-    let l = s .good .0 .1 .0 .1 in
-    let a = s .pre .0 in
-    new-room (s .args .mark) (take (s .args .n) (s .args .t1)) (s .pre .1) _ (at-is p) (sym (there-is p) ∙ c .before .if1 .left)
-    (omega (arith, c .if3 .left, length-take (s .args .n) (s .args .t1)))
+    new-room (s .args .mark) (take (s .args .n) (s .args .t1)) (s .pre .1) _ (at-is p) (sym (there-is p) ∙ e .if1 .left)
+    (sym (c .before .crowded .ensures) ∙ c .if3 .left)
 
 pub room-for-spec : {M : Type 1} → statement M
 room-for-spec =
     tie.close
-    (tie.spec (λ c κs. search needs) (λ c κs. search needs) mul-old array-copy-out-old (λ c κs. search needs) returns returns-2 returns-3 returns-4)
+    (tie.spec (λ c κs. search needs) (λ c κs. search needs) mul-old array-copy-out-old (λ c κs. search needs) returns returns-2 crowded-requires returns-3 returns-4)

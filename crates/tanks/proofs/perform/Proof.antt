@@ -14,7 +14,7 @@ use Rattle.tanks.proofs.perform.Tie as tie
 
 -- an edit that answers its number alone
 as-plain : (e : Edit) (x : Tank) (n : ℕ) (y : Tank) (r : Performed) → Called e x n y
-    → setBeside (λ pos len. insertedSet pos len (view x)) e ≡ [] → firstBeside (λ id last. removedFirst id last (view x)) e ≡ 0
+    → setBeside (λ who pos len. insertedSet who pos len (view x)) e ≡ [] → firstBeside (λ id last. removedFirst id last (view x)) e ≡ 0
     → (r .number ≡ n) × (r .styles ≡ stylesOf []) × (r .first ≡ 0) × (r .tank ≡ y) → PerformedAs e x r
 as-plain e x n y r called none zero h = record { called = rw (h .0, h .3) called; styles-are = rw none (h .1); first-is = rw zero (h .2) }
 

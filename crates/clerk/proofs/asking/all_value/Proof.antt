@@ -15,7 +15,7 @@ returns : tie.Need-returns
 unfolding answerSays
 returns c =
     let a = c .before .before .before .before .before .before .before .before .args in
-    adds-as (ap toldSays (c .before .before .before .before .range-has-key-value .ensures ∙ ap (λ (k : ℕ). allValueAsked (meaning (a .s)) (numberAt (a .call) 0) (numberAt (a .call) 1) (numberAt (a .call) 2) k (a .call .value)) (c .before .before .before .before .before .key-of .ensures))) (c .before .before .put-told .ensures)
+    adds-as (ap toldSays (c .before .before .before .before .range-has-key-value .ensures ∙ ap (λ (k : ℕ). allValueAsked (meaning (a .s)) (numberAt (a .call) 0) (a .who) (numberAt (a .call) 1) (numberAt (a .call) 2) k (a .call .value)) (c .before .before .before .before .before .key-of .ensures))) (c .before .before .put-told .ensures)
 
 pub all-value-spec : {M : Type 1} → statement M
 all-value-spec = tie.close (tie.spec (λ c. search needs) (λ c. search needs) (λ c. search needs) (λ c. search needs) (λ c κs. search needs) (λ c κs. search needs) (λ c κs. search needs) (λ c. search needs) returns)

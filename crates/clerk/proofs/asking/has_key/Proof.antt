@@ -14,7 +14,7 @@ returns : tie.Need-returns
 unfolding answerSays
 returns c =
     let a = c .before .before .before .before .before .before .before .before .args in
-    adds-as (ap toldSays (c .before .before .before .before .range-contains-key .ensures ∙ ap (keyAsked (meaning (a .s)) (numberAt (a .call) 0) (numberAt (a .call) 1) (numberAt (a .call) 2)) (c .before .before .before .before .before .key-of .ensures))) (c .before .before .put-told .ensures)
+    adds-as (ap toldSays (c .before .before .before .before .range-contains-key .ensures ∙ ap (keyAsked (meaning (a .s)) (numberAt (a .call) 0) (a .who) (numberAt (a .call) 1) (numberAt (a .call) 2)) (c .before .before .before .before .before .key-of .ensures))) (c .before .before .put-told .ensures)
 
 pub has-key-spec : {M : Type 1} → statement M
 has-key-spec = tie.close (tie.spec (λ c. search needs) (λ c. search needs) (λ c. search needs) (λ c. search needs) (λ c κs. search needs) (λ c κs. search needs) (λ c κs. search needs) (λ c. search needs) returns)

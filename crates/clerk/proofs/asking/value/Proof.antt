@@ -14,7 +14,7 @@ returns : tie.Need-returns
 unfolding answerSays
 returns c =
     let a = c .before .before .before .before .before .before .before .before .args in
-    adds-as (ap shownSays (c .before .before .before .value-at .ensures ∙ ap (valueAsked (meaning (a .s)) (numberAt (a .call) 0) (numberAt (a .call) 1)) (c .before .before .before .before .key-of .ensures))) (c .before .before .put-shown .ensures)
+    adds-as (ap shownSays (c .before .before .before .value-at .ensures ∙ ap (valueAsked (meaning (a .s)) (numberAt (a .call) 0) (a .who) (numberAt (a .call) 1)) (c .before .before .before .before .key-of .ensures))) (c .before .before .put-shown .ensures)
 
 pub value-spec : {M : Type 1} → statement M
 value-spec = tie.close (tie.spec (λ c. search needs) (λ c. search needs) (λ c. search needs) (λ c κs. search needs) (λ c κs. search needs) (λ c κs. search needs) (λ c. search needs) returns)

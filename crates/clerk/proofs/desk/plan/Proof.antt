@@ -4,7 +4,7 @@ use Rattle.answers.proofs.Laws.{adds-as}
 use Rattle.answers.specs.Replies.{acceptedSays}
 use Rattle.clerk.specs.Desk.{Settled, withPending, bothHouse, bothSide, bothSays}
 use Rattle.night.specs.declared.Plan.{Plan}
-use Rattle.night.specs.Planning.{planNumber, houseAfterPlan}
+use Rattle.night.specs.Planning.{planNumberBy, houseAfterPlanBy}
 use Rattle.script.specs.Args.{numberAt}
 use Rattle.tanks.specs.Pool.{meaning}
 use borrow.Author.Needs.{needs}
@@ -26,10 +26,10 @@ returns c =
     record {
       sound = p .sound;
       settled = subst Settled (sym (c .with-pending .ensures)) (record { sets = st .pre .0 .1 .sets; log = st .pre .0 .1 .log });
-      is = p .is ∙ ap (λ (h : ℕ). houseAfterPlan (meaning (a .s)) (numberAt (a .call) 0) h (numberAt (a .call) 2) (a .side .pending)) key;
+      is = p .is ∙ ap (λ (h : ℕ). houseAfterPlanBy (meaning (a .s)) (numberAt (a .call) 0) (a .side .party) h (numberAt (a .call) 2) (a .side .pending)) key;
       keeps = c .with-pending .ensures ∙ ap (λ (q : Plan). withPending (a .side) q) (v .empty-plan .ensures);
       answer =
-          adds-as (ap acceptedSays (p .number-is ∙ ap (λ (h : ℕ). planNumber (meaning (a .s)) (numberAt (a .call) 0) h (numberAt (a .call) 2) (a .side .pending)) key))
+          adds-as (ap acceptedSays (p .number-is ∙ ap (λ (h : ℕ). planNumberBy (meaning (a .s)) (numberAt (a .call) 0) (a .side .party) h (numberAt (a .call) 2) (a .side .pending)) key))
           (k .accept .ensures);
     }
 

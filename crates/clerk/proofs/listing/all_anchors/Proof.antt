@@ -17,7 +17,7 @@ returns c =
     let a = s .args in
     let t = c .before .before .before .before .before .before .before .before .before .before .before in
     let known = s .pre .0 in
-    let same = c .before .before .before .before .before .before .before .before .before .before .first-anchor .ensures .1 ∙ ap anchors (t .take .ensures .is) in
+    let same = c .before .before .before .before .before .before .before .before .before .before .first-anchor .ensures .1 ∙ ap anchors (t .shown .ensures .is) in
     and-then
     (adds-as (ap (lineSays (bytes "anchors=")) (c .before .before .before .before .before .before .before .wide .ensures ∙ known .1)) (c .before .before .before .before .before .before .say .ensures))
     (adds-as (ap anchorsSay (ap (take (a .count)) same ∙ take-all (a .count) _ (omega (arith, known .1)))) (c .before .before .put-anchors .ensures))

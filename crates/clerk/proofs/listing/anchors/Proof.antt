@@ -13,21 +13,21 @@ use Rattle.clerk.proofs.listing.anchors.Tie as tie
 
 returns : tie.Need-returns
 unfolding listingSays
-returns c = let a = c .before .before .before .before .before .before .before .args in adds-as (anchors-1 (meaning (a .s)) (numberAt (a .call) 0) (numberAt (a .call) 1) (c .before .before .before .before .if1 .taken)) (c .before .before .refuse .ensures)
+returns c = let a = c .before .before .before .before .before .before .before .args in adds-as (anchors-1 (a .who) (meaning (a .s)) (numberAt (a .call) 0) (numberAt (a .call) 1) (c .before .before .before .before .if1 .taken)) (c .before .before .refuse .ensures)
 
 returns-2 : tie.Need-returns-2
 unfolding listingSays
-returns-2 c = let a = c .before .before .before .before .before .before .before .before .before .before .args in let w = c .before .before .before .before .before in adds-as (anchors-by (meaning (a .s)) (tankFor (a .call)) _ (c .before .before .before .before .before .before .before .if1 .left) (w .before .anchors-needed .ensures) (numberAt (a .call) 1) true (lt-ltb (numberAt (a .call) 1) (w .before .anchors-needed .result .count) (omega (arith, w .wide .ensures, c .before .before .before .before .if2 .taken)))) (c .before .before .refuse2 .ensures)
+returns-2 c = let a = c .before .before .before .before .before .before .before .before .before .before .args in let w = c .before .before .before .before .before in adds-as (anchors-by (a .who) (meaning (a .s)) (tankFor (a .call)) _ (c .before .before .before .before .before .before .before .if1 .left) (w .before .anchors-needed .ensures) (numberAt (a .call) 1) true (lt-ltb (numberAt (a .call) 1) (w .before .anchors-needed .result .count) (omega (arith, w .wide .ensures, c .before .before .before .before .if2 .taken)))) (c .before .before .refuse2 .ensures)
 
 returns-3 : tie.Need-returns-3
 unfolding listingSays
-returns-3 c = let a = c .before .before .before .before .before .before .before .before .before .before .args in let w = c .before .before .before .before .before in adds-as (anchors-by (meaning (a .s)) (tankFor (a .call)) _ (c .before .before .before .before .before .before .before .if1 .left) (w .before .anchors-needed .ensures) (numberAt (a .call) 1) false (le-ltb (numberAt (a .call) 1) (w .before .anchors-needed .result .count) (omega (arith, w .wide .ensures, c .before .before .before .before .if2 .left)))) (c .before .before .all-anchors .ensures)
+returns-3 c = let a = c .before .before .before .before .before .before .before .before .before .before .args in let w = c .before .before .before .before .before in adds-as (anchors-by (a .who) (meaning (a .s)) (tankFor (a .call)) _ (c .before .before .before .before .before .before .before .if1 .left) (w .before .anchors-needed .ensures) (numberAt (a .call) 1) false (le-ltb (numberAt (a .call) 1) (w .before .anchors-needed .result .count) (omega (arith, w .wide .ensures, c .before .before .before .before .if2 .left)))) (c .before .before .all-anchors .ensures)
 
 -- the count that was answered is that of the tank
 all-anchors-requires : tie.Need-all-anchors-requires
 all-anchors-requires c κs =
     let a = c .before .before .before .before .before .before .before .args in
-    ((search needs, counted (meaning (a .s)) (tankFor (a .call)) _ (c .before .before .before .before .if1 .left) (c .before .before .before .anchors-needed .ensures)), search needs)
+    ((search needs, counted (a .who) (meaning (a .s)) (tankFor (a .call)) _ (c .before .before .before .before .if1 .left) (c .before .before .before .anchors-needed .ensures)), search needs)
 
 pub anchors-spec : {M : Type 1} → statement M
 anchors-spec = tie.close (tie.spec (λ c. search needs) (λ c. search needs) (λ c κs. search needs) (λ c. search needs) returns (λ c κs. search needs) (λ c κs. search needs) (λ c κs. search needs) (λ c. search needs) returns-2 all-anchors-requires (λ c. search needs) returns-3)

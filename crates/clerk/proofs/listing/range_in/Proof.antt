@@ -16,7 +16,7 @@ put-list-requires c κs =
     let s = c .before .before .before .before .before .before .before .before .before in
     let a = s .args in
     let lent = rangeNumber (startIn (a .call)) (endIn (a .call)) (length (a .part .now)) in
-    (search needs, list-inside (meaning (a .s)) (tankFor (a .call)) lent lent (rangeList (startIn (a .call)) (endIn (a .call))) (λ k. refl) (a .part .now) _ _ (c .before .before .before .before .list-range .ensures))
+    (search needs, list-inside (meaning (a .s)) (tankFor (a .call)) (a .who) lent lent (rangeList (startIn (a .call)) (endIn (a .call))) (λ k. refl) (a .part .now) _ _ (c .before .before .before .before .list-range .ensures))
 
 returns : tie.Need-returns
 unfolding listingSays
@@ -26,7 +26,7 @@ returns c =
     let lent = rangeNumber (startIn (a .call)) (endIn (a .call)) (length (a .part .now)) in
     let named = rangeNumber (startIn (a .call)) (endIn (a .call)) (numberAt (a .call) 3) in
     adds-as
-    (list-said (meaning (a .s)) (tankFor (a .call)) lent named (rangeList (startIn (a .call)) (endIn (a .call))) (λ k. range-room (a .s) (s .pre .0) (tankFor (a .call)) (numberAt (a .call) 3) _ (s .pre .1 .0) k (startIn (a .call)) (endIn (a .call))) (a .part .now) _ _ (c .before .before .before .before .before .before .before .list-range .ensures))
+    (list-said (meaning (a .s)) (tankFor (a .call)) (a .who) lent named (rangeList (startIn (a .call)) (endIn (a .call))) (λ k. range-room (a .who) (a .s) (s .pre .0) (tankFor (a .call)) (numberAt (a .call) 3) _ (s .pre .1 .0) k (startIn (a .call)) (endIn (a .call))) (a .part .now) _ _ (c .before .before .before .before .before .before .before .list-range .ensures))
     (c .before .before .put-list .ensures)
 
 pub range-in-spec : {M : Type 1} → statement M

@@ -14,7 +14,7 @@ put-list-requires : tie.Need-put-list-requires
 put-list-requires c κs =
     let a = c .before .before .before .before .before .before .before .before .args in
     let lent = wholeNumber (length (a .part .now)) in
-    (search needs, list-inside (meaning (a .s)) (a .tank) lent lent wholeList (λ k. refl) (a .part .now) _ _ (c .before .before .before .before .list-whole .ensures))
+    (search needs, list-inside (meaning (a .s)) (a .tank) (a .who) lent lent wholeList (λ k. refl) (a .part .now) _ _ (c .before .before .before .before .list-whole .ensures))
 
 returns : tie.Need-returns
 unfolding wholeSays
@@ -22,7 +22,7 @@ returns c =
     let s = c .before .before .before .before .before .before .before .before .before .before .before in
     let a = s .args in
     adds-as
-    (list-said (meaning (a .s)) (a .tank) (wholeNumber (length (a .part .now))) (wholeNumber (a .room)) wholeList (λ k. whole-room (a .s) (s .pre .0) (a .tank) (a .room) _ (s .pre .1 .0) k) (a .part .now) _ _ (c .before .before .before .before .before .before .before .list-whole .ensures))
+    (list-said (meaning (a .s)) (a .tank) (a .who) (wholeNumber (length (a .part .now))) (wholeNumber (a .room)) wholeList (λ k. whole-room (a .who) (a .s) (s .pre .0) (a .tank) (a .room) _ (s .pre .1 .0) k) (a .part .now) _ _ (c .before .before .before .before .before .before .before .list-whole .ensures))
     (c .before .before .put-list .ensures)
 
 pub whole-in-spec : {M : Type 1} → statement M

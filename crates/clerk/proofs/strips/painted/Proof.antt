@@ -2,7 +2,8 @@
 use Rattle.answers.proofs.Laws.{adds-as}
 use Rattle.clerk.proofs.Painting.{strip-says}
 use Rattle.script.specs.Args.{numberAt}
-use Rattle.tanks.specs.House.{tankAt}
+use Rattle.styles.specs.declared.Party.the-variants.{Plant}
+use Rattle.tanks.specs.House.{shownAt}
 use Rattle.tanks.specs.Pool.{meaning}
 use borrow.Author.Needs.{needs}
 use lib.ListN.{replicate}
@@ -16,7 +17,7 @@ returns c =
     let s = p .before .before .before .before .before .before in
     let a = s .args in
     adds-as
-    (strip-says (numberAt (a .call) 0) (numberAt (a .call) 2) (numberAt (a .call) 3) (tankAt (meaning (a .s)) (numberAt (a .call) 0)) (a .legend .keys) (a .legend .letters) (numberAt (a .call) 1)
+    (strip-says (numberAt (a .call) 0) (numberAt (a .call) 2) (numberAt (a .call) 3) (shownAt (meaning (a .s)) Plant (numberAt (a .call) 0)) (a .legend .keys) (a .legend .letters) (numberAt (a .call) 1)
     (replicate 96 0) refl (s .pre .0 .1) (p .paint .ensures .0) (p .paint .ensures .1))
     (c .before .before .strip-or .ensures)
 

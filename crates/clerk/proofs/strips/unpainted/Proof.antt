@@ -1,7 +1,8 @@
 -- There is a refusal, and it is told.
 use Rattle.clerk.proofs.Painting.{short-says}
 use Rattle.script.specs.Args.{numberAt}
-use Rattle.tanks.specs.House.{tankAt}
+use Rattle.styles.specs.declared.Party.the-variants.{Plant}
+use Rattle.tanks.specs.House.{shownAt}
 use Rattle.tanks.specs.Pool.{meaning}
 use borrow.Author.Needs.{needs}
 use Rattle.clerk.proofs.strips.unpainted.Statement.{statement}
@@ -12,7 +13,7 @@ returns c =
     let p = c .before .before .before .before .before in
     let s = p .before .before .before .before .before .before in
     let a = s .args in
-    short-says (numberAt (a .call) 0) (numberAt (a .call) 2) (numberAt (a .call) 3) (tankAt (meaning (a .s)) (numberAt (a .call) 0)) (a .legend .keys) (a .legend .letters) (numberAt (a .call) 1)
+    short-says (numberAt (a .call) 0) (numberAt (a .call) 2) (numberAt (a .call) 3) (shownAt (meaning (a .s)) Plant (numberAt (a .call) 0)) (a .legend .keys) (a .legend .letters) (numberAt (a .call) 1)
     (s .pre .0 .1) (p .paint .ensures .0) (c .before .before .refuse .ensures)
 
 pub unpainted-spec : {M : Type 1} → statement M

@@ -29,5 +29,8 @@ returns-6 c = puts-as (sym (ap (λ (h : Holds). hintText h (c .before .before .b
 returns-7 : tie.Need-returns-7
 returns-7 c = puts-as (sym (ap (λ (h : Holds). hintText h (c .before .before .before .before .before .before .before .before .args .kind)) (c .before .before .before .before .before .enum-told6 .given .1))) (puts-more (omega arith) (puts-all (c .before .before .put5 .ensures)))
 
+returns-8 : tie.Need-returns-8
+returns-8 c = puts-as (sym (ap (λ (h : Holds). hintText h (c .before .before .before .before .before .before .before .before .args .kind)) (c .before .before .before .before .before .enum-told7 .given .1))) (puts-more (omega arith) (puts-all (c .before .before .put6 .ensures)))
+
 pub put-hint-spec : {M : Type 1} → statement M
-put-hint-spec = tie.close (tie.spec (λ c. search needs) (λ c. search needs) (λ c κs. search needs) (λ c. search needs) (λ c. search needs) (λ c κs. search needs) (λ c. search needs) (λ c κs. search needs) (λ c. search needs) (λ c. search needs) (λ c κs. search needs) (λ c. search needs) (λ c. search needs) (λ c κs. search needs) (λ c. search needs) (λ c κs. search needs) (λ c. search needs) (λ c. search needs) (λ c κs. search needs) (λ c. search needs) returns (λ c. search needs) returns-2 (λ c. search needs) returns-3 (λ c. search needs) returns-4 (λ c. search needs) returns-5 (λ c. search needs) returns-6 (λ c. search needs) returns-7)
+put-hint-spec = tie.close (tie.spec (λ c. search needs) (λ c. search needs) (λ c κs. search needs) (λ c. search needs) (λ c. search needs) (λ c κs. search needs) (λ c. search needs) (λ c κs. search needs) (λ c. search needs) (λ c. search needs) (λ c κs. search needs) (λ c. search needs) (λ c. search needs) (λ c κs. search needs) (λ c. search needs) (λ c κs. search needs) (λ c. search needs) (λ c. search needs) (λ c κs. search needs) (λ c. search needs) (λ c. search needs) (λ c κs. search needs) (λ c. search needs) returns (λ c. search needs) returns-2 (λ c. search needs) returns-3 (λ c. search needs) returns-4 (λ c. search needs) returns-5 (λ c. search needs) returns-6 (λ c. search needs) returns-7 (λ c. search needs) returns-8)

@@ -27,5 +27,8 @@ returns-6 c = sym (ap (λ (h : Holds). wrongText h (c .before .before .before .a
 returns-7 : tie.Need-returns-7
 returns-7 c = sym (ap (λ (h : Holds). wrongText h (c .before .before .before .args .t .now)) (c .enum-told7 .given .1))
 
+returns-8 : tie.Need-returns-8
+returns-8 c = sym (ap (λ (h : Holds). wrongText h (c .before .before .before .args .t .now)) (c .enum-told8 .given .1))
+
 pub wrong-text-spec : {M : Type 1} → statement M
-wrong-text-spec = tie.close (tie.spec (λ c. search needs) (λ c. search needs) (λ c. search needs) (λ c κs. search needs) (λ c. search needs) (λ c. search needs) (λ c. search needs) (λ c. search needs) returns returns-2 returns-3 returns-4 returns-5 returns-6 returns-7)
+wrong-text-spec = tie.close (tie.spec (λ c. search needs) (λ c. search needs) (λ c. search needs) (λ c κs. search needs) (λ c. search needs) (λ c. search needs) (λ c. search needs) (λ c. search needs) (λ c. search needs) returns returns-2 returns-3 returns-4 returns-5 returns-6 returns-7 returns-8)

@@ -22,7 +22,7 @@ returns c =
     let a = s .args in
     said (a .s) (a .tank) (a .hold) (a .most) (s .pre .tank) (unheldBelow (a .hold) (tankAt (meaning (a .s)) (a .tank)) (a .below))
     (below-is (a .s) (a .tank) (a .hold) (a .most) (a .below) (k .take .ensures) (u .unheld-below .ensures))
-    (d .apply-plan .ensures)
+    (d .apply-as-plant .ensures)
 
 pub works-below-spec : {M : Type 1} → statement M
 works-below-spec = tie.close (tie.spec (λ c κs. search needs) unheld-below-requires (λ c κs. search needs) returns)

@@ -11,7 +11,7 @@ use Rattle.tanks.proofs.Put.{runFrom}
 use Rattle.tanks.specs.Contracts.{editOf}
 use Rattle.tanks.proofs.SettingLaws.{sound-held, sound-judged, TakenOut, taken}
 use Rattle.tanks.proofs.MeaningLaws.{tail-refused, tail-done}
-use Rattle.tanks.proofs.CallLaws.{called-by, called-past}
+use Rattle.tanks.proofs.CallLaws.{ownBy, called-by, called-past}
 use Rattle.tanks.proofs.AnswerLaws.{done-refused, done-by}
 use Rattle.tanks.proofs.WriteLaws.{withPool, part, lowest, run-step, read-kept, part-all, run-own, run-behind, run-blank, Inside, inside, put-at-last}
 use Rattle.tanks.proofs.Tanks.edit.Statement.{statement}
@@ -35,8 +35,8 @@ own c = let e = c .before .before .before .before in let a = e .before in taken 
 -- no refusal: the places of the loop are inside the arrays
 accepted : (c : tie.Else2 Inv-loop μ-loop)
     → let a = c .before .before .before .before .before .before .before .before .before .before .args in let s = a .t1 in let p = c .before .before .before .before .perform .result in
-    firstRefusal (p .number) (judgement (s .settings) (runsIn (s .heads)) (a .tank) (p .tank .runs)) ≡ 0
-accepted c = let z : c .before .verdict .result ≡ 0 = omega (arith, c .if2 .left) in sym (c .before .verdict .ensures) ∙ z
+    firstRefusal (ownBy s (a .tank) (editOf (a .call)) (p .number) (p .tank .runs)) (judgement (s .settings) (runsIn (s .heads)) (a .tank) (p .tank .runs)) ≡ 0
+accepted c = let z : c .before .edit-verdict .result ≡ 0 = omega (arith, c .if2 .left) in sym (c .before .edit-verdict .ensures) ∙ z
 
 places : (c : tie.After-spots Inv-loop μ-loop)
     → let x = c .before .before .before .before .before .perform .result .tank in let r = c .spots .result in Inside x (x .runs) (r .at) (r .from) (r .full) (r .count) (r .grows)
@@ -44,7 +44,7 @@ places c =
     let e = c .before .before .before .before .before .before .before .before .before .before in
     let a = e .before in
     let p = c .before .before .before .before .before .perform in
-    inside (a .args .t1) (a .args .tank) (p .result .number) (p .result .tank) (a .pre) (e .if1 .left) (p .ensures .called .formed) (accepted (c .before)) _ (c .spots .ensures)
+    inside (a .args .t1) (a .args .tank) (ownBy (a .args .t1) (a .args .tank) (editOf (a .args .call)) (p .result .number) (p .result .tank .runs)) (p .result .tank) (a .pre) (e .if1 .left) (p .ensures .called .formed) (accepted (c .before)) _ (c .spots .ensures)
 
 -- ---- what is asked for
 returns : tie.Need-returns Inv-loop μ-loop
@@ -58,8 +58,8 @@ taken-requires c κs = let e = c .before .before .before in let a = e .before in
 perform-requires : tie.Need-perform-requires Inv-loop μ-loop
 perform-requires c κs = own c .sound
 
-verdict-requires : tie.Need-verdict-requires Inv-loop μ-loop
-verdict-requires c κs = let e = c .before .before .before .before .before .before .before in let a = e .before in (e .if1 .left, sound-judged (a .args .t1) (a .pre))
+edit-verdict-requires : tie.Need-edit-verdict-requires Inv-loop μ-loop
+edit-verdict-requires c κs = let e = c .before .before .before .before .before .before .before in let a = e .before in (e .if1 .left, sound-judged (a .args .t1) (a .pre))
 
 returns-2 : tie.Need-returns-2 Inv-loop μ-loop
 returns-2 c =
@@ -69,7 +69,7 @@ returns-2 c =
     let p = v .before .before .before in
     let k =
     called-by (a .args .t1) (a .args .tank) (editOf (a .args .call)) _ _ _ _ _ (a .pre) (e .if1 .left)
-    (own (p .before)) (p .perform .ensures .called) (tail-refused (a .args .t1) _ _ _ _ (a .pre) (v .verdict .ensures) (c .before .if2 .taken)) in
+    (own (p .before)) (p .perform .ensures .called) (tail-refused (a .args .t1) _ _ _ _ (a .pre) (v .edit-verdict .ensures) (c .before .if2 .taken)) in
     done-refused (a .args .t1) (a .args .tank) (editOf (a .args .call)) _ _ k (c .before .if2 .taken) (c .refused2 .ensures)
 
 spots-requires : tie.Need-spots-requires Inv-loop μ-loop
@@ -165,7 +165,7 @@ edit-spec =
     (λ c. search needs)
     taken-requires
     perform-requires
-    verdict-requires
+    edit-verdict-requires
     (λ c κs. search needs)
     returns-2
     spots-requires
