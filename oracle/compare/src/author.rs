@@ -1,9 +1,11 @@
 //! Writing random scripts. The author carries each call out on a model of its own, so that the
 //! next one can aim at what is there: at boundaries, carried marks, exact rooms.
 
+use std::borrow::Cow;
+
 use crate::answer::Answer;
 use crate::call::{Call, Settings};
-use crate::mark::{Content, Id, Mark, Value};
+use crate::mark::{Content, Id, Mark, Party, Value};
 use crate::mirror;
 use crate::random::Random;
 use crate::tank::{Tank, LONGEST, T};
@@ -24,6 +26,8 @@ pub struct Habit {
     pub inside: bool,
     /// Questions to each edit.
     pub questions: u64,
+    /// Before one call in so many the other party takes its turn; 0 says never.
+    pub turns: u64,
 }
 
 /// Numbers at which something changes, whatever they are used for.
@@ -80,6 +84,9 @@ impl Author {
     pub fn go_on(&mut self, calls: usize) {
         let end = self.calls.len() + calls;
         while self.calls.len() < end {
+            if self.habit.turns > 0 && self.random.one_in(self.habit.turns) {
+                self.turn();
+            }
             let edit = self.random.one_in(self.habit.questions + 1);
             for _ in 0..30 {
                 let call = if edit { self.edit() } else { self.question() };
@@ -91,10 +98,16 @@ impl Author {
         }
     }
 
+    /// The other party goes on.
+    pub fn turn(&mut self) {
+        let lab = self.tanks.party == Party::Lab;
+        self.say(Call::Party { party: if lab { Party::Plant } else { Party::Lab } });
+    }
+
     fn is_inside(&self, call: &Call) -> bool {
         let tank = call.tank().unwrap_or(8);
         tank < 8
-            && mirror::inside(&self.tanks.tanks[tank as usize], call)
+            && mirror::inside(self.tanks.party, &self.state(tank), call)
             && !matches!(self.tanks.clone().call(call), Answer::Refused(_))
     }
 }
@@ -120,19 +133,24 @@ impl Author {
         tank
     }
 
-    fn state(&self, tank: u64) -> &Tank {
+    fn joint(&self, tank: u64) -> &Tank {
         &self.tanks.tanks[(tank % 8) as usize]
+    }
+
+    /// What the party is shown.
+    fn state(&self, tank: u64) -> Cow<'_, Tank> {
+        self.joint(tank).shown_to(self.tanks.party)
     }
 
     /// A position worth asking about, perhaps at the length or just past it.
     fn spot(&mut self, tank: u64) -> u64 {
-        let length = self.state(tank).length;
+        let length = self.joint(tank).length;
         let off = self.random.below(self.habit.reach + 1);
         let near = match self.random.below(8) {
             0..=3 => off,
             4 => length.saturating_sub(off),
             _ => {
-                let boundaries = self.state(tank).boundaries();
+                let boundaries = self.joint(tank).boundaries();
                 let place = if boundaries.is_empty() { 0 } else { self.random.pick(&boundaries) };
                 let step = self.random.below(3);
                 if self.random.one_in(2) {
@@ -167,7 +185,7 @@ impl Author {
 
     pub fn mark(&mut self) -> Mark {
         let id = self.id();
-        let mut content = usual(id);
+        let mut content = usual_of(self.tanks.party, id);
         if !self.habit.inside && self.random.one_in(25) {
             content.value = self.value();
         }
@@ -193,11 +211,10 @@ impl Author {
     /// Mostly a key that the position carries.
     fn key(&mut self, tank: u64, at: u64) -> u16 {
         let any = self.id().0;
-        let state = self.state(tank);
-        if at >= state.length || self.random.one_in(3) {
+        if at >= self.joint(tank).length || self.random.one_in(3) {
             return any;
         }
-        let keys: Vec<u16> = self.state(tank).at(at).keys().map(|id| id.0).collect();
+        let keys: Vec<u16> = self.state(tank).at(at).keys().map(|(_, id)| id.0).collect();
         if keys.is_empty() {
             any
         } else {
@@ -207,7 +224,7 @@ impl Author {
 
     /// An identity that the tank carries, if there is one.
     fn carried(&mut self, tank: u64) -> Option<Id> {
-        let ids: Vec<Id> = self.state(tank).carried().into_keys().collect();
+        let ids: Vec<Id> = self.state(tank).carried().into_keys().map(|id| id.1).collect();
         (!ids.is_empty()).then(|| self.random.pick(&ids))
     }
 }
@@ -216,7 +233,9 @@ impl Author {
 impl Author {
     pub fn edit(&mut self) -> Call {
         let tank = self.tank();
-        match self.random.below(13) {
+        // The laboratory mostly keeps to what it may do.
+        let lab = self.tanks.party == Party::Lab && !self.random.one_in(8);
+        match if lab { self.random.pick(&[0, 0, 10]) } else { self.random.below(13) } {
             0..=4 => {
                 let (start, end) = self.range(tank);
                 Call::Annotate { tank, start, end, mark: self.mark() }
@@ -237,7 +256,7 @@ impl Author {
 
     /// A small length, sometimes 0; in a long tank sometimes all that there is room for, or one more.
     fn inserted(&mut self, tank: u64) -> u64 {
-        let length = self.state(tank).length;
+        let length = self.joint(tank).length;
         if length > T + (1 << 60) && self.random.one_in(4) {
             return LONGEST - length + self.random.below(2);
         }
@@ -252,7 +271,7 @@ impl Author {
         let before = self.spot(tank);
         let budget = match self.random.below(24) {
             0 => 0,
-            1..=4 => self.state(tank).runs() + self.random.below(2),
+            1..=4 => self.joint(tank).runs() + self.random.below(2),
             _ => 1 + self.random.below(3),
         };
         Call::Age { tank, before, budget: self.or_wild(budget) }
@@ -314,8 +333,8 @@ impl Author {
     /// Often with the key and the value that the range's first position shows.
     fn all_value(&mut self, tank: u64, start: u64, end: u64) -> Call {
         let key = self.key(tank, start);
-        let state = self.state(tank);
-        let shown = if start < state.length { state.winning(start, key) } else { None };
+        let within = start < self.joint(tank).length;
+        let shown = if within { self.state(tank).winning(start, key) } else { None };
         let other = self.value();
         let value = shown.filter(|_| !self.random.one_in(4)).unwrap_or(other);
         Call::AllValue { tank, start, end, key, value }
@@ -324,7 +343,7 @@ impl Author {
     /// Cells of a few positions, of so many that they reach about the length, or of any size.
     pub fn strip(&mut self, tank: u64) -> Call {
         let start = self.spot(tank);
-        let left = self.state(tank).length.saturating_sub(start);
+        let left = self.joint(tank).length.saturating_sub(start);
         let parts = 1 + self.random.below(100);
         let k = match self.random.below(12) {
             0 => left / parts,
@@ -383,6 +402,14 @@ pub fn identity(number: u64) -> Id {
         14 => (0, 0, number / 16),
         15 => (1 + (number / 16) as u16, 1 << 31, 1 << 63),
         rest => (1 + (rest % 3) as u16, (rest / 3 + 3) as u32, 1 + number / 16),
+    }
+}
+
+/// The content that a party's identity mostly comes with: the laboratory's is another.
+pub fn usual_of(who: Party, id: Id) -> Content {
+    match who {
+        Party::Plant => usual(id),
+        Party::Lab => Content { cnt: !usual(id).cnt, ..usual((id.0, id.1, id.2 ^ 1)) },
     }
 }
 

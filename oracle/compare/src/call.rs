@@ -1,6 +1,6 @@
 //! The calls of the console, and their lines.
 
-use crate::mark::{Content, Id, Mark, Value};
+use crate::mark::{Content, Id, Mark, Party, Value};
 
 pub type Settings = [(u64, u64); 8];
 
@@ -39,10 +39,11 @@ pub enum Call {
     Propose { tank: u64, hold: u16, runs: u64 },
     Legend { place: u64, key: u16, letter: u8 },
     Strip { tank: u64, start: u64, k: u64, room: u64 },
+    Party { party: Party },
 }
 
 /// Each op and its fields, in the order of their lines.
-pub const SHAPES: [(&str, &[&str]); 33] = [
+pub const SHAPES: [(&str, &[&str]); 34] = [
     ("open", &OPEN),
     ("annotate", &ANNOTATE),
     ("insert", &["tank", "at", "len"]),
@@ -76,6 +77,7 @@ pub const SHAPES: [(&str, &[&str]); 33] = [
     ("propose", &["tank", "hold", "runs"]),
     ("legend", &["place", "key", "letter"]),
     ("strip", &["tank", "start", "k", "room"]),
+    ("party", &["party"]),
 ];
 
 /// A body has so many bytes at most.
@@ -98,6 +100,7 @@ pub enum Field {
     Value(Value),
     /// One byte as it is.
     Letter(u8),
+    Party(Party),
 }
 
 impl Call {
@@ -137,6 +140,7 @@ impl Call {
             Call::Propose { .. } => 30,
             Call::Legend { .. } => 31,
             Call::Strip { .. } => 32,
+            Call::Party { .. } => 33,
         }
     }
 
@@ -178,6 +182,7 @@ impl Call {
                     format!("kind={}\nvalue={}\n", value.kind(), value.text()).into_bytes()
                 }
                 Field::Letter(letter) => [name.as_bytes(), &[b'=', letter, b'\n']].concat(),
+                Field::Party(party) => format!("{name}={}\n", party.name()).into_bytes(),
             });
         }
         text.extend(self.body());
@@ -230,6 +235,7 @@ impl Call {
                 list
             }
             Call::Strip { tank, start, k, room } => numbers(&[tank, start, k, room]),
+            Call::Party { party } => vec![Field::Party(party)],
             Call::Delete { tank, start, end }
             | Call::Same { tank, start, end }
             | Call::StretchesNeeded { tank, start, end } => numbers(&[tank, start, end]),
@@ -259,7 +265,7 @@ impl Call {
             _ => unreachable!("a letter stands here"),
         };
         let id = |place: usize| (n(place) as u16, n(place + 1) as u32, n(place + 2));
-        let tank = if fields.is_empty() { 0 } else { n(0) };
+        let tank = if let Some(&Field::Number(tank)) = fields.first() { tank } else { 0 };
         let (start, end) = (1, 2);
         match shape {
             0 => Call::Open { settings: std::array::from_fn(|t| (n(2 * t), n(2 * t + 1))) },
@@ -302,7 +308,11 @@ impl Call {
             29 => Call::Plan { tank, hold: n(1) as u16, runs: n(2) },
             30 => Call::Propose { tank, hold: n(1) as u16, runs: n(2) },
             31 => Call::Legend { place: n(0), key: n(1) as u16, letter: letter(2) },
-            _ => Call::Strip { tank, start: n(start), k: n(2), room: n(3) },
+            32 => Call::Strip { tank, start: n(start), k: n(2), room: n(3) },
+            _ => {
+                let Field::Party(party) = fields[0] else { unreachable!("a party stands here") };
+                Call::Party { party }
+            }
         }
     }
 }

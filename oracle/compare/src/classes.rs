@@ -1,10 +1,10 @@
 //! The classes of random scripts.
 
 use crate::answer::Answer;
-use crate::author::{identity, usual, Author, Habit};
+use crate::author::{identity, usual_of, Author, Habit};
 use crate::call::{Call, Settings};
 use crate::logs;
-use crate::mark::Mark;
+use crate::mark::{only, Mark, Party};
 use crate::plans;
 use crate::script::Script;
 use crate::sets;
@@ -18,13 +18,13 @@ pub struct Class {
     write: fn(seed: u64, calls: usize) -> Author,
 }
 
-pub const CLASSES: [Class; 14] = [
+pub const CLASSES: [Class; 16] = [
     Class { name: "inside", about: "one tank with room, the oracle domain", write: inside },
     Class { name: "dense", about: "small positions, many collisions", write: dense },
     Class { name: "short", about: "tanks of few positions, down to none", write: short },
     Class { name: "ends", about: "positions near T and near 2^63 - 1", write: ends },
     Class { name: "pool", about: "shares and limits around 512 runs", write: pool },
-    Class { name: "marks", about: "64 marks and one more", write: marks },
+    Class { name: "marks", about: "48 marks and one more", write: marks },
     Class { name: "runs", about: "hundreds of runs in one tank", write: runs },
     Class { name: "many", about: "hundreds of runs, the oracle domain", write: many },
     Class { name: "wild", about: "any number anywhere", write: wild },
@@ -33,6 +33,8 @@ pub const CLASSES: [Class; 14] = [
     Class { name: "log", about: "logs that are cut and spoilt anywhere", write: log },
     Class { name: "plans", about: "plans of ranges, and those that are proposed", write: thinned },
     Class { name: "strips", about: "strips with any keys and letters", write: stripped },
+    Class { name: "parties", about: "plant and laboratory by turns", write: parties },
+    Class { name: "rooms", about: "marks of both parties, and one more of each", write: rooms },
 ];
 
 impl Class {
@@ -42,7 +44,8 @@ impl Class {
     }
 }
 
-const HABIT: Habit = Habit { tanks: 1, reach: 10, marks: 16, wild: 0, inside: false, questions: 3 };
+const HABIT: Habit =
+    Habit { tanks: 1, reach: 10, marks: 16, wild: 0, inside: false, questions: 3, turns: 0 };
 
 /// All room for tank 0.
 pub const ROOMY: Settings = {
@@ -127,7 +130,7 @@ fn fill(author: &mut Author, tank: u64, runs: u64) {
     while author.tanks.tanks[tank as usize].runs() + 1 < runs {
         let start = author.tanks.tanks[tank as usize].runs() + 1;
         let id = identity(author.random.below(author.habit.marks.min(60)));
-        let mark = Mark { id, content: usual(id) };
+        let mark = Mark { id, content: usual_of(author.tanks.party, id) };
         let call = Call::Annotate { tank, start, end: start + 1, mark };
         if author.say(call) != Answer::Accepted {
             break;
@@ -135,7 +138,7 @@ fn fill(author: &mut Author, tank: u64, runs: u64) {
     }
 }
 
-/// 64 marks on few positions; those that were lost come back from time to time, and others try.
+/// 48 marks on few positions; those that were lost come back from time to time, and others try.
 fn marks(seed: u64, calls: usize) -> Author {
     let mut author = Author::new(seed, Habit { marks: 80, questions: 2, wild: 80, ..HABIT });
     author.open([(40, 200); 8]);
@@ -143,7 +146,7 @@ fn marks(seed: u64, calls: usize) -> Author {
     while author.calls.len() < end {
         let first = author.random.below(80);
         for number in first..first + 80 {
-            if author.tanks.tanks[0].carried().len() < 64 {
+            if author.tanks.tanks[0].carried().len() < 48 {
                 annotate(&mut author, number % 80);
             }
         }
@@ -159,7 +162,8 @@ fn annotate(author: &mut Author, number: u64) {
     let id = identity(number);
     let start = author.random.below(20);
     let end = start + 1 + author.random.below(60);
-    author.say(Call::Annotate { tank: 0, start, end, mark: Mark { id, content: usual(id) } });
+    let mark = Mark { id, content: usual_of(author.tanks.party, id) };
+    author.say(Call::Annotate { tank: 0, start, end, mark });
 }
 
 fn runs(seed: u64, calls: usize) -> Author {
@@ -266,5 +270,68 @@ fn stripped(seed: u64, calls: usize) -> Author {
     while author.calls.len() < calls {
         strips::go_on(&mut author);
     }
+    author
+}
+
+/// Plant and laboratory by turns, in a tank of a small share and in one of a larger; every other
+/// script stays inside the oracle domain. The plant is the last, and no ranges are pending.
+fn parties(seed: u64, calls: usize) -> Author {
+    let inside = seed % 2 == 1;
+    let wild = if inside { 0 } else { 80 };
+    let habit = Habit { tanks: 2, marks: 12, wild, inside, questions: 2, turns: 4, ..HABIT };
+    let mut author = Author::new(seed, habit);
+    let mut settings = [(30, 60); 8];
+    settings[0] = (5, 40);
+    author.open(settings);
+    while author.calls.len() < calls {
+        match author.random.below(16) {
+            0 | 3 if !inside => plans::go_on(&mut author),
+            1 if !inside && seed % 8 == 0 => logs::go_on(&mut author),
+            2 if !inside && seed % 8 == 4 => strips::go_on(&mut author),
+            _ => author.go_on(8),
+        }
+        if author.random.one_in(16) {
+            author.open(settings);
+        }
+    }
+    author.say(Call::Party { party: Party::Plant });
+    author.say(Call::Plan { tank: 0, hold: 1, runs: u64::MAX });
+    author
+}
+
+/// So many marks of the plant and of the laboratory stand side by side, or one fewer of either.
+const ROOMS: [(usize, usize); 7] =
+    [(48, 16), (32, 32), (40, 24), (33, 31), (20, 32), (47, 17), (48, 0)];
+
+/// Tank 0 is filled up, first by one party, and then each has one more to add, or one that it has.
+fn rooms(seed: u64, calls: usize) -> Author {
+    let mut author = Author::new(seed, Habit { questions: 1, turns: 6, marks: 80, ..HABIT });
+    let mut settings = [(30, 30); 8];
+    settings[0] = (300, 302);
+    author.open(settings);
+    while author.calls.len() < calls {
+        let (plant, lab) = author.random.pick(&ROOMS);
+        for _ in 0..2 {
+            author.turn();
+            let party = author.tanks.party;
+            let most = if party == Party::Lab { lab } else { plant };
+            let first = author.random.below(80);
+            for number in first..first + 80 {
+                if only(party, &author.tanks.tanks[0].carried()).len() < most {
+                    annotate(&mut author, number % 80);
+                }
+            }
+        }
+        for _ in 0..6 {
+            let number = author.random.below(90);
+            annotate(&mut author, number);
+            author.turn();
+        }
+        author.go_on(16);
+        if author.random.one_in(4) {
+            author.open(settings);
+        }
+    }
+    author.say(Call::Party { party: Party::Plant });
     author
 }

@@ -3,6 +3,7 @@
 use crate::call::Call;
 use crate::classes::ROOMY;
 use crate::mark::{Content, Id, Mark, Value};
+use crate::parties::{LAB, PLANT, WIDE};
 use crate::script::Script;
 use crate::tank::T;
 
@@ -68,25 +69,63 @@ pub fn scripts(
     marks: usize,
     depth: u32,
 ) -> impl Iterator<Item = Script> {
-    let letters = alphabet(marks);
+    let letters: Vec<Vec<Call>> = alphabet(marks).into_iter().map(|edit| vec![edit]).collect();
+    edits(letters, start, depth).map(move |(number, mut calls)| {
+        calls.insert(0, Call::Open { settings: ROOMY });
+        calls.extend(after(asked));
+        Script { class: "exhaust", seed: number, calls, tail: Vec::new() }
+    })
+}
+
+/// The same with one mark, of either party: both have its triple, with two contents.
+pub fn both(start: Start, asked: Asked, depth: u32) -> impl Iterator<Item = Script> {
+    let mut letters: Vec<Vec<Call>> = alphabet(1).into_iter().map(|edit| vec![edit]).collect();
+    for edit in alphabet(1) {
+        let theirs = match edit {
+            Call::Annotate { tank, start, end, .. } => {
+                let content = Content { cnt: 9, flags: 0x86, value: Value::Bool(false) };
+                let mark = Mark { id: MARKS[0].0, content };
+                Call::Annotate { tank, start, end, mark }
+            }
+            Call::Remove { .. } => edit,
+            _ => continue,
+        };
+        letters.push(vec![LAB, theirs, PLANT]);
+    }
+    edits(letters, start, depth).map(move |(number, mut calls)| {
+        calls.insert(0, Call::Open { settings: WIDE });
+        calls.extend([after(asked), vec![LAB], after(asked), vec![PLANT]].concat());
+        Script { class: "both", seed: number, calls, tail: Vec::new() }
+    })
+}
+
+/// Every sequence of exactly `depth` edits.
+fn edits(
+    letters: Vec<Vec<Call>>,
+    start: Start,
+    depth: u32,
+) -> impl Iterator<Item = (u64, Vec<Call>)> {
     let count = (letters.len() as u64).pow(depth);
     (0..count).map(move |number| {
-        let mut calls = vec![Call::Open { settings: ROOMY }];
+        let mut calls = Vec::new();
         if start == Start::Short {
             calls.push(Call::Annotate { tank: 0, start: 0, end: 1, mark: mark(2) });
             calls.push(Call::Delete { tank: 0, start: PLACES - 1, end: T });
         }
         let mut rest = number;
         for _ in 0..depth {
-            calls.push(letters[(rest % letters.len() as u64) as usize].clone());
+            calls.extend(letters[(rest % letters.len() as u64) as usize].clone());
             rest /= letters.len() as u64;
         }
-        calls.extend(state());
-        if asked == Asked::All {
-            calls.extend(questions());
-        }
-        Script { class: "exhaust", seed: number, calls, tail: Vec::new() }
+        (number, calls)
     })
+}
+
+fn after(asked: Asked) -> Vec<Call> {
+    match asked {
+        Asked::State => state(),
+        Asked::All => [state(), questions()].concat(),
+    }
 }
 
 fn state() -> Vec<Call> {

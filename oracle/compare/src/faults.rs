@@ -1,18 +1,21 @@
 //! A console with one fault in it. Each fault is a mistake that a map could make; the comparison
 //! has to notice every one of them.
 
+mod parties;
+
+use std::borrow::Cow;
 use std::collections::BTreeMap;
 
 use crate::answer::{Aged, Answer, Extent, Range, Report};
 use crate::call::Call;
-use crate::mark::{listed, Content, Id, Mark, Value};
+use crate::mark::{listed, Content, Id, Mark, Owned, Party, Value};
 use crate::settings::{pairs_of, Kept};
 use crate::strip;
-use crate::tank::Stretch;
+use crate::tank::{Stretch, Tank};
 use crate::tanks::Tanks;
 
 /// The name of a fault, and what it gets wrong.
-pub const FAULTS: [(&str, &str); 131] = [
+pub const FAULTS: [(&str, &str); 173] = [
     ("refusal1", "answers for tank 0 in place of refusal 1"),
     ("refusal2", "accepts settings that break the rule"),
     ("refusal3", "accepts an empty edit"),
@@ -20,7 +23,7 @@ pub const FAULTS: [(&str, &str); 131] = [
     ("refusal5", "accepts an insert past the largest length"),
     ("refusal6", "accepts a NaN"),
     ("refusal7", "accepts another content under a carried identity"),
-    ("refusal8", "accepts a 65th mark"),
+    ("refusal8", "accepts a mark that there is no room for"),
     ("refusal9", "accepts runs over the limit"),
     ("refusal10", "accepts runs over the pool"),
     ("refusal11", "accepts a short buffer"),
@@ -32,7 +35,7 @@ pub const FAULTS: [(&str, &str); 131] = [
     ("fixed-slices", "gives 10 as soon as a tank passes its share"),
     ("early-count", "counts the runs of an annotate before joining them"),
     ("stale-content", "gives 7 for an identity that no position carries any more"),
-    ("stale-marks", "gives 8 when 64 marks were ever carried"),
+    ("stale-marks", "gives 8 when 48 marks were ever carried"),
     ("idle-annotate", "accepts every eighth annotate and changes nothing"),
     ("idle-delete", "accepts every eighth delete and changes nothing"),
     ("past-last", "removal strips the rest of the stretch after last"),
@@ -141,6 +144,48 @@ pub const FAULTS: [(&str, &str); 131] = [
     ("cnt-least", "does not take the least counter"),
     ("cnt-most", "takes one more than the greatest counter"),
     ("cnt-minus-zero", "takes a counter of -0"),
+    ("refusal16", "lets the laboratory insert, delete, plan and age, and changes nothing"),
+    ("refusal17", "lets the laboratory pass the share, and changes nothing"),
+    ("party-insert", "carries the laboratory's insert out"),
+    ("party-late", "gives the laboratory 3, 4 and 5 in place of 16"),
+    ("party-pending", "leaves the ranges pending where the laboratory submits them"),
+    ("party-ignored", "answers the laboratory with the plant's marks"),
+    ("party-joint", "lists joint stretches"),
+    ("party-needed", "counts joint stretches where room is asked for"),
+    ("party-extent", "tells the joint stretch of a position"),
+    ("party-anchors", "lists the anchors of both parties"),
+    ("party-wins", "a mark of the laboratory wins a key for the plant"),
+    ("party-key", "has_key looks at both parties' marks"),
+    ("party-value", "all_value looks at both parties' marks"),
+    ("party-marks", "tells both parties' marks at a position"),
+    ("party-rank", "ranks both parties' marks"),
+    ("party-inherits", "tells both parties' marks that would be inherited"),
+    ("party-same", "same-marks looks at both parties' marks"),
+    ("party-runs", "counts the runs that the party is shown"),
+    ("party-sum", "gives 8 by the joint count of 64 alone"),
+    ("party-before", "counts the marks for 8 before the addition"),
+    ("party-plant-room", "assures the laboratory no room"),
+    ("party-known", "gives no 8 for a triple that the other party carries"),
+    ("party-clash", "gives 7 for a triple that the other party carries with another content"),
+    ("party-takes", "removes the other party's mark where the caller's is not there"),
+    ("party-falls", "gives 17 where the runs don't rise"),
+    ("party-removal", "gives no 17 for a removal"),
+    ("party-reaches", "gives 17 where the runs rise to just the share"),
+    ("party-plant-17", "gives the plant 17"),
+    ("party-nine", "gives 9 where 17 applies as well"),
+    ("party-eight", "gives 17 where 8 applies as well"),
+    ("party-set", "an insert answers both parties' marks"),
+    ("party-inherit", "new positions inherit of the plant alone"),
+    ("party-stays", "an insert leaves the laboratory's marks where they are"),
+    ("party-untouched", "the laboratory's mark does not touch a tank"),
+    ("party-age", "ageing counts the stretches that the plant is shown"),
+    ("party-hold", "a mark of the laboratory does not hold"),
+    ("party-propose", "proposes by what the plant is shown"),
+    ("party-strip", "shows the laboratory a strip of its own"),
+    ("party-log", "the log's edits are the laboratory's where it is asked"),
+    ("party-open", "forgets the party at an opening"),
+    ("party-first", "begins as the laboratory"),
+    ("party-capital", "takes a party with a capital"),
     ("body-lines", "does not count the newlines of bodies"),
     ("run-count", "counts one run too many in a tank of 100 runs or more"),
     ("malformed-line", "names the line after the malformed one"),
@@ -150,7 +195,7 @@ pub struct Faulty {
     pub tanks: Tanks,
     fault: String,
     turn: u64,
-    seen: BTreeMap<(u64, Id), Content>,
+    seen: BTreeMap<(u64, Owned), Content>,
 }
 
 impl Faulty {
@@ -162,6 +207,9 @@ impl Faulty {
         if fault == "legend-first" {
             tanks.legend.iter_mut().for_each(|place| place.1 += b'a' - b'0');
         }
+        if fault == "party-first" {
+            tanks.party = Party::Lab;
+        }
         Self { tanks, fault: fault.into(), turn: 0, seen: BTreeMap::new() }
     }
 
@@ -171,6 +219,7 @@ impl Faulty {
             "cnt-least" => ("\ncnt=-2147483648\n", "\ncnt=-214748364x\n"),
             "cnt-most" => ("\ncnt=2147483648\n", "\ncnt=2147483647\n"),
             "cnt-minus-zero" => ("\ncnt=-0\n", "\ncnt=10\n"),
+            "party-capital" => ("\nparty=Lab\n", "\nparty=lab\n"),
             _ => return input,
         };
         for at in 0..input.len() {
@@ -209,6 +258,7 @@ impl Faulty {
             other => other,
         };
         self.afterwards(call, &before);
+        self.party_afterwards(call, &before);
         let answer = self.proposed(call, answer);
         let answer = self.stripped(call, answer);
         self.told(call, self.counted(call, &before, answer))
@@ -247,9 +297,9 @@ impl Faulty {
                 if !accepted {
                     return None;
                 }
-                let place = (*tank, mark.id);
+                let place = (*tank, (self.tanks.party, mark.id));
                 let other = self.seen.get(&place).is_some_and(|seen| *seen != mark.content);
-                let many = self.seen.keys().filter(|seen| seen.0 == *tank).count() >= 64;
+                let many = self.seen.keys().filter(|seen| seen.0 == *tank).count() >= 48;
                 if self.fault == "stale-content" && other {
                     return Some(Answer::Refused(7));
                 }
@@ -285,11 +335,12 @@ impl Faulty {
         }
     }
 
-    /// The same of what has to do with sets, logs, strips and plans.
+    /// The same of what has to do with sets, logs, strips, plans and parties.
     fn aside(&mut self, call: &Call) -> Option<Answer> {
         let kept = self.kept_instead(call).or_else(|| self.log_instead(call));
         let kept = kept.or_else(|| self.strip_instead(call));
-        kept.or_else(|| self.planned_instead(call))
+        let kept = kept.or_else(|| self.planned_instead(call));
+        kept.or_else(|| self.party_instead(call))
     }
 
     /// The same of plans.
@@ -309,10 +360,10 @@ impl Faulty {
                 let mut without = now.clone();
                 let null =
                     |id: &Id, content: &Content| id.0 == hold && content.value == Value::Null;
-                let nulls = now.carried().into_iter().filter(|(id, content)| null(id, content));
+                let nulls = now.carried().into_iter().filter(|(id, content)| null(&id.1, content));
                 for (id, _) in nulls {
                     (0..now.length.min(200)).rev().for_each(|last| {
-                        without.remove(id, last);
+                        without.remove(id.0, id.1, last);
                     });
                 }
                 without.planned(hold, u64::MAX, &ranges)?;
@@ -356,6 +407,9 @@ impl Faulty {
         let Call::Plan { tank, .. } = *call else { return };
         match self.fault.as_str() {
             "plan-stays" if tank < 8 => self.tanks.pending = before.pending.clone(),
+            "party-pending" if tank < 8 && before.party == Party::Lab => {
+                self.tanks.pending = before.pending.clone();
+            }
             "plan-tank" if tank >= 8 => self.tanks.pending = before.pending.clone(),
             "plan-begun" if tank < 8 => {
                 let first = before.pending.first();
@@ -396,7 +450,7 @@ impl Faulty {
     /// Faults in a strip that is told.
     fn stripped(&self, call: &Call, answer: Answer) -> Answer {
         let Call::Strip { tank, start, k, .. } = *call else { return answer };
-        let (tank, legend) = (&self.tanks.tanks[tank as usize], self.tanks.legend);
+        let (tank, legend) = (&self.plants(tank), self.tanks.legend);
         let first_cell = |start: u64, k: u64| strip::cells(tank, &legend, start, k)[0];
         let cell = |cell: usize| (cell as u64).wrapping_mul(k).wrapping_add(start);
         let past = |at: usize| start as u128 + at as u128 * k as u128 > u64::MAX as u128;
@@ -412,7 +466,7 @@ impl Faulty {
                 found.map(|found| found.1)
             }),
             "strip-any" => self.cells(call, |part| {
-                let valued = |(id, content): (&Id, &Content), key: u16| {
+                let valued = |((_, id), content): (&Owned, &Content), key: u16| {
                     id.0 == key && content.value != Value::Null
                 };
                 let any = |s: &Stretch, key: u16| s.set.iter().any(|mark| valued(mark, key));
@@ -435,7 +489,7 @@ impl Faulty {
                 Answer::Strip(strip::cells(tank, &other, start, k))
             }
             "strip-cut" if tank.length > 0 => {
-                let mut other = tank.clone();
+                let mut other = Tank::clone(tank);
                 other.delete(tank.length - 1, tank.length);
                 Answer::Strip(strip::cells(&other, &legend, start, k))
             }
@@ -452,10 +506,15 @@ impl Faulty {
         }
     }
 
+    /// What the plant is shown.
+    fn plants(&self, tank: u64) -> Cow<'_, Tank> {
+        self.tanks.tanks[tank as usize].shown_to(Party::Plant)
+    }
+
     /// A strip of letters for the stretches of each cell.
     fn cells(&self, call: &Call, letter: impl Fn(&[Stretch]) -> Option<u8>) -> Answer {
         let Call::Strip { tank, start, k, .. } = *call else { unreachable!("a strip") };
-        let tank = &self.tanks.tanks[tank as usize];
+        let tank = &self.plants(tank);
         let place = |cell: usize| {
             let place = start as u128 + cell as u128 * k as u128;
             place.min(tank.length as u128) as u64
@@ -622,7 +681,7 @@ impl Faulty {
         if let (7, "cnt-seven", Call::Annotate { tank, mark, .. }) =
             (number, self.fault.as_str(), call)
         {
-            let known = before.tanks[*tank as usize].carried()[&mark.id];
+            let known = before.tanks[*tank as usize].carried()[&(before.party, mark.id)];
             if (Content { cnt: mark.content.cnt, ..known }) == mark.content {
                 return Answer::Accepted;
             }
@@ -659,7 +718,7 @@ impl Faulty {
     fn afterwards(&mut self, call: &Call, before: &Tanks) {
         match (self.fault.as_str(), call) {
             ("left-inherit", &Call::Insert { tank, at, len }) => {
-                let old = &before.tanks[tank as usize];
+                let old = before.tanks[tank as usize].shown_to(Party::Plant);
                 if old.touched && 0 < at && at < old.length {
                     for mark in listed(old.at(at - 1)) {
                         self.tanks.call(&Call::Annotate { tank, start: at, end: at + len, mark });
@@ -667,8 +726,8 @@ impl Faulty {
                 }
             }
             ("past-last", &Call::Remove { tank, id, last }) => {
-                let old = &before.tanks[tank as usize];
-                let carried = old.at(last).contains_key(&id);
+                let old = before.tanks[tank as usize].shown_to(before.party);
+                let carried = old.at(last).contains_key(&(before.party, id));
                 let ends = old.anchors().into_iter();
                 let end =
                     ends.filter(|a| !a.start && a.id == id && a.at > last).map(|a| a.at).next();
@@ -724,7 +783,7 @@ impl Faulty {
     /// Faults in what is told.
     fn told(&self, call: &Call, answer: Answer) -> Answer {
         let tank = call.tank().unwrap_or(0) as usize;
-        let state = &self.tanks.tanks[tank];
+        let state = &self.tanks.tanks[tank].shown_to(self.tanks.party);
         match (self.fault.as_str(), call, answer) {
             ("left-inherit", Call::Insert { at, .. }, Answer::Marks(_))
                 if *at > 0 && state.touched =>
@@ -759,7 +818,7 @@ impl Faulty {
                 Answer::Mark(mark)
             }
             ("cnt-winner", Call::Value { at, key, .. }, Answer::Value(_)) => {
-                let of_key = state.at(*at).iter().filter(|(id, _)| id.0 == *key);
+                let of_key = state.at(*at).iter().filter(|((_, id), _)| id.0 == *key);
                 let most = of_key.max_by_key(|(_, content)| content.cnt);
                 most.map_or(Answer::None, |(_, content)| Answer::Value(content.value))
             }
@@ -776,7 +835,7 @@ impl Faulty {
                 state.winning(*at, *key).map_or(Answer::None, Answer::Value)
             }
             ("winner", Call::Value { at, key, .. }, Answer::Value(_)) => {
-                let least = state.at(*at).iter().find(|(id, _)| id.0 == *key);
+                let least = state.at(*at).iter().find(|((_, id), _)| id.0 == *key);
                 least.map_or(Answer::None, |(_, content)| Answer::Value(content.value))
             }
             ("zero-bits", Call::AllValue { start, key, value, .. }, Answer::Yes(true)) => {

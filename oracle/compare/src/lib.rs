@@ -7,7 +7,7 @@
 //! - `strip`: the strip for the tanker bay.
 //! - `mirror`: the Rust beside the model, and the oracle domain.
 //! - `random`, `author`, `classes`, `exhaust`, `sets`, `logs`, `plans`, `strips`,
-//!   `counters`, `text`: scripts.
+//!   `counters`, `parties`, `text`: scripts.
 //! - `console`, `check`, `shrink`, `tally`: running a console, comparing, making a finding small.
 //! - `faults`: wrong answers on purpose, to see that the comparison notices them.
 //! - `cases`: document 01's checked examples as calls.
@@ -28,6 +28,7 @@ pub mod logs;
 pub mod mark;
 pub mod mirror;
 pub mod page;
+pub mod parties;
 pub mod plans;
 pub mod random;
 pub mod reader;

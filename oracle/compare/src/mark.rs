@@ -2,8 +2,30 @@
 
 use std::collections::BTreeMap;
 
-/// Key, lamport, peer: the order of tuples is the order of every answer.
+/// Key, lamport, peer: what calls and answers tell of an identity.
 pub type Id = (u16, u32, u64);
+
+/// Whose mark it is.
+#[derive(Clone, Copy, Debug, Default, PartialEq, Eq, PartialOrd, Ord)]
+pub enum Party {
+    #[default]
+    Plant,
+    Lab,
+}
+
+pub const PARTIES: [Party; 2] = [Party::Plant, Party::Lab];
+
+impl Party {
+    pub fn name(self) -> &'static str {
+        match self {
+            Party::Plant => "plant",
+            Party::Lab => "lab",
+        }
+    }
+}
+
+/// An identity, the plant's first: the order of tuples is the order of every answer.
+pub type Owned = (Party, Id);
 
 /// A decimal is kept by its bits, so that equality here is equality of contents.
 #[derive(Clone, Copy, Debug, PartialEq, Eq)]
@@ -61,8 +83,13 @@ pub struct Mark {
 }
 
 /// The marks that a position carries.
-pub type Set = BTreeMap<Id, Content>;
+pub type Set = BTreeMap<Owned, Content>;
 
 pub fn listed(set: &Set) -> Vec<Mark> {
-    set.iter().map(|(&id, &content)| Mark { id, content }).collect()
+    set.iter().map(|(&(_, id), &content)| Mark { id, content }).collect()
+}
+
+/// The marks of one party.
+pub fn only(who: Party, set: &Set) -> Set {
+    set.iter().filter(|(id, _)| id.0 == who).map(|(&id, &content)| (id, content)).collect()
 }

@@ -1,16 +1,18 @@
-//! The original beside the model: eight maps of the Rust, one for each tank, each of which gets
-//! the edits that lie inside document 01's oracle domain. An edit outside it that changes a tank
-//! takes that tank out of the comparison until the next opening.
+//! The original beside the model: two maps of the Rust for each tank, one for each party, which get
+//! the edits that lie inside document 01's oracle domain: annotates and removals the party's own,
+//! insertions and deletions all. An edit outside it that changes a tank takes that tank out of the
+//! comparison until the next opening. So what the Rust answers a party rests on nothing of the
+//! other's marks.
 
 use std::cell::Cell;
-use std::collections::BTreeMap;
+use std::collections::{BTreeMap, BTreeSet};
 use std::panic::{catch_unwind, set_hook, take_hook, AssertUnwindSafe};
 
 use original::{join_neighbours, LoroValue};
 
 use crate::answer::{Aged, Anchor, Answer, Extent, Listed, Range};
 use crate::call::Call;
-use crate::mark::{Content, Id, Mark, Value};
+use crate::mark::{Content, Id, Mark, Party, Value, PARTIES};
 use crate::strip::{self, Legend, CELLS};
 use crate::tank::Tank;
 use crate::tanks::Tanks;
@@ -28,8 +30,11 @@ pub enum Said {
 
 pub struct Mirror {
     joined: bool,
-    tanks: [Option<Original>; 8],
+    tanks: [Option<Pair>; 8],
 }
+
+/// The plant's map and the laboratory's.
+type Pair = [Original; 2];
 
 /// A map of the Rust, with the content under which each identity was first handed to it.
 struct Original {
@@ -51,12 +56,13 @@ impl Mirror {
                 self.tanks = fresh(self.joined);
                 return Said::Nothing;
             }
-            // The Rust has no settings, nothing pending and no legend.
+            // The Rust has no settings, nothing pending, no legend and no parties.
             Call::Settings { .. }
             | Call::Set { .. }
             | Call::LogEnd
             | Call::Range { .. }
-            | Call::Legend { .. } => return Said::Nothing,
+            | Call::Legend { .. }
+            | Call::Party { .. } => return Said::Nothing,
             // Nor has it a log: the tanks leave the comparison.
             Call::Log { .. } => {
                 self.tanks = std::array::from_fn(|_| None);
@@ -68,62 +74,65 @@ impl Mirror {
             return Said::Nothing;
         }
         let place = call.tank().expect("an edit and a question name a tank") as usize;
-        let Some(original) = &mut self.tanks[place] else { return Said::Nothing };
-        let tank = &before.tanks[place];
+        let Some(pair) = &mut self.tanks[place] else { return Said::Nothing };
         if let Call::Plan { hold, runs, .. } = *call {
             return self.plan(before, place, hold, runs);
         }
-        if !inside(tank, call) || !original.one_content(call) {
-            if changes(tank, call) {
+        let strip = matches!(call, Call::Strip { .. });
+        let who = if strip { Party::Plant } else { before.party };
+        let tank = &before.tanks[place].shown_to(who);
+        if !inside(who, tank, call) || !pair[who as usize].one_content(call) {
+            if changes(who, tank, call) {
                 self.tanks[place] = None;
             }
             return Said::Nothing;
         }
         if let Call::Strip { start, k, .. } = *call {
-            let told = || Answer::Strip(cells(&original.map, &before.legend, start, k));
+            let told = || Answer::Strip(cells(&pair[0].map, &before.legend, start, k));
             return quietly(told).map_or_else(Said::Panic, Said::Answer);
         }
-        quietly(|| original.answer(tank, call, answer)).unwrap_or_else(Said::Panic)
+        quietly(|| told(pair, who, tank, call, answer)).unwrap_or_else(Said::Panic)
     }
 
     /// An accepted plan, in the domain where its last range ends before the length: then so does
     /// each deletion, when those behind it are done.
     fn plan(&mut self, before: &Tanks, place: usize, hold: u16, runs: u64) -> Said {
         let end = before.pending.last().map_or(0, |range| range.end);
-        let Some(original) = &mut self.tanks[place] else { return Said::Nothing };
+        let Some(pair) = &mut self.tanks[place] else { return Said::Nothing };
         if end > 0 && end >= before.tanks[place].length {
             self.tanks[place] = None;
             return Said::Nothing;
         }
-        let map = &mut original.map;
-        let answer = quietly(|| planned(map, hold, runs, &before.pending));
+        let answer = quietly(|| planned(pair, hold, runs, &before.pending));
         answer.map_or_else(Said::Panic, Said::Answer)
     }
 
-    /// Whether the Rust's map of a tank means what the model's tank means; nothing where the tank
-    /// has left the comparison.
+    /// Whether the Rust's maps of a tank mean what the parties are shown of the model's tank;
+    /// nothing where the tank has left the comparison.
     pub fn agrees(&self, place: usize, tank: &Tank) -> Option<bool> {
-        let original = self.tanks[place].as_ref()?;
-        let ours = tank.stretches(0, tank.length);
-        let ours = ours.iter().map(|s| (s.from, s.to, crate::mark::listed(&s.set)));
-        let theirs = joined(original.map.elements());
-        Some(
-            tank.length == original.map.length() as u64
-                && tank.touched == original.map.has_style()
-                && ours.eq(theirs),
-        )
+        let pair = self.tanks[place].as_ref()?;
+        Some(PARTIES.into_iter().all(|who| means(&pair[who as usize], &tank.shown_to(who))))
     }
 }
 
-fn fresh(joined: bool) -> [Option<Original>; 8] {
-    join_neighbours(joined);
-    std::array::from_fn(|_| {
-        Some(Original { map: original::Tank::new(), contents: BTreeMap::new() })
-    })
+fn means(original: &Original, tank: &Tank) -> bool {
+    let ours = tank.stretches(0, tank.length);
+    let ours = ours.iter().map(|s| (s.from, s.to, crate::mark::listed(&s.set)));
+    let theirs = joined(original.map.elements());
+    tank.length == original.map.length() as u64
+        && tank.touched == original.map.has_style()
+        && ours.eq(theirs)
 }
 
-/// Document 01's oracle domain, for a call that isn't refused.
-pub fn inside(tank: &Tank, call: &Call) -> bool {
+fn fresh(joined: bool) -> [Option<Pair>; 8] {
+    join_neighbours(joined);
+    let original = || Original { map: original::Tank::new(), contents: BTreeMap::new() };
+    std::array::from_fn(|_| Some([original(), original()]))
+}
+
+/// Document 01's oracle domain, for a call of a party that isn't refused, over the tank that the
+/// party is shown.
+pub fn inside(who: Party, tank: &Tank, call: &Call) -> bool {
     match *call {
         Call::Annotate { start, end, .. }
         | Call::Delete { start, end, .. }
@@ -137,7 +146,7 @@ pub fn inside(tank: &Tank, call: &Call) -> bool {
         Call::Age { before, .. } => before < tank.length,
         Call::Remove { id, last, .. } => {
             let after = last + 1;
-            let carries = |at: u64| tank.at(at).contains_key(&id);
+            let carries = |at: u64| tank.at(at).contains_key(&(who, id));
             after < tank.length && carries(last) && !carries(after)
         }
         Call::Value { at, .. } => at + 1 < tank.length,
@@ -158,6 +167,7 @@ pub fn inside(tank: &Tank, call: &Call) -> bool {
         | Call::LogEnd
         | Call::Range { .. }
         | Call::Legend { .. }
+        | Call::Party { .. }
         | Call::Plan { .. }
         | Call::Propose { .. } => false,
     }
@@ -169,11 +179,11 @@ fn one_anchor_of_a_kind(tank: &Tank) -> bool {
     list.windows(2).all(|two| (two[0].at, two[0].start) != (two[1].at, two[1].start))
 }
 
-fn changes(tank: &Tank, call: &Call) -> bool {
+fn changes(who: Party, tank: &Tank, call: &Call) -> bool {
     match *call {
         Call::Annotate { .. } => true,
         Call::Insert { .. } | Call::Delete { .. } => tank.touched,
-        Call::Remove { id, last, .. } => tank.at(last).contains_key(&id),
+        Call::Remove { id, last, .. } => tank.at(last).contains_key(&(who, id)),
         Call::Age { before, .. } => tank.touched && before > 0,
         _ => false,
     }
@@ -190,42 +200,64 @@ impl Original {
         }
     }
 
-    fn answer(&mut self, tank: &Tank, call: &Call, expected: &Answer) -> Said {
-        let map = &mut self.map;
-        match *call {
-            Call::Annotate { start, end, mark, .. } => {
-                map.annotate(start as usize..end as usize, &theirs(mark));
-                Said::Done
-            }
-            Call::Insert { at, len, .. } => {
-                let set = map.insert(at as usize, len as usize);
-                Said::Answer(Answer::Marks(ours(set)))
-            }
-            Call::Delete { start, end, .. } => {
-                map.delete(start as usize..end as usize);
-                Said::Done
-            }
-            Call::Remove { id, last, .. } => {
-                let first = map.remove(id, last as usize) as u64;
-                // The index is compared only where the stretch starts at 0.
-                match expected {
-                    Answer::First(0) => Said::Answer(Answer::First(first)),
-                    _ => Said::Done,
-                }
-            }
-            Call::Age { before, budget, .. } => {
-                Said::Answer(Answer::Aged(aged(map, before, budget)))
-            }
-            _ => asked(map, tank, call),
+    /// A tank that either party has annotated is touched, so this map gets a mark for a moment.
+    fn touch(&mut self, range: std::ops::Range<usize>) {
+        if !self.map.has_style() {
+            self.contents.insert(MOMENT.id, MOMENT.content);
+            self.map.annotate(range.clone(), &theirs(MOMENT));
+            self.map.remove(MOMENT.id, range.end - 1);
         }
     }
 }
 
-/// The Rust has no such call: its first elements, with equal neighbours joined, go as one range.
-fn aged(map: &mut original::Tank, before: u64, budget: u64) -> Aged {
+const MOMENT: Mark =
+    Mark { id: (u16::MAX, 0, 0), content: Content { cnt: 0, flags: 0x80, value: Value::Null } };
+
+/// An answer to a party: from its own map, with both where they count together.
+fn told(pair: &mut Pair, who: Party, tank: &Tank, call: &Call, expected: &Answer) -> Said {
+    let map = &mut pair[who as usize].map;
+    match *call {
+        Call::Annotate { start, end, mark, .. } => {
+            let range = start as usize..end as usize;
+            map.annotate(range.clone(), &theirs(mark));
+            pair.iter_mut().for_each(|original| original.touch(range.clone()));
+            Said::Done
+        }
+        Call::Insert { at, len, .. } => {
+            let [set, _] = pair.each_mut().map(|o| o.map.insert(at as usize, len as usize));
+            Said::Answer(Answer::Marks(ours(set)))
+        }
+        Call::Delete { start, end, .. } => {
+            pair.iter_mut().for_each(|o| o.map.delete(start as usize..end as usize));
+            Said::Done
+        }
+        Call::Remove { id, last, .. } => {
+            let first = map.remove(id, last as usize) as u64;
+            // The index is compared only where the stretch starts at 0.
+            match expected {
+                Answer::First(0) => Said::Answer(Answer::First(first)),
+                _ => Said::Done,
+            }
+        }
+        Call::Age { before, budget, .. } => Said::Answer(Answer::Aged(aged(pair, before, budget))),
+        Call::Runs { .. } => Said::Answer(Answer::Runs(begins(pair).len() as u64)),
+        _ => asked(map, tank, call),
+    }
+}
+
+/// Where the stretches of both parties' marks together begin: where one of either does.
+fn begins(pair: &Pair) -> BTreeSet<u64> {
+    let elements = pair.iter().flat_map(|original| joined(original.map.elements()));
+    elements.map(|(from, ..)| from).collect()
+}
+
+/// The Rust has no such call: its first elements, with equal neighbours joined and both maps' ends
+/// among them, go as one range.
+fn aged(pair: &mut Pair, before: u64, budget: u64) -> Aged {
+    let map = &pair[0].map;
     let mut done = Aged { dropped: 0, remaining: if map.has_style() { before } else { 0 } };
     let mut end = 0;
-    for (_, to, _) in joined(map.elements()) {
+    for to in begins(pair).into_iter().skip(1).chain([map.length() as u64]) {
         if done.remaining == 0 || done.dropped == budget {
             break;
         }
@@ -233,18 +265,21 @@ fn aged(map: &mut original::Tank, before: u64, budget: u64) -> Aged {
         done = Aged { dropped: done.dropped + 1, remaining: before - end };
     }
     if end > 0 {
-        map.delete(0..end as usize);
+        pair.iter_mut().for_each(|original| original.map.delete(0..end as usize));
     }
     done
 }
 
 /// The Rust has no such call: it is asked whether a range has the hold key, deletes the ranges from
 /// the last to the first, and its elements are counted, with equal neighbours joined.
-fn planned(map: &mut original::Tank, hold: u16, runs: u64, ranges: &[Range]) -> Answer {
+fn planned(pair: &mut Pair, hold: u16, runs: u64, ranges: &[Range]) -> Answer {
     let span = |range: &Range| range.start as usize..range.end as usize;
-    let held = ranges.iter().any(|range| map.has_key(span(range), hold));
-    ranges.iter().rev().for_each(|range| map.delete(span(range)));
-    if held || joined(map.elements()).len() as u64 > runs {
+    let holds = |range: &Range| pair.iter().any(|original| original.map.has_key(span(range), hold));
+    let held = ranges.iter().any(holds);
+    for Original { map, .. } in pair.iter_mut() {
+        ranges.iter().rev().for_each(|range| map.delete(span(range)));
+    }
+    if held || begins(pair).len() as u64 > runs {
         return Answer::Refused(15);
     }
     Answer::Accepted
@@ -271,7 +306,6 @@ fn asked(map: &original::Tank, tank: &Tank, call: &Call) -> Said {
     Said::Answer(match *call {
         Call::Length { .. } => Answer::Length(map.length() as u64),
         Call::Touched { .. } => Answer::Touched(map.has_style()),
-        Call::Runs { .. } => Answer::Runs(joined(map.elements()).len() as u64),
         // The Rust shows a winning null; by the corrected rule it shows nothing.
         Call::Value { at, key, .. } => match map.winner(at as usize, key) {
             Some(mark) if mark.value != LoroValue::Null => Answer::Value(our_value(&mark.value)),

@@ -1,7 +1,7 @@
 //! The console's input: bytes to calls, or the number of the first malformed line.
 
 use crate::call::{Call, Field, LONGEST_BODY, SHAPES};
-use crate::mark::Value;
+use crate::mark::{Value, PARTIES};
 
 /// A line's bytes before its newline, at most.
 const LONGEST_LINE: usize = 64;
@@ -83,6 +83,10 @@ impl Group {
                     ["null", "bool", "whole", "decimal"].contains(&text).then(|| text.into())?
             }
             "value" => self.fields.push(Field::Value(value(&self.kind, text)?)),
+            "party" => {
+                let party = PARTIES.into_iter().find(|party| party.name() == text)?;
+                self.fields.push(Field::Party(party));
+            }
             "cnt" => self.fields.push(Field::Signed(i32::try_from(whole(text)?).ok()?)),
             _ => self.fields.push(Field::Number(number(text, largest(name))?)),
         }

@@ -4,6 +4,7 @@ use crate::call::{Call, Settings};
 use crate::classes::ROOMY;
 use crate::logs;
 use crate::mark::{Content, Id, Mark, Value};
+use crate::parties;
 use crate::plans;
 use crate::sets;
 use crate::strips;
@@ -32,7 +33,7 @@ fn annotate(tank: u64, start: u64, end: u64, mark: Mark) -> Call {
 }
 
 /// All calls but the opening, with these numbers.
-fn every(tank: u64, start: u64, end: u64) -> Vec<Call> {
+pub fn every(tank: u64, start: u64, end: u64) -> Vec<Call> {
     let (at, last, len, key, room, rank) = (end, end, end - start, 1, 1536, 0);
     vec![
         annotate(tank, start, end, mark(1)),
@@ -181,16 +182,16 @@ fn contents() -> Vec<Call> {
         annotate(1, 0, 1, with(zero, 0x80)),
         Call::Delete { tank, start: 4, end: 6 },
     ];
-    calls.extend((1..=65).map(|peer| annotate(tank, peer, peer + 70, mark(peer))));
-    calls.push(annotate(tank, 0, 9, mark(64)));
+    calls.extend((1..=49).map(|peer| annotate(tank, peer, peer + 70, mark(peer))));
+    calls.push(annotate(tank, 0, 9, mark(48)));
     calls.push(Call::Marks { tank, at: 70 });
-    calls.push(Call::Mark { tank, at: 70, rank: 63 });
-    calls.push(Call::Mark { tank, at: 70, rank: 64 });
+    calls.push(Call::Mark { tank, at: 70, rank: 47 });
+    calls.push(Call::Mark { tank, at: 70, rank: 48 });
     calls.push(Call::Delete { tank, start: 0, end: 2 });
-    calls.push(annotate(tank, 0, 9, mark(65)));
+    calls.push(annotate(tank, 0, 9, mark(49)));
     calls.push(Call::Delete { tank, start: 0, end: 70 });
-    calls.push(annotate(tank, 0, 9, mark(65)));
-    calls.push(Call::Anchors { tank, room: 127 });
+    calls.push(annotate(tank, 0, 9, mark(49)));
+    calls.push(Call::Anchors { tank, room: 95 });
     calls.push(Call::Anchors { tank, room: 1 << 40 });
     calls
 }
@@ -293,5 +294,7 @@ fn pool() -> Vec<Call> {
 pub fn refusals() -> Vec<Call> {
     let tanks =
         [openings(), ranges(), ageings(), longest(), contents(), counters(), limit(), pool()];
-    [tanks.concat(), plans::refused(), sets::refused(), logs::refused(), strips::refused()].concat()
+    let requests =
+        [plans::refused(), sets::refused(), logs::refused(), strips::refused(), parties::refused()];
+    [tanks.concat(), requests.concat()].concat()
 }

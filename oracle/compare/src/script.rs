@@ -1,6 +1,7 @@
 //! A script: whole calls, and perhaps bytes after them that are no whole call.
 
 use crate::call::Call;
+use crate::mark::Party;
 use crate::reader;
 
 #[derive(Clone, Debug)]
@@ -36,7 +37,7 @@ impl Script {
 
     /// Whether it may follow another script in one input: it starts anew and ends between groups.
     /// An opening leaves the kept sets, the log and the legend, so a script that has to do with them
-    /// goes alone, and so does one that leaves ranges pending.
+    /// goes alone, and so does one that leaves ranges pending or another party than the plant.
     pub fn joins(&self) -> bool {
         let keeps = |call: &Call| {
             let sets =
@@ -46,7 +47,10 @@ impl Script {
         let mut plans = self.calls.iter().rev();
         let last = plans.find(|call| matches!(call, Call::Range { .. } | Call::Plan { .. }));
         let pending = matches!(last, Some(Call::Range { .. }));
+        let mut parties = self.calls.iter().rev();
+        let last = parties.find(|call| matches!(call, Call::Party { .. }));
+        let lab = last == Some(&Call::Party { party: Party::Lab });
         let anew = matches!(self.calls.first(), Some(Call::Open { .. }));
-        anew && self.tail.is_empty() && !pending && !self.calls.iter().any(keeps)
+        anew && self.tail.is_empty() && !pending && !lab && !self.calls.iter().any(keeps)
     }
 }

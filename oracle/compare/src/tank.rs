@@ -2,11 +2,12 @@
 //! marks for each position. Positions that carry equal sets in a row are kept as one entry, under
 //! the first of them, so that a length near 2^63 is no burden.
 
+use std::borrow::Cow;
 use std::collections::BTreeMap;
 use std::rc::Rc;
 
 use crate::answer::{Aged, Anchor, Extent, Listed, Range};
-use crate::mark::{Content, Id, Mark, Set, Value};
+use crate::mark::{only, Id, Mark, Owned, Party, Set, Value};
 
 /// A fresh tank's length.
 pub const T: u64 = (1 << 62) - 1;
@@ -40,13 +41,14 @@ impl Default for Tank {
 
 /// Edits. Each one is asked for only where the rules accept it.
 impl Tank {
-    pub fn annotate(&mut self, start: u64, end: u64, mark: Mark) {
+    pub fn annotate(&mut self, who: Party, start: u64, end: u64, mark: Mark) {
         self.touched = true;
         self.change(start, end, |set| {
-            set.entry(mark.id).or_insert(mark.content);
+            set.entry((who, mark.id)).or_insert(mark.content);
         });
     }
 
+    /// New positions inherit of both parties.
     pub fn insert(&mut self, at: u64, len: u64) -> Set {
         let inherited = self.inherited(at);
         if self.touched {
@@ -83,7 +85,8 @@ impl Tank {
     }
 
     /// Answers the first position of the stretch that lost the mark, or `last + 1`.
-    pub fn remove(&mut self, id: Id, last: u64) -> u64 {
+    pub fn remove(&mut self, who: Party, id: Id, last: u64) -> u64 {
+        let id = (who, id);
         let first = self.first_carrying(id, last);
         if first <= last {
             self.change(first, last + 1, |set| {
@@ -93,7 +96,7 @@ impl Tank {
         first
     }
 
-    fn first_carrying(&self, id: Id, last: u64) -> u64 {
+    fn first_carrying(&self, id: Owned, last: u64) -> u64 {
         let mut first = last + 1;
         for (&place, set) in self.begins.range(..=last).rev() {
             if !set.contains_key(&id) {
@@ -133,7 +136,25 @@ impl Tank {
     }
 }
 
-/// Plans: change request 9 as a model. All ranges are in the numbering before.
+/// Parties: change request 10 as a model. Every question and list is asked of what a party is shown.
+impl Tank {
+    /// Each set cut down to the party's marks; length and touched stay.
+    pub fn shown_to(&self, who: Party) -> Cow<'_, Tank> {
+        // A set is sorted with the plant first, so its ends tell whether another's mark is in it.
+        let ends = |set: &Set| [set.keys().next().copied(), set.keys().next_back().copied()];
+        let other = |set: &Rc<Set>| ends(set).into_iter().flatten().any(|id| id.0 != who);
+        if !self.begins.values().any(other) {
+            return Cow::Borrowed(self);
+        }
+        let mut shown = self.clone();
+        shown.begins.values_mut().for_each(|set| *set = Rc::new(only(who, set)));
+        shown.tidy();
+        Cow::Owned(shown)
+    }
+}
+
+/// Plans: change request 9 as a model. All ranges are in the numbering before. Either party's mark
+/// holds.
 impl Tank {
     /// The tank after a plan, where it keeps the rules.
     pub fn planned(&self, hold: u16, runs: u64, ranges: &[Range]) -> Option<Tank> {
@@ -175,7 +196,7 @@ impl Tank {
     pub fn unheld(&self, hold: u16, below: u64) -> Vec<Range> {
         let mut list: Vec<Range> = Vec::new();
         let stretches = self.stretches(0, below).into_iter();
-        for free in stretches.filter(|s| s.set.keys().all(|id| id.0 != hold)) {
+        for free in stretches.filter(|s| s.set.keys().all(|(_, id)| id.0 != hold)) {
             match list.last_mut() {
                 Some(before) if before.end == free.from => before.end = free.to,
                 _ => list.push(Range { start: free.from, end: free.to }),
@@ -216,7 +237,7 @@ impl Tank {
     }
 
     pub fn has_key(&self, start: u64, end: u64, key: u16) -> bool {
-        let of_key = |s: &Stretch| s.set.keys().any(|id| id.0 == key);
+        let of_key = |s: &Stretch| s.set.keys().any(|(_, id)| id.0 == key);
         self.touched && self.stretches(start, end).iter().any(of_key)
     }
 
@@ -243,7 +264,7 @@ impl Tank {
     }
 
     /// Every mark that some position carries.
-    pub fn carried(&self) -> BTreeMap<Id, Content> {
+    pub fn carried(&self) -> Set {
         self.begins.values().flat_map(|set| set.iter().map(|(&id, &c)| (id, c))).collect()
     }
 }
@@ -278,10 +299,10 @@ impl Tank {
         let mut left = nothing.clone();
         let places = self.begins.iter().map(|(&place, set)| (place, set.clone()));
         for (place, right) in places.chain([(self.length, nothing)]) {
-            for &id in left.keys().filter(|id| !right.contains_key(id)) {
+            for &(_, id) in left.keys().filter(|id| !right.contains_key(id)) {
                 list.push(Anchor { at: place - 1, start: false, id });
             }
-            for &id in right.keys().filter(|id| !left.contains_key(id)) {
+            for &(_, id) in right.keys().filter(|id| !left.contains_key(id)) {
                 list.push(Anchor { at: place, start: true, id });
             }
             left = right;
@@ -301,6 +322,6 @@ pub fn listed(stretches: &[Stretch]) -> Vec<Listed> {
 }
 
 fn winner(set: &Set, key: u16) -> Option<Value> {
-    let of_key = set.iter().filter(|(id, _)| id.0 == key);
-    of_key.max_by_key(|(id, _)| (id.1, id.2)).map(|(_, content)| content.value)
+    let of_key = set.iter().filter(|((_, id), _)| id.0 == key);
+    of_key.max_by_key(|((_, id), _)| (id.1, id.2)).map(|(_, content)| content.value)
 }

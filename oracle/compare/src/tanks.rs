@@ -4,15 +4,16 @@
 use crate::answer::{Answer, Range};
 use crate::call::{Call, Settings};
 use crate::log::Log;
-use crate::mark::{listed, Mark, Set};
+use crate::mark::{listed, only, Mark, Party, Set, PARTIES};
 use crate::settings::{self, Kept};
 use crate::strip::{self, Legend};
 use crate::tank::{self, Tank, LONGEST};
 
 /// Runs in all.
 pub const POOL: u64 = 512;
-/// Different marks that one tank carries at most.
+/// Different marks that one tank carries at most, and how many of them each party is assured.
 pub const MARKS: usize = 64;
+pub const ASSURED: [usize; 2] = [32, 16];
 /// The flag bytes that an annotate may carry.
 pub const FLAGS: [u8; 3] = [0x80, 0x84, 0x86];
 /// The flag byte of Before, which an annotate no longer may carry.
@@ -32,6 +33,8 @@ pub struct Tanks {
     /// The ranges of the next plan; no more than `PENDING` are counted.
     pub pending: Vec<Range>,
     pub legend: Legend,
+    /// As whom calls are made.
+    pub party: Party,
 }
 
 impl Default for Tanks {
@@ -43,6 +46,7 @@ impl Default for Tanks {
             log: Log::default(),
             pending: Vec::new(),
             legend: strip::FIRST,
+            party: Party::Plant,
         }
     }
 }
@@ -81,11 +85,18 @@ impl Tanks {
                 self.legend[*place as usize] = (*key, *letter);
                 return Ok(Answer::Accepted);
             }
+            Call::Party { party } => {
+                self.party = *party;
+                return Ok(Answer::Accepted);
+            }
             Call::Plan { tank, hold, runs } => return self.plan(*tank, *hold, *runs),
             _ => {}
         }
         let tank = call.tank().expect("an edit and a question name a tank");
         refuse_if(tank >= 8, 1)?;
+        let moves = matches!(call, Call::Insert { .. } | Call::Delete { .. } | Call::Age { .. });
+        refuse_if(moves && self.party == Party::Lab, 16)?;
+        let who = self.party;
         match *call {
             Call::Annotate { start, end, mark, .. } => self.annotate(tank, start, end, mark),
             Call::Insert { at, len, .. } => self.insert(tank, at, len),
@@ -96,7 +107,7 @@ impl Tanks {
             }
             Call::Remove { id, last, .. } => {
                 refuse_if(last >= self.tank(tank).length, 4)?;
-                Ok(Answer::First(self.edit(tank, |t| t.remove(id, last))?))
+                Ok(Answer::First(self.edit(tank, |t| t.remove(who, id, last))?))
             }
             Call::Age { before, budget, .. } => {
                 refuse_if(budget == 0, 3)?;
@@ -121,10 +132,12 @@ impl Tanks {
         Ok(Answer::Accepted)
     }
 
-    /// A read of the log, whose edits are this state's.
+    /// A read of the log, whose edits are this state's, and the plant's.
     fn log(&mut self, read: &[u8]) -> Answer {
         let mut log = std::mem::take(&mut self.log);
+        let who = std::mem::replace(&mut self.party, Party::Plant);
         let answer = log.take(read, |call| self.call(call));
+        self.party = who;
         self.log = log;
         answer
     }
@@ -140,6 +153,7 @@ impl Tanks {
     fn plan(&mut self, tank: u64, hold: u16, runs: u64) -> Judged<Answer> {
         let ranges = std::mem::take(&mut self.pending);
         refuse_if(tank >= 8, 1)?;
+        refuse_if(self.party == Party::Lab, 16)?;
         let after = self.tank(tank).planned(hold, runs, &ranges).ok_or(15)?;
         self.tanks[tank as usize] = after;
         Ok(Answer::Accepted)
@@ -157,10 +171,11 @@ impl Tanks {
         refuse_if(flags != RETIRED && !FLAGS.contains(&flags), 14)?;
         refuse_if(flags == RETIRED, 18)?;
         let carried = self.tank(tank).carried();
-        let known = carried.get(&mark.id);
+        let who = self.party;
+        let known = carried.get(&(who, mark.id));
         refuse_if(known.is_some_and(|content| *content != mark.content), 7)?;
-        refuse_if(known.is_none() && carried.len() >= MARKS, 8)?;
-        self.edit(tank, |t| t.annotate(start, end, mark))?;
+        refuse_if(known.is_none() && crowded(who, &carried), 8)?;
+        self.edit(tank, |t| t.annotate(who, start, end, mark))?;
         Ok(Answer::Accepted)
     }
 
@@ -170,14 +185,17 @@ impl Tanks {
         refuse_if(at > length, 4)?;
         refuse_if(touched && len > LONGEST - length, 5)?;
         let inherited = self.edit(tank, |t| t.insert(at, len))?;
-        Ok(Answer::Marks(listed(&inherited)))
+        Ok(Answer::Marks(listed(&only(Party::Plant, &inherited))))
     }
 
     /// Tries an edit on a copy of the tank, and keeps it where the runs after it are allowed.
     fn edit<A>(&mut self, tank: u64, edit: impl FnOnce(&mut Tank) -> A) -> Judged<A> {
         let mut after = self.tank(tank).clone();
         let answer = edit(&mut after);
-        refuse_if(after.runs() > self.settings[tank as usize].1, 9)?;
+        let (share, limit) = self.settings[tank as usize];
+        let (held, runs) = (self.tank(tank).runs(), after.runs());
+        refuse_if(self.party == Party::Lab && runs > held && runs > share, 17)?;
+        refuse_if(runs > limit, 9)?;
         let before = std::mem::replace(&mut self.tanks[tank as usize], after);
         if self.pooled() > POOL {
             self.tanks[tank as usize] = before;
@@ -193,14 +211,15 @@ impl Tanks {
     }
 
     fn asked(&self, number: u64, call: &Call) -> Judged<Answer> {
-        let tank = self.tank(number);
+        let joint = self.tank(number);
+        let tank = joint.shown_to(self.party);
         let position = |at: u64| refuse_if(at >= tank.length, 4);
         let place = |at: u64| refuse_if(at > tank.length, 4);
         let inside = |start: u64, end: u64| refuse_if(start < end && end > tank.length, 4);
         Ok(match *call {
             Call::Length { .. } => Answer::Length(tank.length),
             Call::Touched { .. } => Answer::Touched(tank.touched),
-            Call::Runs { .. } => Answer::Runs(tank.runs()),
+            Call::Runs { .. } => Answer::Runs(joint.runs()),
             Call::Value { at, key, .. } => {
                 position(at)?;
                 tank.value(at, key).map_or(Answer::None, Answer::Value)
@@ -256,15 +275,16 @@ impl Tanks {
             Call::Strip { start, k, room, .. } => {
                 refuse_if(k == 0, 3)?;
                 refuse_if(room < strip::CELLS as u64, 11)?;
-                Answer::Strip(strip::cells(tank, &self.legend, start, k))
+                Answer::Strip(strip::cells(&joint.shown_to(Party::Plant), &self.legend, start, k))
             }
             Call::Propose { hold, runs, .. } => {
-                tank.proposed(hold, runs).map_or(Answer::None, Answer::Plan)
+                joint.proposed(hold, runs).map_or(Answer::None, Answer::Plan)
             }
             Call::Open { .. }
             | Call::Range { .. }
             | Call::Plan { .. }
             | Call::Legend { .. }
+            | Call::Party { .. }
             | Call::Settings { .. }
             | Call::Set { .. }
             | Call::OpenSet { .. }
@@ -277,6 +297,13 @@ impl Tanks {
             | Call::Age { .. } => unreachable!("no question of a tank"),
         })
     }
+}
+
+/// Whether one more mark of a party leaves the other without the room that it is assured.
+fn crowded(who: Party, carried: &Set) -> bool {
+    let counted = |party: Party| only(party, carried).len() + (party == who) as usize;
+    let needed = PARTIES.map(|party| counted(party).max(ASSURED[party as usize]));
+    needed.iter().sum::<usize>() > MARKS
 }
 
 fn ranked(set: &Set, rank: u64) -> Answer {

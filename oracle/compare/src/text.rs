@@ -6,7 +6,7 @@ use crate::random::Random;
 use crate::script::Script;
 
 /// Lines that are malformed wherever they stand, or only where another is wanted.
-const LINES: [&str; 64] = [
+const LINES: [&str; 68] = [
     "",
     "op",
     "op=",
@@ -61,6 +61,10 @@ const LINES: [&str; 64] = [
     "letter=é",
     "letter=\r",
     "k=18446744073709551616",
+    "op=party",
+    "party=lab",
+    "party=plant",
+    "party=Lab",
     "value=0",
     "value=2",
     "value=-0",

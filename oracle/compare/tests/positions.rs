@@ -4,22 +4,32 @@
 use std::collections::BTreeSet;
 
 use compare::answer::Range;
-use compare::author::{identity, usual};
-use compare::mark::{Content, Id, Mark, Value};
+use compare::author::{identity, usual, usual_of};
+use compare::mark::{Content, Id, Mark, Owned, Party, Value, PARTIES};
 use compare::random::Random;
 use compare::strip::{self, Legend, CELLS};
 use compare::tank::{Tank, RANGES, T};
 
-type Positions = Vec<BTreeSet<Id>>;
+type Positions = Vec<BTreeSet<Owned>>;
 
-fn inherited(all: &Positions, at: usize) -> BTreeSet<Id> {
+/// What a party is shown.
+fn of(who: Party, all: &Positions) -> Positions {
+    let own = |set: &BTreeSet<Owned>| set.iter().filter(|id| id.0 == who).copied().collect();
+    all.iter().map(own).collect()
+}
+
+fn value_of(id: Owned) -> Value {
+    usual_of(id.0, id.1).value
+}
+
+fn inherited(all: &Positions, at: usize) -> BTreeSet<Owned> {
     if at == 0 || at == all.len() {
         return BTreeSet::new();
     }
     all[at - 1].intersection(&all[at]).copied().collect()
 }
 
-fn removed(all: &mut Positions, id: Id, last: usize) -> usize {
+fn removed(all: &mut Positions, id: Owned, last: usize) -> usize {
     let mut first = last + 1;
     while first > 0 && all[first - 1].remove(&id) {
         first -= 1;
@@ -30,7 +40,7 @@ fn removed(all: &mut Positions, id: Id, last: usize) -> usize {
 /// Drops positions from the front while they lie in the first stretches of 0..before.
 fn aged(all: &mut Positions, before: u64, budget: u64) -> (u64, u64) {
     let (mut dropped, mut remaining) = (0, before);
-    let mut last: Option<BTreeSet<Id>> = None;
+    let mut last: Option<BTreeSet<Owned>> = None;
     while remaining > 0 {
         let new = last.as_ref() != Some(&all[0]);
         if new && dropped == budget {
@@ -47,7 +57,7 @@ fn aged(all: &mut Positions, before: u64, budget: u64) -> (u64, u64) {
 fn short(random: &mut Random) -> (Tank, Positions) {
     let mut tank = Tank::default();
     let id = identity(0);
-    tank.annotate(0, 1, Mark { id, content: usual(id) });
+    tank.annotate(Party::Plant, 0, 1, Mark { id, content: usual(id) });
     let left = random.below(9);
     tank.delete(0, T - left);
     (tank, vec![BTreeSet::new(); left as usize])
@@ -55,7 +65,7 @@ fn short(random: &mut Random) -> (Tank, Positions) {
 
 fn edit(random: &mut Random, tank: &mut Tank, all: &mut Positions) {
     let length = all.len() as u64;
-    let id = identity(random.below(4));
+    let (who, id) = (random.pick(&PARTIES), identity(random.below(4)));
     let start = random.below(length);
     let end = start + 1 + random.below(length - start.min(length));
     match random.below(6) {
@@ -64,9 +74,9 @@ fn edit(random: &mut Random, tank: &mut Tank, all: &mut Positions) {
             all.extend([const { BTreeSet::new() }; 3]);
         }
         0 | 1 => {
-            tank.annotate(start, end, Mark { id, content: usual(id) });
+            tank.annotate(who, start, end, Mark { id, content: usual_of(who, id) });
             all[start as usize..end as usize].iter_mut().for_each(|set| {
-                set.insert(id);
+                set.insert((who, id));
             });
         }
         2 => {
@@ -85,11 +95,28 @@ fn edit(random: &mut Random, tank: &mut Tank, all: &mut Positions) {
             let told = tank.age(before, budget);
             assert_eq!((told.dropped, told.remaining), aged(all, before, budget));
         }
-        _ => assert_eq!(tank.remove(id, start), removed(all, id, start as usize) as u64),
+        _ => {
+            let first = removed(all, (who, id), start as usize) as u64;
+            assert_eq!(tank.remove(who, id, start), first);
+        }
     }
 }
 
+/// The tank means the positions, and so does what each party is shown.
 fn same(tank: &Tank, all: &Positions) {
+    told(tank, all);
+    for who in PARTIES {
+        let (shown, own) = (tank.shown_to(who), of(who, all));
+        told(&shown, &own);
+        for start in 0..own.len() {
+            for end in start + 1..=own.len() {
+                range(&shown, &own, start, end);
+            }
+        }
+    }
+}
+
+fn told(tank: &Tank, all: &Positions) {
     assert_eq!(tank.length, all.len() as u64);
     for (at, set) in all.iter().enumerate() {
         assert!(tank.at(at as u64).keys().eq(set.iter()));
@@ -108,16 +135,11 @@ fn same(tank: &Tank, all: &Positions) {
         let nothing = BTreeSet::new();
         let left = if at == 0 { &nothing } else { &all[at - 1] };
         let right = all.get(at).unwrap_or(&nothing);
-        anchors.extend(left.difference(right).map(|&id| (at as u64 - 1, false, id)));
-        anchors.extend(right.difference(left).map(|&id| (at as u64, true, id)));
+        anchors.extend(left.difference(right).map(|&id| (at as u64 - 1, false, id.1)));
+        anchors.extend(right.difference(left).map(|&id| (at as u64, true, id.1)));
     }
     let told: Vec<_> = tank.anchors().iter().map(|a| (a.at, a.start, a.id)).collect();
     assert_eq!(told, anchors);
-    for start in 0..all.len() {
-        for end in start + 1..=all.len() {
-            range(tank, all, start, end);
-        }
-    }
 }
 
 fn range(tank: &Tank, all: &Positions, start: usize, end: usize) {
@@ -127,14 +149,15 @@ fn range(tank: &Tank, all: &Positions, start: usize, end: usize) {
     assert_eq!(told.collect::<Positions>(), part);
     assert!(list.windows(2).all(|two| two[0].to == two[1].from && two[0].set != two[1].set));
     for key in 0..4 {
-        let winner = |set: &BTreeSet<Id>| set.iter().filter(|id| id.0 == key).max().copied();
+        let winner =
+            |set: &BTreeSet<Owned>| set.iter().filter(|(_, id)| id.0 == key).max().copied();
         let any = part.iter().any(|set| winner(set).is_some());
         assert_eq!(tank.has_key(start as u64, end as u64, key), any);
         let Some(id) = winner(&part[0]) else { continue };
-        let value = usual(id).value;
+        let value = value_of(id);
         assert_eq!(tank.winning(start as u64, key), Some(value));
         assert_eq!(tank.value(start as u64, key), Some(value).filter(|won| *won != Value::Null));
-        let shown = |set| winner(set).is_some_and(|id| usual(id).value.shows(value));
+        let shown = |set| winner(set).is_some_and(|id| value_of(id).shows(value));
         assert_eq!(tank.all_value(start as u64, end as u64, key, value), part.iter().all(shown));
     }
     let shared = part.iter().all(|set| *set == part[0]);
@@ -173,7 +196,7 @@ fn planned(
         gone[start..end].fill(true);
         from = end;
     }
-    let held = |at: usize| all[at].iter().any(|id| id.0 == hold);
+    let held = |at: usize| all[at].iter().any(|(_, id)| id.0 == hold);
     if ranges.len() > RANGES || (0..all.len()).any(|at| gone[at] && held(at)) {
         return None;
     }
@@ -186,7 +209,7 @@ fn planned(
 
 /// The first 32 unheld ranges below a place.
 fn unheld(all: &Positions, hold: u16, below: usize) -> Vec<(usize, usize)> {
-    let free = |at: usize| at < below && all[at].iter().all(|id| id.0 != hold);
+    let free = |at: usize| at < below && all[at].iter().all(|(_, id)| id.0 != hold);
     let first = |at: &usize| free(*at) && (*at == 0 || !free(*at - 1));
     let end = |start: usize| (start..=below).find(|&at| !free(at)).expect("the place is not below");
     (0..below).filter(first).map(|start| (start, end(start))).take(RANGES).collect()
@@ -250,11 +273,11 @@ fn plans_mean_positions() {
 fn a_comb_is_thinned_as_far_as_32_ranges_go() {
     for teeth in [30, 31, 32, 33, 34, 40] {
         let (mut tank, mut all) = (Tank::default(), vec![BTreeSet::new(); 2 * teeth + 1]);
-        let id = (3, 5, 1);
+        let id: Id = (3, 5, 1);
         for tooth in 0..teeth {
             let at = 2 * tooth as u64 + 1;
-            tank.annotate(at, at + 1, Mark { id, content: usual(id) });
-            all[2 * tooth + 1].insert(id);
+            tank.annotate(Party::Lab, at, at + 1, Mark { id, content: usual(id) });
+            all[2 * tooth + 1].insert((Party::Lab, id));
         }
         tank.delete(all.len() as u64, T);
         for runs in 0..=2 * teeth + 2 {
@@ -268,9 +291,8 @@ fn a_comb_is_thinned_as_far_as_32_ranges_go() {
 
 /// The letter of the first key that some position of a cell shows, by looking at each position.
 fn cell(all: &Positions, legend: &Legend, from: usize, k: usize) -> u8 {
-    let winner = |at: usize, key: u16| all[at].iter().filter(|id| id.0 == key).max().copied();
-    let shows =
-        |at: usize, key: u16| winner(at, key).is_some_and(|id| usual(id).value != Value::Null);
+    let winner = |at: usize, key: u16| all[at].iter().filter(|(_, id)| id.0 == key).max().copied();
+    let shows = |at: usize, key: u16| winner(at, key).is_some_and(|id| value_of(id) != Value::Null);
     let mut places = legend.iter();
     let first =
         places.find(|(key, _)| (from..from + k).any(|at| at < all.len() && shows(at, *key)));
@@ -287,6 +309,7 @@ fn strips_mean_positions() {
             std::array::from_fn(|place| (random.below(6) as u16, b'a' + place as u8));
         for _ in 0..20 {
             edit(&mut random, &mut tank, &mut all);
+            let (tank, all) = (tank.shown_to(Party::Plant), of(Party::Plant, &all));
             for (start, k) in (0..8).flat_map(|start| [1, 2, 3, 5, 60].map(|k| (start, k))) {
                 let told = strip::cells(&tank, &legend, start as u64, k as u64);
                 let expected = std::array::from_fn(|at| cell(&all, &legend, start + at * k, k));
@@ -306,8 +329,8 @@ fn a_null_shows_nothing_and_nothing_comes_again_past_64_bits() {
         id: (3, lamport, 1),
         content: Content { cnt: 0, flags: 0x84, value },
     };
-    tank.annotate(0, 4, mark(1, Value::Bool(false)));
-    tank.annotate(2, 4, mark(2, Value::Null));
+    tank.annotate(Party::Plant, 0, 4, mark(1, Value::Bool(false)));
+    tank.annotate(Party::Plant, 2, 4, mark(2, Value::Null));
     let told = |start, k| strip::cells(&tank, &strip::FIRST, start, k);
     assert!(told(0, 1).starts_with(b"33.."));
     assert!(told(2, 2).starts_with(b".."));

@@ -3,6 +3,7 @@
 use compare::answer::Answer;
 use compare::call::{Call, SHAPES};
 use compare::classes::CLASSES;
+use compare::mark::Party;
 use compare::reader::read;
 
 #[test]
@@ -158,4 +159,20 @@ fn a_counter_has_32_bits_and_a_sign() {
     }
     let old = group("0").replace("cnt=0\n", "");
     assert_eq!(read(old.as_bytes()).malformed, Some(8));
+}
+
+#[test]
+fn a_party_is_the_plant_or_the_laboratory() {
+    for (party, text) in
+        [(Party::Plant, "op=party\nparty=plant\n"), (Party::Lab, "op=party\nparty=lab\n")]
+    {
+        let call = Call::Party { party };
+        assert_eq!(call.text(), text.as_bytes());
+        assert_eq!(read(text.as_bytes()).calls, [call]);
+    }
+    for party in ["", "Plant", "LAB", "lab ", " lab", "labs", "la", "0", "1"] {
+        assert_eq!(read(format!("op=party\nparty={party}\n").as_bytes()).malformed, Some(2));
+    }
+    assert_eq!(read(b"op=party\n").malformed, Some(2));
+    assert_eq!(read(b"op=party\nop=length\n").malformed, Some(2));
 }

@@ -13,7 +13,7 @@ use compare::mirror::hush;
 use compare::script::Script;
 use compare::shrink::shrink;
 use compare::tally::Tally;
-use compare::{cases, counters, logs, plans, refusals, sets, strips, text};
+use compare::{cases, counters, logs, parties, plans, refusals, sets, strips, text};
 
 const USE: &str = "\
 compare CONSOLE [--quick | --long] [--seeds A..B] [--calls N] [--only CLASS | --without CLASS]
@@ -27,7 +27,7 @@ CONSOLE       the console to compare: call scripts in, answers out
 --seeds A..B  random scripts with these seeds, in place of the round's own
 --calls N     so many calls in a random script, in place of the round's own
 --only CLASS  one class alone: a class of random scripts, or cases, refusals, settings,
-              logs, planned, letters, counters, text, exhaust
+              logs, planned, letters, counters, party, text, exhaust, both
 --without CLASS
               all classes but one
 
@@ -140,12 +140,14 @@ impl Round {
         part("planned", &mut plans::scripts())?;
         part("letters", &mut std::iter::once(fixed("letters", strips::letters())))?;
         part("counters", &mut counters::scripts())?;
+        part("party", &mut parties::scripts())?;
         for class in &CLASSES {
             part(class.name, &mut self.seeds.clone().map(|seed| class.script(seed, self.calls)))?;
         }
         let texts = self.seeds.start..self.seeds.start + 40 * (self.seeds.end - self.seeds.start);
         part("text", &mut texts.map(text::script))?;
         part("exhaust", &mut self.exhaustive())?;
+        part("both", &mut self.of_both())?;
         Ok(tally)
     }
 
@@ -163,6 +165,17 @@ impl Round {
             return Box::new(upto(3).chain(wide).chain(deep));
         }
         Box::new(upto(2).chain(state(Start::Fresh, 2, 3)))
+    }
+
+    fn of_both(&self) -> Box<dyn Iterator<Item = Script>> {
+        let all =
+            |start, last| (0..=last).flat_map(move |depth| exhaust::both(start, Asked::All, depth));
+        let state = |start, depth| exhaust::both(start, Asked::State, depth);
+        if self.long {
+            let asked = all(Start::Fresh, 2).chain(all(Start::Short, 2));
+            return Box::new(asked.chain(state(Start::Fresh, 3)).chain(state(Start::Short, 3)));
+        }
+        Box::new(all(Start::Fresh, 2).chain(all(Start::Short, 1)).chain(state(Start::Short, 2)))
     }
 
     /// Scripts that start anew share a console; the others have one of their own.

@@ -329,13 +329,13 @@ fn contents() {
         }),
     );
     let marks = |tank: &mut Tank| {
-        for peer in 0..65 {
+        for peer in 0..49 {
             tank.annotate(0..5, &mark((1, 5, peer)));
         }
         tank.styles_of_range(0..1).map(|marks| marks.len())
     };
-    let calls: Vec<Call> = (0..65).map(|peer| annotate(0, 5, (1, 5, peer))).collect();
-    show("65 marks on 0..5: how many there are", rules(&calls), rust(marks));
+    let calls: Vec<Call> = (0..49).map(|peer| annotate(0, 5, (1, 5, peer))).collect();
+    show("49 marks on 0..5: how many there are", rules(&calls), rust(marks));
     let runs: Vec<Call> = (0..256).map(|n| annotate(2 * n, 2 * n + 1, A)).collect();
     let many = |tank: &mut Tank| {
         for n in 0..256 {

@@ -19,7 +19,7 @@ use compare::settings::text_of;
 use compare::tally::Tally;
 
 /// How many scripts of each class stand in the sample, and how many calls each has.
-const SHARE: [(&str, u64, usize); 11] = [
+const SHARE: [(&str, u64, usize); 12] = [
     ("inside", 5, 150),
     ("dense", 4, 120),
     ("short", 3, 120),
@@ -31,6 +31,7 @@ const SHARE: [(&str, u64, usize); 11] = [
     ("wild", 1, 160),
     ("plans", 2, 150),
     ("strips", 1, 200),
+    ("parties", 2, 75),
 ];
 
 /// The seed of the first script of each class.
@@ -107,6 +108,8 @@ fn wanted() -> Vec<&'static str> {
         "refused 12",
         "refused 14",
         "refused 15",
+        "refused 16",
+        "refused 17",
         "refused 18",
         "open: accepted",
         "annotate: accepted",
@@ -153,5 +156,6 @@ fn wanted() -> Vec<&'static str> {
         "propose: none",
         "legend: accepted",
         "strip: a strip",
+        "party: accepted",
     ]
 }
