@@ -123,7 +123,7 @@ sum-then f h t u e t8 eight xs =
     (λ ne. rw (ne-eqb u t ne) (omega (arith, ap (own.sumOf f xs) (others-stay h u e t (λ z. ne (sym z))))))
 
 -- the sum is that over the tank's own calls
-own-sum : (f : Edit → ℕ) (h : House) (cs : List Call) (t : ℕ) → t < 8 → length (h .tanks) ≡ 8
+pub own-sum : (f : Edit → ℕ) (h : House) (cs : List Call) (t : ℕ) → t < 8 → length (h .tanks) ≡ 8
     → sumOn f t h cs ≡ own.sumOf f (callsOn t h cs) (tankAt h t)
 unfolding sumOn callsOn own.sumOf
 own-sum f h [] t t8 eight = refl
@@ -187,7 +187,7 @@ first-later h t c cs f = record {
 }
 
 -- where calls touch a tank, one of them is its first accepted annotate
-has-first : (h : House) (cs : List Call) (t : ℕ) → t < 8 → length (h .tanks) ≡ 8 → tankAt h t .touched ≡ false → tankAt (afterAll h cs) t .touched ≡ true
+pub has-first : (h : House) (cs : List Call) (t : ℕ) → t < 8 → length (h .tanks) ≡ 8 → tankAt h t .touched ≡ false → tankAt (afterAll h cs) t .touched ≡ true
     → FirstOn t h cs
 unfolding afterAll
 has-first h [] t t8 eight un to = absurd (false≢true (sym un ∙ to))

@@ -8,7 +8,7 @@ use Rattle.styles.specs.declared.Mark.{Mark}
 use Rattle.styles.specs.declared.Party.{Party}
 use Rattle.styles.specs.Answers.{stylesOf}
 use Rattle.tank.specs.declared.Tank.{Tank}
-use Rattle.tank.specs.Rules.{Edit, annotating, inserting, deleting, removing, insertedSet, removedFirst, whenAccepted}
+use Rattle.tank.specs.Rules.{Edit, annotating, inserting, deleting, removing, runsHeld, insertedSet, removedFirst, whenAccepted}
 use Rattle.tank.specs.State as state
 use Rattle.tanks.specs.declared.Setting.{Setting}
 use Rattle.tanks.specs.declared.Head.{Head}
@@ -19,8 +19,8 @@ use Rattle.tanks.specs.declared.Performed.{Performed}
 use Rattle.tanks.specs.declared.Done.{Done}
 use Rattle.tanks.specs.declared.Count.{Count}
 use Rattle.tanks.specs.declared.YesNo.{YesNo}
-use Rattle.tanks.specs.Settings.{accepted, shareOf, limitOf}
-use Rattle.tanks.specs.House.{tankAt, openNumber, opening, refusalAt, afterAt, insertedSetAt, removedFirstAt, Call}
+use Rattle.tanks.specs.Settings.{accepted, shareOf, limitOf, judgement}
+use Rattle.tanks.specs.House.{tankAt, held, withTank, openNumber, opening, refusalAt, afterAt, insertedSetAt, removedFirstAt, Call}
 use Rattle.tanks.specs.Pool.{runsIn, meaning, Sound}
 
 -- ---- Public functions
@@ -80,6 +80,12 @@ pub record DoneAt (s : Tanks) (t : ℕ) (e : Edit) (r : Done) : Type 0 where
 pub record Taken (s : Tanks) (t : ℕ) (x : Tank) : Type 0 where
   pub is : state.view x ≡ tankAt (meaning s) t
   pub sound : state.Sound x
+
+-- tank t replaced by one that means what x does: 9 or 10 by the runs that it holds, or the next state
+pub record PutAt (s : Tanks) (t : ℕ) (x : Tank) (number : ℕ) (next : Tanks) : Type 0 where
+  pub number-is : number ≡ judgement (s .settings) (held (meaning s)) t (runsHeld (state.view x))
+  pub is : meaning next ≡ whenAccepted number (withTank (meaning s) t (state.view x)) (meaning s)
+  pub sound : Sound next
 
 -- ---- Inner functions
 -- what the judgement asks: settings that keep the rule, and no tank over its limit

@@ -4,12 +4,13 @@ mod pool; // pool.rt: the tanks' runs and marks in one state
 
 ghost use mathlib.Core.Path.{_≡_};
 ghost use mathlib.Core.List.{[]};
+ghost use Prim.Native.Nat.{_<_};
 ghost use Rattle.styles.specs.Answers.{stylesOf};
 ghost use Rattle.tank.specs.State as state;
 ghost use Rattle.tank.specs.Rules.{annotating, deleting, inserting, removing};
 ghost use Rattle.tanks.specs.House.{tankAt, held, insertedSetAt, removedFirstAt, askNumber};
 ghost use Rattle.tanks.specs.Pool.{freshly, meaning, Sound};
-ghost use Rattle.tanks.specs.Contracts.{Opens, CalledAt, counts, says, Taken, editOf, PerformedAs, DoneAt};
+ghost use Rattle.tanks.specs.Contracts.{Opens, CalledAt, counts, says, Taken, editOf, PerformedAs, DoneAt, PutAt};
 use pool::head_of;
 use pool::spots;
 use pool::table_in;
@@ -17,6 +18,7 @@ use pool::taken;
 use pool::turn;
 use settings::accepts;
 use settings::edit_verdict;
+use settings::verdict;
 use styles::Identity;
 use styles::Mark;
 use styles::Party;
@@ -286,6 +288,46 @@ impl Tanks {
             number: 0,
             styles: styles,
             first: done.first,
+            tanks: self,
+        }
+    }
+
+    // Tank t replaced by another, judged as an edit that leaves it so would be.
+    pub fn put(mut self, t: usize, x: Tank) -> Edited
+        requires { ⌜ (Sound self) × (t < 8) × (state.Formed x) ⌝ }
+        ensures { λ r. ⌜ PutAt self t x (r .number) (r .tanks) ⌝ }
+    {
+        let heads = self.heads;
+        let m = x.runs;
+        let number = verdict(self.settings, heads, t, 0, m as u64);
+        if 0 < number {
+            return Edited {
+                number: number,
+                tanks: self,
+            };
+        }
+        let s = spots(heads, t, m);
+        let mut k = 0;
+        while k < s.count {
+            let j = turn(s.grows, k, s.count);
+            k += 1;
+            if j < m {
+                self.pool[s.at + j] = Run {
+                    len: x.lens[j],
+                    set: x.sets[j],
+                };
+            } else {
+                if j < s.full {
+                    self.pool[s.at + j] = self.pool[s.from + (j - m)];
+                } else {
+                    self.pool[s.at + j] = Run { len: 0, set: 0 };
+                }
+            }
+        }
+        self.heads[t] = head_of(x);
+        self.tables[t] = table_in(x);
+        Edited {
+            number: 0,
             tanks: self,
         }
     }
