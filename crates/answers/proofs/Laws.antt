@@ -7,6 +7,7 @@ use lib.ListN.{length}
 use borrow.Author.Tests.{ne-eqb}
 use Rattle.text.specs.Number.{put}
 use Rattle.script.specs.Writing.{Puts, freeAt}
+use Rattle.tank.specs.Rules.{whenAccepted}
 use Rattle.answers.specs.Waiting.{Pieces, Waiting, waiting, with, withAll, Short, Adds, pieceRoom}
 use Rattle.answers.specs.Replies.{refusedSays, orRefused}
 
@@ -49,6 +50,14 @@ module _ {d o : List ℕ} {at r : ℕ} (number : ℕ) (says : Pieces) where
 
   pub refused : (number ≡ 0 → ⊥) → Adds d at (refusedSays number) r o → Adds d at (orRefused number says) r o
   refused n x = adds-as (sym (rw (ne-eqb number 0 n))) x
+
+-- ---- one answer where the number is 0, and another beside a refusal
+module _ {d o : List ℕ} {at r : ℕ} (number : ℕ) (a b : Pieces) where
+  pub as-accepted : number ≡ 0 → Adds d at a r o → Adds d at (whenAccepted number a b) r o
+  as-accepted e x = adds-as (sym (rw e)) x
+
+  pub as-refused : (number ≡ 0 → ⊥) → Adds d at b r o → Adds d at (whenAccepted number a b) r o
+  as-refused n x = adds-as (sym (rw (ne-eqb number 0 n))) x
 
 -- ---- a loop that puts pieces
 -- when what is left is put as well, all is

@@ -1,10 +1,11 @@
 -- A turn of the loops over a set's marks and over a list of stretches.
 use mathlib.Core.Path.{_≡_, refl, sym, ap, _∙_}
-use mathlib.Core.List.{List, [], _∷_, _++_, map, map-append}
-use Prim.Native.Nat.{ℕ, suc, _+_, _-_, _≤_, _<_}
+use mathlib.Core.List.{List, [], _∷_, _++_, map, map-append, flatMap}
+use Prim.Native.Nat.{ℕ, zero, suc, _+_, _-_, _*_, _/_, _≤_, _<_, min}
+use native.Mathlib.Decide.{decLe}
 use native.Mathlib.Omega.{arith}
-use lib.ListN.{length, getD, take, drop, length-drop}
-use lib.Seq.{drop-cons, take-suc}
+use lib.ListN.{length, getD, take, drop, length-drop, take-append-drop}
+use lib.Seq.{drop-cons, take-suc, take-all, drop-drop}
 use Rattle.styles.specs.declared.Mark.{Mark}
 use Rattle.styles.specs.Marks.{blank}
 use Rattle.text.specs.Bytes.{bytes}
@@ -13,7 +14,7 @@ use Rattle.tanks.specs.declared.Setting.{Setting}
 use Rattle.tanks.specs.Settings.{noSetting}
 use Rattle.night.specs.declared.Range.{Range}
 use Rattle.night.specs.Plans.{noRange}
-use Rattle.answers.specs.Replies.{lineSays, pairSays, pairsSay, rangeSays, rangesSay, stretchesSay}
+use Rattle.answers.specs.Replies.{lineSays, pairSays, pairsSay, rangeSays, rangesSay, stretchesSay, cutUp, pieceCount}
 
 -- one mark more
 pub marks-more : (ms : List Mark) (n : ℕ) → n < length ms → map markText (take n ms) ++ (markText (getD ms n blank) ∷ []) ≡ map markText (take (n + 1) ms)
@@ -70,3 +71,44 @@ few (a ∷ b ∷ c ∷ l) h = absurd (omega arith)
 
 pub stretch-none : (list : List ℕ) (i : ℕ) → length list - i < 3 → stretchesSay (drop i list) ≡ []
 stretch-none list i h = few (drop i list) (omega (arith, length-drop i list))
+
+-- ---- pieces of a text
+-- the piece that begins at a place is what the text has from there on, as far as a piece goes
+pub piece-is : (t : List ℕ) (from : ℕ) → from ≤ length t → take (min (from + 192) (length t) - from) (drop from t) ≡ take 192 (drop from t)
+piece-is t from h =
+    elim (decLe (from + 192) (length t)) [
+      | yes k ↦ let e : min (from + 192) (length t) - from ≡ 192 = omega arith in ap (λ (n : ℕ). take n (drop from t)) e
+      | no k ↦
+          let l = length-drop from t in
+          take-all (min (from + 192) (length t) - from) (drop from t) (omega arith) ∙ sym (take-all 192 (drop from t) (omega arith))
+    ]
+
+-- one piece more
+pub cut-more : (n i : ℕ) (t : List ℕ) → i < n → cutUp (n - i) i t ≡ (take 192 (drop (192 * i) t) ∷ []) ++ cutUp (n - (i + 1)) (i + 1) t
+unfolding cutUp
+cut-more n i t h =
+    let e : n - i ≡ suc (n - (i + 1)) = omega arith in
+    let f : suc i ≡ i + 1 = omega arith in
+    ap (λ (m : ℕ). cutUp m i t) e ∙ ap (λ (j : ℕ). take 192 (drop (192 * i) t) ∷ cutUp (n - (i + 1)) j t) f
+
+pub cut-none : (n i : ℕ) (t : List ℕ) → n ≤ i → cutUp (n - i) i t ≡ []
+unfolding cutUp
+cut-none n i t h = let e : n - i ≡ 0 = omega arith in ap (λ (m : ℕ). cutUp m i t) e
+
+-- the pieces one behind the other are the text
+none-behind : (n : ℕ) (t : List ℕ) → length t ≤ n → [] ≡ drop n t
+none-behind zero [] h = refl
+none-behind zero (x ∷ xs) h = absurd (omega arith)
+none-behind (suc n) [] h = refl
+none-behind (suc n) (x ∷ xs) h = none-behind n xs (omega arith)
+
+joined-from : (n i : ℕ) (t : List ℕ) → length t ≤ 192 * i + 192 * n → flatMap (λ piece. piece) (cutUp n i t) ≡ drop (192 * i) t
+unfolding cutUp flatMap
+joined-from zero i t h = none-behind (192 * i) t (omega arith)
+joined-from (suc n) i t h =
+    let e : 192 * suc i ≡ 192 * i + 192 = omega arith in
+    ap (λ (u : List ℕ). take 192 (drop (192 * i) t) ++ u) (joined-from n (suc i) t (omega arith) ∙ ap (λ (k : ℕ). drop k t) e ∙ sym (drop-drop 192 (192 * i) t))
+    ∙ take-append-drop 192 (drop (192 * i) t)
+
+pub cut-whole : (t : List ℕ) → flatMap (λ piece. piece) (cutUp (pieceCount (length t)) 0 t) ≡ t
+cut-whole t = joined-from (pieceCount (length t)) 0 t (omega arith)

@@ -1,8 +1,8 @@
 -- docs/CONSOLE.md: the lines of each answer, as pieces of text.
 use mathlib.Core.Bool.{cond}
 use mathlib.Core.List.{List, [], _∷_, _++_, map, flatMap}
-use Prim.Native.Nat.{ℕ, zero, suc, min}
-use lib.ListN.{getD, take}
+use Prim.Native.Nat.{ℕ, zero, suc, _+_, _*_, _/_, min}
+use lib.ListN.{length, getD, take, drop}
 use Rattle.styles.specs.declared.Styles.{Styles}
 use Rattle.richtext.specs.declared.AnchorType.{AnchorType}
 use Rattle.questions.specs.declared.Asked.{Asked}
@@ -29,7 +29,7 @@ use Rattle.tanks.specs.declared.YesNo.{YesNo}
 use Rattle.tanks.specs.Settings.{noSetting}
 use Rattle.text.specs.Bytes.{bytes}
 use Rattle.script.specs.Writing.{lineText, fieldText, valueText, markText}
-use Rattle.answers.specs.Waiting.{Pieces}
+use Rattle.answers.specs.Waiting.{Pieces, pieceRoom}
 
 -- one line of a name and a number
 abbrev pub lineSays : List ℕ → ℕ → Pieces
@@ -190,3 +190,22 @@ reportSays l = lineSays (bytes "applied=") (l .edits) ++ stopSays (l .stop) (l .
 -- the cells of a strip on one line, or the refusal
 abbrev pub stripSays : ℕ → List ℕ → Pieces
 stripSays number cells = orRefused number (lineText (bytes "strip=") cells ∷ [])
+
+-- ---- Texts
+-- the i-th piece of a text, of 192 bytes or what is left, and so many behind it
+unfoldable pub cutUp : ℕ → ℕ → List ℕ → Pieces
+cutUp zero i t = []
+cutUp (suc n) i t = take pieceRoom (drop (pieceRoom * i) t) ∷ cutUp n (suc i) t
+
+-- how many pieces so many bytes make
+abbrev pub pieceCount : ℕ → ℕ
+pieceCount n = (n + 191) / pieceRoom
+
+-- a text behind a line with the count of its bytes
+unfoldable pub bytesSay : List ℕ → Pieces
+unfolding cutUp
+bytesSay t = lineSays (bytes "bytes=") (length t) ++ cutUp (pieceCount (length t)) 0 t
+
+-- a text that was restored from: accepted, or the refusal and the line
+abbrev pub restoredSays : ℕ → ℕ → Pieces
+restoredSays number line = whenAccepted number (acceptedSays 0) (refusedSays number ++ lineSays (bytes "line=") line)

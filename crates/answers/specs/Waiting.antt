@@ -8,7 +8,7 @@ use lib.ListN.{length, take}
 use Rattle.text.specs.Number.{put}
 use Rattle.script.specs.Writing.{freeAt}
 
--- pieces of text, each of whole lines
+-- pieces of text: whole lines, or parts of a text that is handed out as it is
 abbrev pub Pieces : Type 0
 Pieces = List (List ℕ)
 

@@ -9,6 +9,7 @@ mod settings; // settings.rt: settings
 mod reports; // reports.rt: what a log has come to
 mod plans; // plans.rt: plans
 mod strips; // strips.rt: the cells of a strip
+mod texts; // texts.rt: texts
 
 pub use listing::put_anchor;
 pub use listing::put_list;
@@ -33,3 +34,5 @@ pub use sets::set_or;
 pub use settings::put_found;
 pub use settings::put_taken;
 pub use strips::strip_or;
+pub use texts::restored_or;
+pub use texts::text_or;

@@ -10,7 +10,7 @@ use styles::Mark;
 use styles::Value;
 
 // A place with room for a piece: what waits is written out where there is less.
-fn free(out: &[u8], at: usize) -> usize
+pub fn free(out: &[u8], at: usize) -> usize
     requires { ⌜ pieceRoom ≤ length (now out) ⌝ }
     ensures { λ r. ⌜ (r ≡ freeAt pieceRoom at (now (out .entry))) × (r + pieceRoom ≤ length (now (out .entry))) ⌝ }
 {

@@ -3,5 +3,6 @@ pub mod Cuts
 pub mod Ends
 pub mod Gone
 pub mod Lists
+pub mod Saving
 pub mod Painting
 pub mod Performing

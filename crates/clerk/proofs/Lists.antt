@@ -28,12 +28,12 @@ use Rattle.clerk.specs.Calls.{allAnchorsSay}
 
 -- ---- room
 -- more places than the list takes make no difference
-least-room : (lower room n : ℕ) → n ≤ 1536 → listRefusal lower (min room 1536) n ≡ listRefusal lower room n
+pub least-room : (most lower room n : ℕ) → n ≤ most → listRefusal lower (min room most) n ≡ listRefusal lower room n
 unfolding listRefusal
-least-room lower room n h =
+least-room most lower room n h =
     elim (decLt room n) [
-      | yes k ↦ ap (λ (b : Bool). cond (eqb lower 0) (cond b 11 0) lower) (lt-ltb (min room 1536) n (omega arith) ∙ sym (lt-ltb room n k))
-      | no k ↦ ap (λ (b : Bool). cond (eqb lower 0) (cond b 11 0) lower) (le-ltb (min room 1536) n (omega arith) ∙ sym (le-ltb room n (omega arith)))
+      | yes k ↦ ap (λ (b : Bool). cond (eqb lower 0) (cond b 11 0) lower) (lt-ltb (min room most) n (omega arith) ∙ sym (lt-ltb room n k))
+      | no k ↦ ap (λ (b : Bool). cond (eqb lower 0) (cond b 11 0) lower) (le-ltb (min room most) n (omega arith) ∙ sym (le-ltb room n (omega arith)))
     ]
 
 -- `lent` places are lent where a call names `room`
@@ -48,15 +48,15 @@ module _ (who : Party) (s : Tanks) (ok : Sound s) (t room lent : ℕ) (least : l
         | yes k ↦
             elim (decLt a b) [
               | yes l ↦ rw (asked-over a b 0 v l k)
-              | no l ↦ least-room (rangeRefusal a b v) room (length (rangeList a b v)) (omega (arith, ap length (empty-list a b v (omega arith))))
+              | no l ↦ least-room 1536 (rangeRefusal a b v) room (length (rangeList a b v)) (omega (arith, ap length (empty-list a b v (omega arith))))
             ]
-        | no k ↦ least-room (rangeRefusal a b v) room (length (rangeList a b v)) (omega (arith, most-range s ok t h who a b (omega arith)))
+        | no k ↦ least-room 1536 (rangeRefusal a b v) room (length (rangeList a b v)) (omega (arith, most-range s ok t h who a b (omega arith)))
       ]
 
   pub whole-room : wholeNumber lent (shownAt (meaning s) who t) ≡ wholeNumber room (shownAt (meaning s) who t)
   whole-room =
       ap (λ (n : ℕ). wholeNumber n (shownAt (meaning s) who t)) least
-      ∙ least-room 0 room (length (wholeList (shownAt (meaning s) who t))) (omega (arith, most-whole s ok t h who))
+      ∙ least-room 1536 0 room (length (wholeList (shownAt (meaning s) who t))) (omega (arith, most-whole s ok t h who))
 
 -- ---- what a list of stretches says
 said-by : (b : Bool) (n t : ℕ) (ys part : List ℕ) (l : Listed) → l ≡ cond b noList (filledBeside n ys) → part ≡ cond b [] (unlessRefused n ys) → orRefused (l .number) (listSays t part) ≡ cond b (refusedSays 1) (orRefused n (listSays t ys))

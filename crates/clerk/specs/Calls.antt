@@ -17,6 +17,7 @@ use Rattle.tanks.specs.Contracts.{counts, says}
 use Rattle.night.specs.Ageings.{ageNumberBy, agedHouseBy, droppedBy, remainingBy}
 use Rattle.night.specs.Proposing.{proposalAt}
 use Rattle.ask.specs.Asks.{askAt, valueAsked, marksAsked, markAsked, stretchAsked, inheritAsked, inheritedAsked, keyAsked, allValueAsked, sameAsked, rangeNeededAsked, wholeNeededAsked}
+use Rattle.saved.specs.Writes.{written, writeNumber}
 use Rattle.script.specs.declared.Call.{Call}
 use Rattle.script.specs.declared.Change.{Change}
 use Rattle.script.specs.declared.Listing.{Listing}
@@ -25,7 +26,7 @@ use Rattle.script.specs.declared.Question.{Question}
 use Rattle.script.specs.Args.{numberAt, keyAt, markOf, identityOf}
 use Rattle.text.specs.Bytes.{bytes}
 use Rattle.answers.specs.Waiting.{Pieces, Adds}
-use Rattle.answers.specs.Replies.{lineSays, refusedSays, orRefused, acceptedSays, stylesSay, firstSays, agedSays, countSays, touchedSays, toldSays, shownSays, askedSays, setSays, sharedSays, extentSays, proposalSays, neededSays, listSays, anchorsSay}
+use Rattle.answers.specs.Replies.{lineSays, refusedSays, orRefused, acceptedSays, stylesSay, firstSays, agedSays, countSays, touchedSays, toldSays, shownSays, askedSays, setSays, sharedSays, extentSays, proposalSays, neededSays, listSays, anchorsSay, bytesSay}
 use Rattle.clerk.specs.declared.Done.{Done}
 
 -- ---- What a call speaks of, by the order of its op's fields
@@ -91,6 +92,14 @@ wholeSays h who t room = askAt h t who (refusedSays 1) (λ v. orRefused (wholeNu
 abbrev pub allAnchorsSay : View → Pieces
 allAnchorsSay v = lineSays (bytes "anchors=") (length (anchors v)) ++ anchorsSay (anchors v)
 
+-- the text of all tanks, where there is room for so many bytes
+unfoldable pub saveSays : House → ℕ → Pieces
+saveSays h room = orRefused (writeNumber room h) (bytesSay (written h))
+
+-- how many bytes it takes
+unfoldable pub saveNeededSays : House → Pieces
+saveNeededSays h = lineSays (bytes "needed=") (length (written h))
+
 -- of a call that changes the tanks: a row for each op
 unfoldable pub changeSays : Change → House → Party → Call → Pieces
 changeSays Change.Open h who c = acceptedSays (openNumber (settingsOf c))
@@ -124,6 +133,8 @@ listingSays Listing.StretchesNeeded h who c = neededSays (rangeNeededAsked h (ta
 listingSays Listing.Whole h who c = wholeSays h who (tankFor c) (numberAt c 1)
 listingSays Listing.WholeNeeded h who c = neededSays (wholeNeededAsked h (tankFor c) who)
 listingSays Listing.Anchors h who c = askAt h (tankFor c) who (refusedSays 1) (λ v. orRefused (anchorsNumber (numberAt c 1) v) (allAnchorsSay v))
+listingSays Listing.Save h who c = saveSays h (numberAt c 0)
+listingSays Listing.SaveNeeded h who c = saveNeededSays h
 
 -- ---- Any op
 -- does it only ask?

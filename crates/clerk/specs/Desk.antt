@@ -24,6 +24,9 @@ use Rattle.styles.specs.declared.Party.{Party}
 use Rattle.styles.specs.declared.Party.the-variants.{Plant}
 use Rattle.tanks.specs.House.{House, shownAt, openNumber, opening}
 use Rattle.tanks.specs.Pool.{meaning, Sound}
+use Rattle.text_lines.specs.Lines.{Got}
+use Rattle.saved.specs.Saying.{Said, newest, saying}
+use Rattle.saved.specs.Reads.{restoreNumber, restoreLine, restored}
 use Rattle.script.specs.declared.Both.{Both}
 use Rattle.script.specs.declared.Call.{Call}
 use Rattle.script.specs.declared.Desk.{Desk}
@@ -31,7 +34,7 @@ use Rattle.script.specs.declared.Op.{Op}
 use Rattle.script.specs.declared.Text.{Text}
 use Rattle.script.specs.Args.{numberAt, keyAt, partyBy}
 use Rattle.answers.specs.Waiting.{Pieces, Adds}
-use Rattle.answers.specs.Replies.{noneSays, acceptedSays, foundSays, takenSays, reportSays, rangeCountSays, stripSays}
+use Rattle.answers.specs.Replies.{noneSays, acceptedSays, foundSays, takenSays, reportSays, rangeCountSays, stripSays, restoredSays}
 use Rattle.clerk.specs.declared.Moved.{Moved}
 use Rattle.clerk.specs.declared.Noted.{Noted}
 use Rattle.clerk.specs.declared.Side.{Side}
@@ -80,20 +83,27 @@ takenFrom side body = keeping.takenOf (side .sets) (reading.settingsOf body)
 abbrev pub logRead : House → Side → List ℕ → logs.Course
 logRead h side body = logs.afterBytes (logs.courseAt h (side .log)) body
 
+-- restore: what the text says, or its first wrong line
+abbrev pub saidIn : List ℕ → Got Said
+saidIn body = saying newest body
+
 -- the tanks after it
 unfoldable pub textHouse : Text → House → Side → Call → List ℕ → House
 textHouse Text.Settings h side c body = h
 textHouse Text.Log h side c body = logRead h side body .house
+textHouse Text.Restore h side c body = restored h (saidIn body)
 
 -- what is kept after it
 unfoldable pub textSide : Text → House → Side → Call → List ℕ → Side
 textSide Text.Settings h side c body = withSets side (takenFrom side body .kept)
 textSide Text.Log h side c body = withLog side (logs.logAt (logRead h side body))
+textSide Text.Restore h side c body = side
 
 -- its answer
 unfoldable pub textSays : Text → House → Side → Call → List ℕ → Pieces
 textSays Text.Settings h side c body = takenSays (takenFrom side body)
 textSays Text.Log h side c body = reportSays (logs.logAt (logRead h side body))
+textSays Text.Restore h side c body = restoredSays (restoreNumber (saidIn body)) (restoreLine (saidIn body))
 
 -- ---- Calls that have to do with what is kept alone
 -- the set that a call asks for

@@ -4,6 +4,7 @@ mod asking; // asking.rt: calls that ask
 mod listing; // listing.rt: stretches and anchors
 mod desk; // desk.rt: calls that have to do with what is kept beside the tanks
 mod strips; // strips.rt: strips, and their legend
+mod texts; // texts.rt: the text of all tanks
 
 ghost use mathlib.Core.Bool.{false};
 ghost use mathlib.Core.Path.{_≡_};
@@ -182,7 +183,7 @@ fn answer(s: Tanks, q: Question, who: Party, call: Call, out: &mut [u8], at: usi
     }
 }
 
-// One that asks for a list.
+// One that asks for a list, or for the text of all tanks.
 fn listed(s: Tanks, l: Listing, who: Party, call: Call, out: &mut [u8], at: usize) -> usize
     requires { ⌜ Sound s ⌝ }
     requires { ⌜ pieceRoom ≤ length (now out) ⌝ }
@@ -195,6 +196,8 @@ fn listed(s: Tanks, l: Listing, who: Party, call: Call, out: &mut [u8], at: usiz
         Listing::Whole => whole(s, who, n[0], n[1], out, at),
         Listing::WholeNeeded => listing::whole_needed(s, who, call, out, at),
         Listing::Anchors => listing::anchors(s, who, call, out, at),
+        Listing::Save => texts::save(s, n[0], out, at),
+        Listing::SaveNeeded => texts::save_needed(s, out, at),
     }
 }
 
@@ -223,6 +226,7 @@ fn take_text(
             }
         }
         Text::Log => desk::read_log(s, side, body, out, at),
+        Text::Restore => texts::restore(s, side, body, out, at),
     }
 }
 

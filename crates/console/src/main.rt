@@ -66,6 +66,9 @@ fn page_strip() {
     say(b"  legend                  place key letter\n");
     say(b"  strip                   tank start k room\n");
     say(b"  party                   party\n");
+    say(b"  save                    room\n");
+    say(b"  save_needed             none\n");
+    say(b"  restore                 bytes, and behind that line so many bytes\n");
     say(b"\n");
 }
 
@@ -80,7 +83,7 @@ fn page_5() {
         b"lower-case hexadecimal digits of the bits of an f64. A sign is a minus or nothing, and there is no -0. A place is 0 to 7, a\n",
     );
     say(
-        b"letter any one byte, a party plant or lab. A room is how many numbers (stretches, whole), records (anchors) or bytes (strip) the\n",
+        b"letter any one byte, a party plant or lab. A room is how many numbers (stretches, whole), records (anchors) or bytes (strip, save) the\n",
     );
     say(b"answer may take; the program has room for the longest there is.\n");
     say(b"\n");
@@ -124,6 +127,14 @@ fn page_party() {
     say(
         b"a log and a strip are the plant's, and the laboratory neither inserts, deletes, plans nor ages.\n",
     );
+    page_texts();
+}
+
+fn page_texts() {
+    say(
+        b"save answers the settings and all tanks as a text, of version 3; restore takes such a text, of version 1, 2 or 3, in place of all\n",
+    );
+    say(b"tanks and their settings, or refuses it and changes nothing.\n");
     say(b"\n");
 }
 
@@ -142,7 +153,7 @@ fn page_7() {
     say(b"  a call that is refused  refused=N\n");
     say(b"  open, annotate, delete, accepted=1\n");
     say(b"    open_set, plan, legend,\n");
-    say(b"    party\n");
+    say(b"    party, restore\n");
     say(
         b"  insert, same, marks,    marks=N, and for each mark key= lamport= peer= cnt= flags= kind= value=\n",
     );
@@ -157,7 +168,8 @@ fn page_7() {
     say(b"  length, touched, runs   length=N; touched=0 or touched=1; runs=N\n");
     say(b"  stretches, whole        tank=N, and for each stretch from= to= marks=\n");
     say(b"  stretches_needed,       needed=N, the numbers that the list takes, three a stretch\n");
-    say(b"    whole_needed\n");
+    say(b"    whole_needed,         or bytes of the text\n");
+    say(b"    save_needed\n");
     say(
         b"  anchors                 anchors=N, and for each record at= side=start or side=end, key= lamport= peer=\n",
     );
@@ -182,6 +194,10 @@ fn page_settings() {
     say(b"  range                   ranges=N, how many are pending\n");
     say(b"  propose                 ranges=N, and for each range start= end=\n");
     say(b"  strip                   strip= and its 96 letters and dots\n");
+    say(
+        b"  save                    bytes=N, and then the text's N bytes and nothing behind them\n",
+    );
+    say(b"  restore, refused        refused=13 and line=L, its first wrong line\n");
 }
 
 fn page_8() {

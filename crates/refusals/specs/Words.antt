@@ -20,7 +20,7 @@ refusals =
     bytes "more runs than the tanks can share" ∷  -- 10
     bytes "less room than the answer takes" ∷  -- 11
     bytes "a settings text with a bad line" ∷  -- 12
-    bytes "a log with a bad line" ∷  -- 13
+    bytes "a log or a saved text with a bad line" ∷  -- 13
     bytes "flags that no type makes" ∷  -- 14
     bytes "a bad range in a plan, or too many runs left" ∷  -- 15
     bytes "the plant's work, tried by the laboratory" ∷  -- 16

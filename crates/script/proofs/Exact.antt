@@ -89,7 +89,7 @@ op-only t n e =
 
 -- ---- a value
 -- a value that 64 bits hold
-pub Fitting : Value → Type 0
+unfoldable pub Fitting : Value → Type 0
 Fitting Value.Null = Unit {0}
 Fitting (Value.Flag b) = Unit {0}
 Fitting (Value.Whole z) = SFits w64 z

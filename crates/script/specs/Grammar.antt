@@ -213,6 +213,9 @@ ops =
     desk Desk.Legend "legend" (place ∷ key ∷ letter ∷ []) ∷
     both Both.Strip "strip" (tank ∷ start ∷ cellSize ∷ room ∷ []) ∷
     desk Desk.Party "party" (party ∷ []) ∷
+    listing Listing.Save "save" (room ∷ []) ∷
+    listing Listing.SaveNeeded "save_needed" [] ∷
+    text Text.Restore "restore" (bodySize ∷ []) ∷
     []
 
 -- between two groups there is no op, and the line that names one is to come

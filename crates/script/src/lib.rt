@@ -33,7 +33,9 @@ pub use names::is_name;
 pub use names::kind_name;
 pub use names::op_name;
 pub use reading::idle;
+pub use reading::kind_named;
 pub use reading::read_line;
+pub use reading::value_of;
 pub use reading::value_start;
 use styles::Value;
 pub use writing::emit;
@@ -72,19 +74,22 @@ pub enum Question {
     Propose,
 }
 
-// Ops that ask for a list, or for what one takes.
+// Ops that ask for a list or for the text of all tanks, or for what one takes.
 pub enum Listing {
     Stretches,
     StretchesNeeded,
     Whole,
     WholeNeeded,
     Anchors,
+    Save,
+    SaveNeeded,
 }
 
 // Ops that bring a text, as the body behind their line.
 pub enum Text {
     Settings,
     Log,
+    Restore,
 }
 
 // Ops that have to do with what is kept beside the tanks alone.

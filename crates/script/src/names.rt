@@ -16,7 +16,7 @@ use super::ReadOp;
 use super::lines::least;
 
 // How many rows there are: one for each op, and one for the time between two groups.
-pub const OPS: usize = 35;
+pub const OPS: usize = 38;
 
 // How many letters there are, from / to Z.
 const LETTERS: usize = 44;
@@ -83,7 +83,7 @@ pub fn op_name(row: usize) -> Name
     ensures { λ r. ⌜ r ≡ spelling (rowAt row .name) ⌝ }
 {
     let all =
-        b"                open            annotate        insert          delete          remove          length          touched         runs            value           has_key         all_value       same            marks           inherit         mark            inherited       stretches       stretches_neededwhole           whole_needed    anchors         find            age             settings        set             open_set        log             log_end         range           plan            propose         legend          strip           party                           ";
+        b"                open            annotate        insert          delete          remove          length          touched         runs            value           has_key         all_value       same            marks           inherit         mark            inherited       stretches       stretches_neededwhole           whole_needed    anchors         find            age             settings        set             open_set        log             log_end         range           plan            propose         legend          strip           party           save            save_needed     restore                         ";
     op_name_at(all, least(row, OPS) * 16)
 }
 
@@ -108,7 +108,7 @@ pub fn op_named(word: &[u8]) -> ReadOp
     ensures { λ r. ⌜ r ≡ opNamed (now (word .entry)) ⌝ }
 {
     let all =
-        b"                open            annotate        insert          delete          remove          length          touched         runs            value           has_key         all_value       same            marks           inherit         mark            inherited       stretches       stretches_neededwhole           whole_needed    anchors         find            age             settings        set             open_set        log             log_end         range           plan            propose         legend          strip           party                           ";
+        b"                open            annotate        insert          delete          remove          length          touched         runs            value           has_key         all_value       same            marks           inherit         mark            inherited       stretches       stretches_neededwhole           whole_needed    anchors         find            age             settings        set             open_set        log             log_end         range           plan            propose         legend          strip           party           save            save_needed     restore                         ";
     row_in(all, word)
 }
 

@@ -141,7 +141,8 @@ fn or_kind(t: &[u8], kind: Kind, other: ReadKind) -> ReadKind
     other
 }
 
-fn kind_named(t: &[u8]) -> ReadKind
+// The kind that a text names.
+pub fn kind_named(t: &[u8]) -> ReadKind
     ensures { λ r. ⌜ r ≡ kindNamed (now (t .entry)) ⌝ }
 {
     let none = ReadKind::Bad;
@@ -200,7 +201,7 @@ fn decimal_of(p: text::Parsed) -> ReadValue
 }
 
 // The value of a kind that a text spells.
-fn value_of(kind: Kind, t: &[u8]) -> ReadValue
+pub fn value_of(kind: Kind, t: &[u8]) -> ReadValue
     ensures { λ r. ⌜ r ≡ valueOf kind (now (t .entry)) ⌝ }
 {
     match kind {

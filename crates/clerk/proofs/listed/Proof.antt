@@ -21,5 +21,13 @@ returns-4 c = as-listed _ _ _ (c .before .before .before .before .enum-told4 .gi
 returns-5 : tie.Need-returns-5
 returns-5 c = as-listed _ _ _ (c .before .before .before .before .enum-told5 .given .1) (c .before .before .anchors .ensures)
 
+returns-6 : tie.Need-returns-6
+unfolding listingSays
+returns-6 c = as-listed _ _ _ (c .before .before .before .before .enum-told6 .given .1) (c .before .before .save .ensures)
+
+returns-7 : tie.Need-returns-7
+unfolding listingSays
+returns-7 c = as-listed _ _ _ (c .before .before .before .before .enum-told7 .given .1) (c .before .before .save-needed .ensures)
+
 pub listed-spec : {M : Type 1} → statement M
-listed-spec = tie.close (tie.spec (λ c. search needs) (λ c κs. search needs) (λ c. search needs) (λ c κs. search needs) (λ c. search needs) (λ c. search needs) (λ c. search needs) (λ c κs. search needs) (λ c. search needs) (λ c κs. search needs) (λ c. search needs) (λ c κs. search needs) (λ c. search needs) returns (λ c. search needs) returns-2 (λ c. search needs) returns-3 (λ c. search needs) returns-4 (λ c. search needs) returns-5)
+listed-spec = tie.close (tie.spec (λ c. search needs) (λ c κs. search needs) (λ c. search needs) (λ c κs. search needs) (λ c. search needs) (λ c. search needs) (λ c. search needs) (λ c κs. search needs) (λ c. search needs) (λ c κs. search needs) (λ c. search needs) (λ c κs. search needs) (λ c. search needs) (λ c. search needs) (λ c κs. search needs) (λ c. search needs) (λ c κs. search needs) (λ c. search needs) returns (λ c. search needs) returns-2 (λ c. search needs) returns-3 (λ c. search needs) returns-4 (λ c. search needs) returns-5 (λ c. search needs) returns-6 (λ c. search needs) returns-7)

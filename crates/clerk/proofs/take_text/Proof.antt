@@ -18,5 +18,9 @@ returns-2 : tie.Need-returns-2
 unfolding textHouse textSide textSays
 returns-2 c = as-text _ _ _ _ (c .before .before .before .before .enum-told2 .given .1) (c .before .before .read-log .ensures)
 
+returns-3 : tie.Need-returns-3
+unfolding textHouse textSide textSays
+returns-3 c = as-text _ _ _ _ (c .before .before .before .before .enum-told3 .given .1) (c .before .before .restore .ensures)
+
 pub take-text-spec : {M : Type 1} → statement M
-take-text-spec = tie.close (tie.spec (λ c. search needs) (λ c κs. search needs) (λ c. search needs) (λ c κs. search needs) (λ c. search needs) returns (λ c. search needs) returns-2)
+take-text-spec = tie.close (tie.spec (λ c. search needs) (λ c κs. search needs) (λ c. search needs) (λ c κs. search needs) (λ c. search needs) (λ c κs. search needs) (λ c. search needs) returns (λ c. search needs) returns-2 (λ c. search needs) returns-3)

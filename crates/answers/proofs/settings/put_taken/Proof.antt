@@ -1,23 +1,11 @@
 -- The number, or the refusal and the line.
 use borrow.Author.Needs.{needs}
-use borrow.Author.Tests.{ne-eqb}
-use mathlib.Core.Path.{_≡_, sym, ap}
-use Prim.Native.Nat.{ℕ}
-use mathlib.Core.List.{List}
+use mathlib.Core.Path.{ap}
 use Rattle.text.specs.Bytes.{bytes}
-use Rattle.answers.proofs.Laws.{and-then, adds-as}
-use Rattle.answers.specs.Waiting.{Pieces, Adds}
+use Rattle.answers.proofs.Laws.{and-then, adds-as, as-accepted, as-refused}
 use Rattle.answers.specs.Replies.{lineSays}
-use Rattle.tank.specs.Rules.{whenAccepted}
 use Rattle.answers.proofs.settings.put_taken.Statement.{statement}
 use Rattle.answers.proofs.settings.put_taken.Tie as tie
-
-module _ {d o : List ℕ} {at r : ℕ} (number : ℕ) (a b : Pieces) where
-  as-accepted : number ≡ 0 → Adds d at a r o → Adds d at (whenAccepted number a b) r o
-  as-accepted e x = adds-as (sym (rw e)) x
-
-  as-refused : (number ≡ 0 → ⊥) → Adds d at b r o → Adds d at (whenAccepted number a b) r o
-  as-refused n x = adds-as (sym (rw (ne-eqb number 0 n))) x
 
 returns : tie.Need-returns
 returns c =

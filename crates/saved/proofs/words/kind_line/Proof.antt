@@ -1,0 +1,20 @@
+-- The line ends where the newline stands; where there is none, it is wrong.
+use borrow.Author.Needs.{needs}
+use Rattle.saved.proofs.WordLaws.{kind-here, kind-nowhere}
+use Rattle.saved.proofs.words.kind_line.Statement.{statement}
+use Rattle.saved.proofs.words.kind_line.Tie as tie
+
+returns : tie.Need-returns
+returns c =
+    let f = (c .before .before .before) in
+    let a = c .before .before .before .before .before .args in
+    kind-here (a .bytes .now) (a .from) (f .find .result) (f .find .ensures) (c .before .before .if1 .taken) (c .kind-after .result) (c .kind-after .ensures)
+
+returns-2 : tie.Need-returns-2
+returns-2 c =
+    let f = (c .before) in
+    let a = c .before .before .before .args in
+    kind-nowhere (a .bytes .now) (a .from) (f .find .result) (f .find .ensures) (c .if1 .left)
+
+pub kind-line-spec : {M : Type 1} → statement M
+kind-line-spec = tie.close (tie.spec (λ c κs. search needs) (λ c. search needs) (λ c. search needs) (λ c. search needs) (λ c. search needs) (λ c κs. search needs) returns returns-2)
