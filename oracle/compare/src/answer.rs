@@ -35,6 +35,10 @@ pub enum Answer {
     /// A plan that is proposed.
     Plan(Vec<Range>),
     Strip([u8; CELLS]),
+    /// Settings and tanks as a text.
+    Saved(Vec<u8>),
+    /// Refusal 13 of a saved text, with the first wrong line.
+    WrongLine(u64),
 }
 
 /// What a log has come to: edits, newlines, and where it stopped the refusal and the line.
@@ -96,6 +100,8 @@ impl Answer {
             Answer::Stretches(..) | Answer::Anchors(_) => "a list".into(),
             Answer::Extent(_) => "a stretch".into(),
             Answer::BadLine(_) => "refused 12".into(),
+            Answer::WrongLine(_) => "refused 13".into(),
+            Answer::Saved(_) => "a text".into(),
             Answer::Pairs(_) => "pairs".into(),
             Answer::Report(Report { stopped: Some((number, _)), .. }) => {
                 format!("a stop by {number}")
@@ -107,10 +113,11 @@ impl Answer {
         }
     }
 
-    /// The bytes of its lines; those of a strip need be no text.
+    /// The bytes of its lines; those of a strip need be no text. Nothing stands behind a saved text.
     pub fn bytes(&self) -> Vec<u8> {
         match self {
             Answer::Strip(cells) => [b"strip=", &cells[..], b"\n"].concat(),
+            Answer::Saved(text) => [format!("bytes={}\n", text.len()).as_bytes(), text].concat(),
             _ => self.to_string().into_bytes(),
         }
     }
@@ -159,6 +166,8 @@ impl fmt::Display for Answer {
             }
             Answer::Strip(cells) => writeln!(f, "strip={}", cells.escape_ascii()),
             Answer::BadLine(line) => writeln!(f, "refused=12\nline={line}"),
+            Answer::WrongLine(line) => writeln!(f, "refused=13\nline={line}"),
+            Answer::Saved(_) => f.write_str(&String::from_utf8_lossy(&self.bytes())),
             Answer::Report(Report { applied, lines, stopped }) => {
                 writeln!(f, "applied={applied}")?;
                 match stopped {

@@ -40,10 +40,13 @@ pub enum Call {
     Legend { place: u64, key: u16, letter: u8 },
     Strip { tank: u64, start: u64, k: u64, room: u64 },
     Party { party: Party },
+    Save { room: u64 },
+    SaveNeeded,
+    Restore { body: Vec<u8> },
 }
 
 /// Each op and its fields, in the order of their lines.
-pub const SHAPES: [(&str, &[&str]); 34] = [
+pub const SHAPES: [(&str, &[&str]); 37] = [
     ("open", &OPEN),
     ("annotate", &ANNOTATE),
     ("insert", &["tank", "at", "len"]),
@@ -78,6 +81,9 @@ pub const SHAPES: [(&str, &[&str]); 34] = [
     ("legend", &["place", "key", "letter"]),
     ("strip", &["tank", "start", "k", "room"]),
     ("party", &["party"]),
+    ("save", &["room"]),
+    ("save_needed", &[]),
+    ("restore", &["bytes"]),
 ];
 
 /// A body has so many bytes at most.
@@ -141,6 +147,9 @@ impl Call {
             Call::Legend { .. } => 31,
             Call::Strip { .. } => 32,
             Call::Party { .. } => 33,
+            Call::Save { .. } => 34,
+            Call::SaveNeeded => 35,
+            Call::Restore { .. } => 36,
         }
     }
 
@@ -165,7 +174,7 @@ impl Call {
     /// The bytes behind the call's lines.
     pub fn body(&self) -> &[u8] {
         match self {
-            Call::Settings { body } | Call::Log { body } => body,
+            Call::Settings { body } | Call::Log { body } | Call::Restore { body } => body,
             _ => &[],
         }
     }
@@ -222,8 +231,11 @@ impl Call {
             | Call::Runs { tank }
             | Call::WholeNeeded { tank } => numbers(&[tank]),
             Call::Age { tank, before, budget } => numbers(&[tank, before, budget]),
-            Call::Settings { ref body } | Call::Log { ref body } => numbers(&[body.len() as u64]),
-            Call::LogEnd => Vec::new(),
+            Call::Settings { ref body } | Call::Log { ref body } | Call::Restore { ref body } => {
+                numbers(&[body.len() as u64])
+            }
+            Call::LogEnd | Call::SaveNeeded => Vec::new(),
+            Call::Save { room } => numbers(&[room]),
             Call::Set { number } | Call::OpenSet { number } => numbers(&[number]),
             Call::Range { start, end } => numbers(&[start, end]),
             Call::Plan { tank, hold, runs } | Call::Propose { tank, hold, runs } => {
@@ -309,10 +321,13 @@ impl Call {
             30 => Call::Propose { tank, hold: n(1) as u16, runs: n(2) },
             31 => Call::Legend { place: n(0), key: n(1) as u16, letter: letter(2) },
             32 => Call::Strip { tank, start: n(start), k: n(2), room: n(3) },
-            _ => {
+            33 => {
                 let Field::Party(party) = fields[0] else { unreachable!("a party stands here") };
                 Call::Party { party }
             }
+            34 => Call::Save { room: n(0) },
+            35 => Call::SaveNeeded,
+            _ => Call::Restore { body: body.to_vec() },
         }
     }
 }

@@ -124,7 +124,11 @@ pub fn answers(
     for (number, call) in script.calls.iter().enumerate() {
         let before = is_edit(call).then(|| tanks.clone());
         let answer = tanks.call(call);
-        let said = mirror.call(before.as_ref().unwrap_or(&tanks), call, &answer);
+        let restored = matches!(call, Call::Restore { .. }) && answer == Answer::Accepted;
+        let said = match restored {
+            true => mirror.restored(&tanks.tanks),
+            false => mirror.call(before.as_ref().unwrap_or(&tanks), call, &answer),
+        };
         let parts = |got: String| Mismatch {
             script: place,
             call: number,
@@ -139,9 +143,10 @@ pub fn answers(
             Said::Answer(theirs) => return Err(parts(theirs.to_string())),
             Said::Panic(text) => return Err(parts(format!("panic: {text}\n"))),
         };
-        if rust && is_edit(call) && due(&tanks, call, number) {
-            let tank = call.tank().expect("an edit names a tank") as usize;
-            match mirror.agrees(tank, &tanks.tanks[tank]) {
+        let edited = rust && is_edit(call) && due(&tanks, call, number);
+        let changed = call.tank().filter(|_| edited).map(|tank| tank..tank + 1);
+        for tank in changed.unwrap_or(if restored { 0..8 } else { 0..0 }) {
+            match mirror.agrees(tank as usize, &tanks.tanks[tank as usize]) {
                 Some(false) => return Err(parts("another tank afterwards\n".into())),
                 Some(true) => tally.states += 1,
                 None => {}
@@ -172,7 +177,7 @@ fn due(tanks: &Tanks, call: &Call, number: usize) -> bool {
 
 fn kind(call: &Call, answer: &Answer) -> String {
     match answer {
-        Answer::Refused(_) | Answer::BadLine(_) => answer.kind(),
+        Answer::Refused(_) | Answer::BadLine(_) | Answer::WrongLine(_) => answer.kind(),
         _ => format!("{}: {}", call.name(), answer.kind()),
     }
 }

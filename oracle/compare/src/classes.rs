@@ -6,6 +6,7 @@ use crate::call::{Call, Settings};
 use crate::logs;
 use crate::mark::{only, Mark, Party};
 use crate::plans;
+use crate::saves;
 use crate::script::Script;
 use crate::sets;
 use crate::strips;
@@ -18,7 +19,7 @@ pub struct Class {
     write: fn(seed: u64, calls: usize) -> Author,
 }
 
-pub const CLASSES: [Class; 16] = [
+pub const CLASSES: [Class; 17] = [
     Class { name: "inside", about: "one tank with room, the oracle domain", write: inside },
     Class { name: "dense", about: "small positions, many collisions", write: dense },
     Class { name: "short", about: "tanks of few positions, down to none", write: short },
@@ -35,6 +36,7 @@ pub const CLASSES: [Class; 16] = [
     Class { name: "strips", about: "strips with any keys and letters", write: stripped },
     Class { name: "parties", about: "plant and laboratory by turns", write: parties },
     Class { name: "rooms", about: "marks of both parties, and one more of each", write: rooms },
+    Class { name: "saved", about: "states that are saved and restored", write: saved },
 ];
 
 impl Class {
@@ -44,7 +46,7 @@ impl Class {
     }
 }
 
-const HABIT: Habit =
+pub const HABIT: Habit =
     Habit { tanks: 1, reach: 10, marks: 16, wild: 0, inside: false, questions: 3, turns: 0 };
 
 /// All room for tank 0.
@@ -331,6 +333,27 @@ fn rooms(seed: u64, calls: usize) -> Author {
         if author.random.one_in(4) {
             author.open(settings);
         }
+    }
+    author.say(Call::Party { party: Party::Plant });
+    author
+}
+
+/// States of both parties, saved and restored; every other script stays inside the oracle domain.
+fn saved(seed: u64, calls: usize) -> Author {
+    let inside = seed % 2 == 1;
+    let wild = if inside { 0 } else { 90 };
+    let tanks = if seed % 3 == 0 { 8 } else { 2 };
+    let marks = if seed % 4 == 0 { 80 } else { 14 };
+    let mut author = Author::new(seed, Habit { tanks, marks, wild, inside, turns: 5, ..HABIT });
+    author.open([(20, 60); 8]);
+    if seed % 4 == 2 {
+        let mark = author.mark();
+        let left = author.random.below(13);
+        author.say(Call::Annotate { tank: 0, start: 0, end: 1, mark });
+        author.say(Call::Delete { tank: 0, start: left, end: T });
+    }
+    while author.calls.len() < calls {
+        saves::go_on(&mut author);
     }
     author.say(Call::Party { party: Party::Plant });
     author

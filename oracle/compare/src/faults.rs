@@ -2,6 +2,7 @@
 //! has to notice every one of them.
 
 mod parties;
+mod saved;
 
 use std::borrow::Cow;
 use std::collections::BTreeMap;
@@ -15,7 +16,7 @@ use crate::tank::{Stretch, Tank};
 use crate::tanks::Tanks;
 
 /// The name of a fault, and what it gets wrong.
-pub const FAULTS: [(&str, &str); 173] = [
+pub const FAULTS: [(&str, &str); 292] = [
     ("refusal1", "answers for tank 0 in place of refusal 1"),
     ("refusal2", "accepts settings that break the rule"),
     ("refusal3", "accepts an empty edit"),
@@ -186,6 +187,125 @@ pub const FAULTS: [(&str, &str); 173] = [
     ("party-open", "forgets the party at an opening"),
     ("party-first", "begins as the laboratory"),
     ("party-capital", "takes a party with a capital"),
+    ("save-short", "saves in a buffer that is one byte short"),
+    ("save-exact", "refuses a buffer that is just long enough"),
+    ("save-front", "writes the front of the text into a short buffer"),
+    ("save-needed", "counts one byte less than a text has"),
+    ("save-version", "writes a text of version 2"),
+    ("save-settings", "writes each limit as the share and each share as the limit"),
+    ("save-newline", "writes a newline behind the text"),
+    ("save-capital", "writes a set in capital digits"),
+    ("save-digits", "writes a set of fewer digits"),
+    ("save-own", "writes the marks of the party that asks"),
+    ("save-seven", "leaves the last tank out"),
+    ("save-order", "writes the marks by lamport first"),
+    ("save-last-first", "writes the last mark first"),
+    ("save-plants", "writes every mark as the plant's"),
+    ("save-cnt", "writes 0 for every counter"),
+    ("save-flags", "writes every flag byte with its highest bit"),
+    ("save-fresh", "writes an untouched tank without a run"),
+    ("save-touched", "writes a tank without marks as untouched"),
+    ("save-unmarked", "leaves unmarked runs out"),
+    ("save-narrow", "writes a run's length in 32 bits"),
+    ("save-bits", "gives the first mark the highest bit"),
+    ("spare-version", "reads a text of version 0 or 4"),
+    ("spare-share", "reads a share of 0 or 513"),
+    ("spare-limit", "reads a limit of 0 or 513"),
+    ("spare-ordered", "reads a limit under its share"),
+    ("spare-shares", "reads shares that sum to over 512"),
+    ("spare-tank", "reads tanks out of turn"),
+    ("spare-touched", "reads a 2 as touched"),
+    ("spare-length", "reads a length over 2^63 - 1"),
+    ("spare-fresh-length", "reads an untouched tank of another length"),
+    ("spare-marks", "reads over 64 marks"),
+    ("spare-fresh-marks", "reads an untouched tank with a mark"),
+    ("spare-party", "reads a mark of the plant behind one of the laboratory"),
+    ("spare-key-wide", "reads a key over 16 bits"),
+    ("spare-key", "reads keys that descend"),
+    ("spare-lamport-wide", "reads a lamport over 32 bits"),
+    ("spare-lamport", "reads lamports of a key that descend"),
+    ("spare-peer", "reads peers of a lamport that descend"),
+    ("spare-twice", "reads a mark twice"),
+    ("spare-cnt-wide", "reads a counter over 32 bits"),
+    ("spare-flags-wide", "reads flags over 8 bits"),
+    ("spare-nan", "reads a NaN"),
+    ("spare-runs", "reads more runs than the limit"),
+    ("spare-fresh-runs", "reads an untouched tank with other than one run"),
+    ("spare-empty", "reads a run without a position"),
+    ("spare-bit", "reads a set with a bit past the marks"),
+    ("spare-neighbour", "reads a set equal to that of the run before"),
+    ("spare-sum", "reads lengths that do not sum to the tank's"),
+    ("spare-wraps", "sums lengths in 64 bits"),
+    ("spare-unused", "reads a mark that no run carries"),
+    ("spare-room", "reads marks of the laboratory that there is no room for"),
+    ("spare-pool", "reads more runs than the pool has"),
+    ("spare-left", "reads a text with something left over"),
+    ("restore-zeros", "reads a number with a leading zero"),
+    ("restore-plus", "reads a number with a plus"),
+    ("restore-minus-zero", "reads -0"),
+    ("restore-space", "reads a number with a blank behind it"),
+    ("restore-return", "reads a line that ends with a carriage return"),
+    ("restore-capital", "reads capital digits"),
+    ("restore-digits", "reads a set of one digit"),
+    ("restore-kind", "reads a kind with a capital"),
+    ("restore-name", "reads a name with a capital"),
+    ("restore-blank", "reads over an empty line"),
+    ("restore-newline", "reads a text without its last newline"),
+    ("restore-1", "refuses version 1"),
+    ("restore-2", "refuses version 2"),
+    ("restore-512", "refuses a limit of 512"),
+    ("restore-untouched", "refuses an untouched tank"),
+    ("restore-emptied", "refuses a tank without positions"),
+    ("restore-longest", "refuses a length of 2^63 - 1"),
+    ("restore-64", "refuses 64 marks"),
+    ("restore-key", "refuses the largest key"),
+    ("restore-lamport", "refuses the largest lamport"),
+    ("restore-peer", "refuses the largest peer"),
+    ("restore-least", "refuses the least counter"),
+    ("restore-odd", "refuses an odd flag byte"),
+    ("restore-before", "refuses the flag byte of Before"),
+    ("restore-255", "refuses the largest flag byte"),
+    ("restore-infinite", "refuses an infinite value"),
+    ("restore-limit", "refuses just as many runs as the limit"),
+    ("restore-pool", "refuses just 512 runs in all"),
+    ("restore-shares", "refuses shares of just 512"),
+    ("restore-equal", "refuses a limit equal to its share"),
+    ("restore-plants", "refuses over 48 marks of the plant without one of the laboratory"),
+    ("restore-labs", "refuses over 16 marks of the laboratory"),
+    ("restore-unmarked", "refuses a touched tank without marks"),
+    ("restore-parties", "has the laboratory's identities go on behind the plant's"),
+    ("restore-across", "takes the last run of a tank for the neighbour of the next one's first"),
+    ("restore-twelve", "refuses a saved text by 12"),
+    ("restore-line", "names the line after the first wrong one"),
+    ("restore-sum-early", "names the line of the runs where lengths do not sum up"),
+    ("restore-sum-length", "names the line of the length there"),
+    ("restore-unused-early", "names the line of the marks where one is in no run"),
+    ("restore-room-early", "names the line of the marks where there is no room for them"),
+    ("restore-pool-early", "names the line of the runs where they pass the pool"),
+    ("restore-pool-late", "names the text's last line there"),
+    ("restore-ordered-early", "names the line of the share where its limit is less"),
+    ("restore-ordered-late", "names the last line of the settings there"),
+    ("restore-shares-early", "names the line of the last share where they pass the pool"),
+    ("restore-key-late", "names the line of the peer where a key descends"),
+    ("restore-lamport-late", "names the line of the peer where a lamport descends"),
+    ("restore-short-early", "names the last line of a text that is cut off"),
+    ("restore-left-early", "names the last line where something is left over"),
+    ("restore-begun", "takes the settings of a text that it refuses"),
+    ("restore-half", "takes the first tank of a text that it refuses"),
+    ("restore-idle", "accepts a text and changes nothing"),
+    ("restore-settings", "leaves the settings as they were"),
+    ("restore-seven", "leaves the last tank as it was"),
+    ("restore-first", "leaves the first tank as it was"),
+    ("restore-touches", "restores every tank as touched"),
+    ("restore-untouches", "restores a tank of length T without marks as untouched"),
+    ("restore-plant", "restores the plant's marks alone"),
+    ("restore-cnt", "restores 0 for every counter"),
+    ("restore-party", "forgets the party at a restore"),
+    ("restore-legend", "forgets the legend at a restore"),
+    ("restore-pending", "forgets the pending ranges at a restore"),
+    ("restore-log", "begins a new log at a restore"),
+    ("restore-kept", "forgets the kept sets at a restore"),
+    ("restore-counts", "counts the settings of a restore as a set that was read"),
     ("body-lines", "does not count the newlines of bodies"),
     ("run-count", "counts one run too many in a tank of 100 runs or more"),
     ("malformed-line", "names the line after the malformed one"),
@@ -335,12 +455,13 @@ impl Faulty {
         }
     }
 
-    /// The same of what has to do with sets, logs, strips, plans and parties.
+    /// The same of what has to do with sets, logs, strips, plans, parties and saved texts.
     fn aside(&mut self, call: &Call) -> Option<Answer> {
         let kept = self.kept_instead(call).or_else(|| self.log_instead(call));
         let kept = kept.or_else(|| self.strip_instead(call));
         let kept = kept.or_else(|| self.planned_instead(call));
-        kept.or_else(|| self.party_instead(call))
+        let kept = kept.or_else(|| self.party_instead(call));
+        kept.or_else(|| self.saved_instead(call))
     }
 
     /// The same of plans.

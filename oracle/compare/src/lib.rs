@@ -5,9 +5,10 @@
 //! - `settings`: settings texts and the sets that are kept.
 //! - `log`: the edge boxes' log.
 //! - `strip`: the strip for the tanker bay.
+//! - `saved`: settings and tanks as a text.
 //! - `mirror`: the Rust beside the model, and the oracle domain.
 //! - `random`, `author`, `classes`, `exhaust`, `sets`, `logs`, `plans`, `strips`,
-//!   `counters`, `parties`, `text`: scripts.
+//!   `counters`, `parties`, `draft`, `saves`, `text`: scripts.
 //! - `console`, `check`, `shrink`, `tally`: running a console, comparing, making a finding small.
 //! - `faults`: wrong answers on purpose, to see that the comparison notices them.
 //! - `cases`: document 01's checked examples as calls.
@@ -21,6 +22,7 @@ pub mod check;
 pub mod classes;
 pub mod console;
 pub mod counters;
+pub mod draft;
 pub mod exhaust;
 pub mod faults;
 pub mod log;
@@ -33,6 +35,8 @@ pub mod plans;
 pub mod random;
 pub mod reader;
 pub mod refusals;
+pub mod saved;
+pub mod saves;
 pub mod script;
 pub mod sets;
 pub mod settings;

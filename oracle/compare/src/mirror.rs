@@ -1,8 +1,8 @@
 //! The original beside the model: two maps of the Rust for each tank, one for each party, which get
 //! the edits that lie inside document 01's oracle domain: annotates and removals the party's own,
 //! insertions and deletions all. An edit outside it that changes a tank takes that tank out of the
-//! comparison until the next opening. So what the Rust answers a party rests on nothing of the
-//! other's marks.
+//! comparison until the next opening or restore. So what the Rust answers a party rests on nothing
+//! of the other's marks.
 
 use std::cell::Cell;
 use std::collections::{BTreeMap, BTreeSet};
@@ -14,7 +14,7 @@ use crate::answer::{Aged, Anchor, Answer, Extent, Listed, Range};
 use crate::call::Call;
 use crate::mark::{Content, Id, Mark, Party, Value, PARTIES};
 use crate::strip::{self, Legend, CELLS};
-use crate::tank::Tank;
+use crate::tank::{Tank, T};
 use crate::tanks::Tanks;
 
 /// The Rust's answer to a call.
@@ -56,13 +56,16 @@ impl Mirror {
                 self.tanks = fresh(self.joined);
                 return Said::Nothing;
             }
-            // The Rust has no settings, nothing pending, no legend and no parties.
+            // The Rust has no settings, nothing pending, no legend, no parties and no text.
             Call::Settings { .. }
             | Call::Set { .. }
             | Call::LogEnd
             | Call::Range { .. }
             | Call::Legend { .. }
-            | Call::Party { .. } => return Said::Nothing,
+            | Call::Party { .. }
+            | Call::Save { .. }
+            | Call::SaveNeeded
+            | Call::Restore { .. } => return Said::Nothing,
             // Nor has it a log: the tanks leave the comparison.
             Call::Log { .. } => {
                 self.tanks = std::array::from_fn(|_| None);
@@ -105,6 +108,26 @@ impl Mirror {
         }
         let answer = quietly(|| planned(pair, hold, runs, &before.pending));
         answer.map_or_else(Said::Panic, Said::Answer)
+    }
+
+    /// Follows an accepted restore: each tank gets two new maps, built by edits inside the domain.
+    /// Where there are none for it, the tank leaves the comparison.
+    pub fn restored(&mut self, tanks: &[Tank; 8]) -> Said {
+        self.tanks = fresh(self.joined);
+        for (place, tank) in self.tanks.iter_mut().zip(tanks) {
+            let Some(pair) = place else { continue };
+            let mut laid = true;
+            for who in PARTIES {
+                match quietly(|| pair[who as usize].lay(&tank.shown_to(who))) {
+                    Ok(done) => laid &= done,
+                    Err(panic) => return Said::Panic(panic),
+                }
+            }
+            if !laid {
+                *place = None;
+            }
+        }
+        Said::Nothing
     }
 
     /// Whether the Rust's maps of a tank mean what the parties are shown of the model's tank;
@@ -169,7 +192,10 @@ pub fn inside(who: Party, tank: &Tank, call: &Call) -> bool {
         | Call::Legend { .. }
         | Call::Party { .. }
         | Call::Plan { .. }
-        | Call::Propose { .. } => false,
+        | Call::Propose { .. }
+        | Call::Save { .. }
+        | Call::SaveNeeded
+        | Call::Restore { .. } => false,
     }
 }
 
@@ -207,6 +233,33 @@ impl Original {
             self.map.annotate(range.clone(), &theirs(MOMENT));
             self.map.remove(MOMENT.id, range.end - 1);
         }
+    }
+}
+
+impl Original {
+    /// Builds what a party is shown of a tank on a fresh map. No edit inside the domain empties a
+    /// map or marks its last position, so it says no to a tank that asks for either.
+    fn lay(&mut self, tank: &Tank) -> bool {
+        if !tank.touched {
+            return true;
+        }
+        if tank.length == 0 || !tank.at(tank.length - 1).is_empty() {
+            return false;
+        }
+        self.touch(0..1);
+        if tank.length < T {
+            self.map.delete(0..(T - tank.length) as usize);
+        }
+        if tank.length > T {
+            self.map.insert(0, (tank.length - T) as usize);
+        }
+        for stretch in tank.whole() {
+            for mark in crate::mark::listed(&stretch.set) {
+                self.contents.insert(mark.id, mark.content);
+                self.map.annotate(stretch.from as usize..stretch.to as usize, &theirs(mark));
+            }
+        }
+        true
     }
 }
 

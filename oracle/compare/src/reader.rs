@@ -6,6 +6,8 @@ use crate::mark::{Value, PARTIES};
 /// A line's bytes before its newline, at most.
 const LONGEST_LINE: usize = 64;
 
+pub const KINDS: [&str; 4] = ["null", "bool", "whole", "decimal"];
+
 /// What an input holds: its whole groups, where they end, and the malformed line after them.
 pub struct Read {
     pub calls: Vec<Call>,
@@ -79,8 +81,7 @@ impl Group {
         match name {
             "letter" => return None,
             "kind" => {
-                self.kind =
-                    ["null", "bool", "whole", "decimal"].contains(&text).then(|| text.into())?
+                self.kind = KINDS.contains(&text).then(|| text.into())?;
             }
             "value" => self.fields.push(Field::Value(value(&self.kind, text)?)),
             "party" => {
@@ -136,27 +137,30 @@ fn largest(name: &str) -> u64 {
 }
 
 /// Decimal digits without leading zeros.
-fn number(text: &str, largest: u64) -> Option<u64> {
+pub fn number(text: &str, largest: u64) -> Option<u64> {
     let digits = !text.is_empty() && text.bytes().all(|byte| byte.is_ascii_digit());
     let plain = digits && (text == "0" || !text.starts_with('0'));
     text.parse().ok().filter(|&number| plain && number <= largest)
 }
 
-fn value(kind: &str, text: &str) -> Option<Value> {
+pub fn value(kind: &str, text: &str) -> Option<Value> {
     match kind {
         "null" => text.is_empty().then_some(Value::Null),
         "bool" => number(text, 1).map(|bit| Value::Bool(bit == 1)),
         "whole" => whole(text).map(Value::Whole),
-        _ => {
-            let hex = |byte: u8| byte.is_ascii_digit() || (b'a'..=b'f').contains(&byte);
-            let sixteen = text.len() == 16 && text.bytes().all(hex);
-            sixteen.then(|| u64::from_str_radix(text, 16).ok())?.map(Value::Decimal)
-        }
+        _ => bits(text).map(Value::Decimal),
     }
 }
 
+/// Sixteen lower-case hex digits.
+pub fn bits(text: &str) -> Option<u64> {
+    let hex = |byte: u8| byte.is_ascii_digit() || (b'a'..=b'f').contains(&byte);
+    let sixteen = text.len() == 16 && text.bytes().all(hex);
+    sixteen.then(|| u64::from_str_radix(text, 16).ok())?
+}
+
 /// A signed number, never -0.
-fn whole(text: &str) -> Option<i64> {
+pub fn whole(text: &str) -> Option<i64> {
     match text.strip_prefix('-') {
         Some(digits) => {
             let size = number(digits, 1 << 63).filter(|&size| size > 0)?;

@@ -6,6 +6,7 @@ use crate::logs;
 use crate::mark::{Content, Id, Mark, Value};
 use crate::parties;
 use crate::plans;
+use crate::saves;
 use crate::sets;
 use crate::strips;
 use crate::tank::{LONGEST, T};
@@ -294,7 +295,13 @@ fn pool() -> Vec<Call> {
 pub fn refusals() -> Vec<Call> {
     let tanks =
         [openings(), ranges(), ageings(), longest(), contents(), counters(), limit(), pool()];
-    let requests =
-        [plans::refused(), sets::refused(), logs::refused(), strips::refused(), parties::refused()];
+    let requests = [
+        plans::refused(),
+        sets::refused(),
+        logs::refused(),
+        strips::refused(),
+        parties::refused(),
+        saves::refused(),
+    ];
     [tanks.concat(), requests.concat()].concat()
 }

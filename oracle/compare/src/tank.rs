@@ -39,6 +39,23 @@ impl Default for Tank {
     }
 }
 
+impl Tank {
+    /// A tank of sets in a row, each over so many positions, the last one up to the length.
+    pub fn laid(touched: bool, length: u64, runs: impl IntoIterator<Item = (u64, Set)>) -> Self {
+        let mut tank = Self { length, touched, begins: BTreeMap::new() };
+        tank.begins.extend((length > 0).then(|| (0, Rc::new(Set::new()))));
+        let mut place: u64 = 0;
+        for (len, set) in runs {
+            if place < length {
+                tank.begins.insert(place, Rc::new(set));
+            }
+            place = place.saturating_add(len);
+        }
+        tank.tidy();
+        tank
+    }
+}
+
 /// Edits. Each one is asked for only where the rules accept it.
 impl Tank {
     pub fn annotate(&mut self, who: Party, start: u64, end: u64, mark: Mark) {

@@ -5,6 +5,7 @@ use crate::answer::{Answer, Range};
 use crate::call::{Call, Settings};
 use crate::log::Log;
 use crate::mark::{listed, only, Mark, Party, Set, PARTIES};
+use crate::saved::{self, Saved};
 use crate::settings::{self, Kept};
 use crate::strip::{self, Legend};
 use crate::tank::{self, Tank, LONGEST};
@@ -90,6 +91,9 @@ impl Tanks {
                 return Ok(Answer::Accepted);
             }
             Call::Plan { tank, hold, runs } => return self.plan(*tank, *hold, *runs),
+            Call::Save { room } => return self.save(*room),
+            Call::SaveNeeded => return Ok(Answer::Needed(self.text().len() as u64)),
+            Call::Restore { body } => return Ok(self.restore(saved::read(body, ""))),
             _ => {}
         }
         let tank = call.tank().expect("an edit and a question name a tank");
@@ -157,6 +161,28 @@ impl Tanks {
         let after = self.tank(tank).planned(hold, runs, &ranges).ok_or(15)?;
         self.tanks[tank as usize] = after;
         Ok(Answer::Accepted)
+    }
+
+    /// Settings and all tanks as a text of the newest version, whoever asks.
+    pub fn text(&self) -> Vec<u8> {
+        saved::text_of(saved::NEWEST, &self.settings, &self.tanks)
+    }
+
+    fn save(&self, room: u64) -> Judged<Answer> {
+        let text = self.text();
+        refuse_if(text.len() as u64 > room, 11)?;
+        Ok(Answer::Saved(text))
+    }
+
+    /// What a text said takes the place of settings and tanks, and of nothing else.
+    pub fn restore(&mut self, read: Result<Saved, u64>) -> Answer {
+        match read {
+            Err(line) => Answer::WrongLine(line),
+            Ok(Saved { settings, tanks }) => {
+                (self.settings, self.tanks) = (settings, tanks);
+                Answer::Accepted
+            }
+        }
     }
 
     fn edit_range(&self, tank: u64, start: u64, end: u64) -> Judged<()> {
@@ -290,6 +316,9 @@ impl Tanks {
             | Call::OpenSet { .. }
             | Call::Log { .. }
             | Call::LogEnd
+            | Call::Save { .. }
+            | Call::SaveNeeded
+            | Call::Restore { .. }
             | Call::Annotate { .. }
             | Call::Insert { .. }
             | Call::Delete { .. }

@@ -6,7 +6,7 @@ use crate::random::Random;
 use crate::script::Script;
 
 /// Lines that are malformed wherever they stand, or only where another is wanted.
-const LINES: [&str; 68] = [
+const LINES: [&str; 72] = [
     "",
     "op",
     "op=",
@@ -62,6 +62,10 @@ const LINES: [&str; 68] = [
     "letter=\r",
     "k=18446744073709551616",
     "op=party",
+    "op=save",
+    "op=save_needed",
+    "op=restore",
+    "room=18446744073709551616",
     "party=lab",
     "party=plant",
     "party=Lab",

@@ -14,12 +14,20 @@ fn no_fault_is_found_where_there_is_none() {
     assert!(output.status.success(), "{}", String::from_utf8_lossy(&output.stdout));
 }
 
+fn is_found(fault: &str, about: &str) {
+    let output = compare(&["--break", fault]);
+    let text = String::from_utf8_lossy(&output.stdout);
+    let found = output.status.code() == Some(1) && text.contains("--- expected");
+    assert!(found, "{fault} ({about}) was not noticed: {text}");
+}
+
 #[test]
 fn every_fault_is_found() {
-    for (fault, about) in FAULTS {
-        let output = compare(&["--break", fault]);
-        let text = String::from_utf8_lossy(&output.stdout);
-        let found = output.status.code() == Some(1) && text.contains("--- expected");
-        assert!(found, "{fault} ({about}) was not noticed: {text}");
-    }
+    let at_once = std::thread::available_parallelism().map_or(1, usize::from);
+    std::thread::scope(|scope| {
+        for first in 0..at_once {
+            let faults = FAULTS.iter().skip(first).step_by(at_once);
+            scope.spawn(move || faults.for_each(|(fault, about)| is_found(fault, about)));
+        }
+    });
 }

@@ -13,7 +13,7 @@ use compare::mirror::hush;
 use compare::script::Script;
 use compare::shrink::shrink;
 use compare::tally::Tally;
-use compare::{cases, counters, logs, parties, plans, refusals, sets, strips, text};
+use compare::{cases, counters, logs, parties, plans, refusals, saves, sets, strips, text};
 
 const USE: &str = "\
 compare CONSOLE [--quick | --long] [--seeds A..B] [--calls N] [--only CLASS | --without CLASS]
@@ -27,7 +27,8 @@ CONSOLE       the console to compare: call scripts in, answers out
 --seeds A..B  random scripts with these seeds, in place of the round's own
 --calls N     so many calls in a random script, in place of the round's own
 --only CLASS  one class alone: a class of random scripts, or cases, refusals, settings,
-              logs, planned, letters, counters, party, text, exhaust, both
+              damaged, restored, logs, planned, letters, counters, party, text,
+              exhaust, both
 --without CLASS
               all classes but one
 
@@ -135,6 +136,8 @@ impl Round {
         };
         part("cases", &mut std::iter::once(fixed("cases", cases::cases())))?;
         part("refusals", &mut std::iter::once(fixed("refusals", refusals::refusals())))?;
+        part("damaged", &mut saves::damaged())?;
+        part("restored", &mut saves::restored())?;
         part("settings", &mut sets::scripts().into_iter())?;
         part("logs", &mut logs::scripts().into_iter())?;
         part("planned", &mut plans::scripts())?;

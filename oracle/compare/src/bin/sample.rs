@@ -19,7 +19,7 @@ use compare::settings::text_of;
 use compare::tally::Tally;
 
 /// How many scripts of each class stand in the sample, and how many calls each has.
-const SHARE: [(&str, u64, usize); 12] = [
+const SHARE: [(&str, u64, usize); 13] = [
     ("inside", 5, 150),
     ("dense", 4, 120),
     ("short", 3, 120),
@@ -32,6 +32,7 @@ const SHARE: [(&str, u64, usize); 12] = [
     ("plans", 2, 150),
     ("strips", 1, 200),
     ("parties", 2, 75),
+    ("saved", 2, 40),
 ];
 
 /// The seed of the first script of each class.
@@ -106,6 +107,7 @@ fn wanted() -> Vec<&'static str> {
         "refused 10",
         "refused 11",
         "refused 12",
+        "refused 13",
         "refused 14",
         "refused 15",
         "refused 16",
@@ -157,5 +159,8 @@ fn wanted() -> Vec<&'static str> {
         "legend: accepted",
         "strip: a strip",
         "party: accepted",
+        "save: a text",
+        "save_needed: a number",
+        "restore: accepted",
     ]
 }
