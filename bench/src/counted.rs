@@ -7,10 +7,10 @@ use std::process::{self, Command};
 use std::{env, fs};
 
 use crate::side::Side;
-use crate::table::Row;
-use crate::work::{Work, MARKS, RUNS};
+use crate::table::{self, Row};
+use crate::work::{cells, Work};
 
-/// So many turns for every cell and both sides.
+/// So many turns for every cell and every side.
 const TURNS: u64 = 64;
 
 /// What callgrind is asked for, by the numbers of its header callgrind.h.
@@ -61,52 +61,40 @@ fn ask(request: &[u64; 6]) {
 
 /// What callgrind runs: each cell with no turns and with turns, for one side after the other.
 pub fn count(sides: &[Box<dyn Side>], chosen: &[Work]) {
-    for (work, marks, runs) in cells(chosen) {
+    for cell in cells(chosen) {
         let sums = sides.iter().map(|side| {
-            side.time(work, runs, marks, 0);
+            side.time(cell, 0);
             note();
-            let clock = side.time(work, runs, marks, TURNS);
+            let clock = side.time(cell, TURNS);
             note();
-            clock.each(TURNS).sum
+            clock.sum
         });
         let sums: Vec<u64> = sums.collect();
-        let agree = sums.iter().all(|&sum| sum == sums[0]);
-        assert!(agree, "{work:?}, {runs} runs, {marks} marks: other answers");
+        assert!(sums.iter().all(|&sum| sum == sums[0]), "{cell:?}: other answers");
     }
-}
-
-fn cells(chosen: &[Work]) -> impl Iterator<Item = (Work, u64, u64)> + '_ {
-    let sizes = |work| MARKS.into_iter().flat_map(move |m| RUNS.map(|runs| (work, m, runs)));
-    chosen.iter().copied().flat_map(sizes)
 }
 
 /// The instructions of one call, for each work, number of marks, side and number of runs.
-pub fn rows(sides: usize, chosen: &[Work], wanted: &[String]) -> Vec<Row<f64>> {
-    let mut totals = totals(wanted).into_iter();
-    let mut rows: Vec<Row<f64>> = Vec::new();
-    for (work, marks, runs) in cells(chosen) {
-        if runs == RUNS[0] {
-            rows.push(Row { work, marks, cells: vec![Vec::new(); sides] });
-        }
-        for cell in &mut rows.last_mut().expect("a row").cells {
-            let idle = totals.next().expect("what no turns took");
-            let busy = totals.next().expect("what the turns took");
-            cell.push((busy - idle) / TURNS as f64);
-        }
-    }
-    rows
+pub fn rows(sides: usize, chosen: &[Work], tank: u64, names: &[String]) -> Vec<Row<f64>> {
+    let mut totals = totals(tank, names).into_iter();
+    let mut total = || totals.next().expect("what the turns took, or no turns");
+    let mut one = || {
+        let (idle, busy) = (total(), total());
+        (busy - idle) / TURNS as f64
+    };
+    table::rows(cells(chosen).map(|cell| (cell, (0..sides).map(|_| one()).collect())))
 }
 
 /// What callgrind wrote down, one after the other.
-fn totals(wanted: &[String]) -> Vec<f64> {
+fn totals(tank: u64, names: &[String]) -> Vec<f64> {
     let notes = env::temp_dir().join(format!("mavelino-bench-{}", process::id()));
     let ended = Command::new("valgrind")
         .args(["--quiet", "--tool=callgrind", "--collect-atstart=no"])
         .arg("--combine-dumps=yes")
         .arg(format!("--callgrind-out-file={}", notes.display()))
         .arg(env::current_exe().expect("this program"))
-        .arg("--under-callgrind")
-        .args(wanted)
+        .args(["--under-callgrind".to_string(), format!("--tank={tank}")])
+        .args(names)
         .status();
     let ended = ended.expect("valgrind, which is needed to count instructions");
     assert!(ended.success(), "callgrind: {ended}");

@@ -1,10 +1,12 @@
 //! Times the original and the tank map on the same work, or counts their instructions, and prints
-//! tables.
+//! one table.
 //!
-//!     cargo run --release [--features count] [--counted] [WORK..]
+//!     cargo run --release [--features count] [-- [--counted] [--rounds=N] [--tank=N] [WORK..]]
+//!     cargo run --release -- --floor
 
 mod count;
 mod counted;
+mod floor;
 mod original_side;
 #[cfg(ours)]
 mod ours;
@@ -13,10 +15,13 @@ mod table;
 mod work;
 
 use side::{Clock, Side, Timed};
-use work::{Work, MARKS, RUNS, WORK};
+use work::{cells, Cell, Work, WORK};
 
-/// Samples of one work, of which the least counts: what disturbs a sample only adds to it.
-const SAMPLES: usize = 9;
+/// Rounds over all work, if no other number is named, and samples of each work in a round. The least
+/// counts: what disturbs a sample only adds to it, and what disturbs all samples of a round is seldom
+/// there in the next.
+const ROUNDS: u64 = 3;
+const SAMPLES: u64 = 5;
 /// How long a sample is, in nanoseconds, where the side has enough turns for it.
 const SAMPLE: f64 = 5e6;
 /// The turns over which the answers of the sides are compared.
@@ -40,74 +45,127 @@ fn keep_memory() {
     }
 }
 
+/// The tank that the library works on, if none is named.
+const TANK: u64 = 5;
+
 fn main() {
     keep_memory();
-    let (words, wanted): (Vec<String>, Vec<String>) =
+    let (words, names): (Vec<String>, Vec<String>) =
         std::env::args().skip(1).partition(|word| word.starts_with("--"));
-    let chosen = |work: &Work| wanted.is_empty() || wanted.iter().any(|name| name == work.name());
-    let chosen: Vec<Work> = WORK.into_iter().filter(chosen).collect();
-    let sides = sides();
-    let names: Vec<&str> = sides.iter().map(|side| side.name()).collect();
-    match words.first().map(String::as_str) {
-        None => table::print(&names, &rows(&sides, &chosen)),
-        Some("--counted") => {
-            table::print_counted(&names, &counted::rows(sides.len(), &chosen, &wanted))
+    let (mut mode, mut rounds, mut tank) = (Mode::Timed, ROUNDS, TANK);
+    for word in &words {
+        let number = || word.split_once('=').and_then(|(_, number)| number.parse().ok());
+        match word.split('=').next() {
+            Some("--rounds") => rounds = number().expect("how many rounds"),
+            Some("--tank") => tank = number().expect("a tank's number"),
+            Some("--counted") => mode = Mode::Counted,
+            Some("--floor") => mode = Mode::Floor,
+            Some("--under-callgrind") => mode = Mode::UnderCallgrind,
+            _ => panic!("{word} is none of the words that there are"),
         }
-        Some("--under-callgrind") => counted::count(&sides, &chosen),
-        Some(word) => panic!("{word} is none of the words that there are"),
+    }
+    let known = |name: &String| WORK.iter().any(|work| work.name() == name);
+    assert!(names.iter().all(known), "{names:?}: not all of them are work that there is");
+    let chosen = |work: &Work| names.is_empty() || names.iter().any(|name| name == work.name());
+    let chosen: Vec<Work> = WORK.into_iter().filter(chosen).collect();
+    let sides = sides(tank);
+    let heads: Vec<&str> = sides.iter().map(|side| side.name()).collect();
+    match mode {
+        Mode::Timed => table::print(&heads, &rows(&sides, &chosen, rounds)),
+        Mode::Counted => {
+            table::print_counted(&heads, &counted::rows(sides.len(), &chosen, tank, &names))
+        }
+        Mode::Floor => floor::print(),
+        Mode::UnderCallgrind => counted::count(&sides, &chosen),
     }
 }
 
+enum Mode {
+    Timed,
+    Counted,
+    Floor,
+    UnderCallgrind,
+}
+
+/// The original, what was before where an archive of it is linked, and ours.
 #[cfg(ours)]
-fn sides() -> Vec<Box<dyn Side>> {
-    vec![Box::new(original_side::OriginalSide), Box::new(ours::OurSide)]
+fn sides(tank: u64) -> Vec<Box<dyn Side>> {
+    vec![
+        Box::new(original_side::OriginalSide),
+        #[cfg(before)]
+        Box::new(ours::OurSide::before(tank)),
+        Box::new(ours::OurSide::ours(tank)),
+    ]
 }
 
 #[cfg(not(ours))]
-fn sides() -> Vec<Box<dyn Side>> {
+fn sides(_: u64) -> Vec<Box<dyn Side>> {
     eprintln!("The static library of the tank map is not at hand: the original is timed alone.");
     vec![Box::new(original_side::OriginalSide)]
 }
 
-fn rows(sides: &[Box<dyn Side>], chosen: &[Work]) -> Vec<table::Row<Timed>> {
-    chosen.iter().flat_map(|&work| MARKS.map(|marks| row(sides, work, marks))).collect()
+/// What was measured of a cell on one side: the least with no turns, and with so many.
+struct Sampled {
+    turns: u64,
+    idle: Clock,
+    busy: Clock,
 }
 
-/// All sides and numbers of runs; the sides must have given the same answers.
-fn row(sides: &[Box<dyn Side>], work: Work, marks: u64) -> table::Row<Timed> {
-    let cells: Vec<Vec<Timed>> = sides
-        .iter()
-        .map(|side| RUNS.map(|runs| measured(side.as_ref(), work, runs, marks)).to_vec())
-        .collect();
-    for (place, runs) in RUNS.into_iter().enumerate() {
-        let sum = cells[0][place].sum;
-        let agree = cells.iter().all(|side| side[place].sum == sum);
-        assert!(agree, "{work:?}, {runs} runs, {marks} marks: other answers");
+impl Sampled {
+    fn first(side: &dyn Side, cell: Cell) -> Sampled {
+        let idle = side.time(cell, 0);
+        let turns = enough(side, cell, idle);
+        Sampled { turns, idle, busy: side.time(cell, turns) }
     }
-    table::Row { work, marks, cells }
+
+    fn again(&mut self, side: &dyn Side, cell: Cell) {
+        self.idle = self.idle.least(side.time(cell, 0));
+        self.busy = self.busy.least(side.time(cell, self.turns));
+    }
+
+    /// One call, without what no turns take.
+    fn each(&self) -> Timed {
+        self.busy.less(self.idle).each(self.turns)
+    }
 }
 
-/// One call, without what no turns take. The sum is that of the first turns, which are as many for
-/// every side.
-fn measured(side: &dyn Side, work: Work, runs: u64, marks: u64) -> Timed {
-    let idle = least(side, work, runs, marks, 0);
-    let sum = side.time(work, runs, marks, COMPARED).each(COMPARED).sum;
-    let turns = enough(side, work, runs, marks, idle);
-    let timed = least(side, work, runs, marks, turns).less(idle).each(turns);
-    Timed { sum, ..timed }
+/// The sides take turns at the machine, so that what disturbs it for a while meets all of them.
+fn rows(sides: &[Box<dyn Side>], chosen: &[Work], rounds: u64) -> Vec<table::Row<Timed>> {
+    let first = |cell| {
+        agree(sides, cell);
+        (cell, sides.iter().map(|side| Sampled::first(side.as_ref(), cell)).collect())
+    };
+    let mut sampled: Vec<(Cell, Vec<Sampled>)> = cells(chosen).map(first).collect();
+    for _ in 0..rounds {
+        for (cell, sampled) in &mut sampled {
+            for _ in 0..SAMPLES {
+                let each = sides.iter().zip(sampled.iter_mut());
+                each.for_each(|(side, sampled)| sampled.again(side.as_ref(), *cell));
+            }
+        }
+    }
+    let timed = sampled.iter().map(|(cell, sampled)| {
+        let timed: Vec<Timed> = sampled.iter().map(Sampled::each).collect();
+        (*cell, timed)
+    });
+    table::rows(timed)
 }
 
-/// So many turns that a sample is long enough, or as many as the side has.
-fn enough(side: &dyn Side, work: Work, runs: u64, marks: u64, idle: Clock) -> u64 {
-    let most = side.most_turns(work, runs, marks);
+/// The sums of the first turns, which are as many for every side: all must have given the same
+/// answers.
+fn agree(sides: &[Box<dyn Side>], cell: Cell) {
+    let sums: Vec<u64> = sides.iter().map(|side| side.time(cell, COMPARED).sum).collect();
+    assert!(sums.iter().all(|&sum| sum == sums[0]), "{cell:?}: other answers");
+}
+
+/// So many turns that a sample is long enough, by itself and beside what no turns take, or as many as
+/// the side has.
+fn enough(side: &dyn Side, cell: Cell, idle: Clock) -> u64 {
+    let most = side.most_turns(cell);
+    let long = SAMPLE.max(idle.nanoseconds);
     let mut turns = COMPARED;
-    while turns < most && side.time(work, runs, marks, turns).less(idle).nanoseconds < SAMPLE {
+    while turns < most && side.time(cell, turns).less(idle).nanoseconds < long {
         turns = most.min(2 * turns);
     }
     turns
-}
-
-fn least(side: &dyn Side, work: Work, runs: u64, marks: u64, turns: u64) -> Clock {
-    let samples = (0..SAMPLES).map(|_| side.time(work, runs, marks, turns));
-    samples.min_by(|a, b| a.nanoseconds.total_cmp(&b.nanoseconds)).expect("a sample")
 }

@@ -7,12 +7,12 @@ use std::sync::Arc;
 use original::{join_neighbours, op, Bare, Key, LoroValue, Mark, StyleOp};
 
 use crate::side::{sum, Clock, Side};
-use crate::work::{build, run, span, Work, ABSENT, EXTRA, WIDTH};
+use crate::work::{build, run, span, Cell, Work, ABSENT, ASKED, BASE, EXTRA, WIDTH};
 
 pub struct OriginalSide;
 
 fn mark(number: u64) -> Arc<StyleOp> {
-    let id = (number as u16 + 1, number as u32 + 10, 1);
+    let id = (BASE + number as u16 + 1, number as u32 + 10, 1);
     op(&Mark { id, cnt: 0, flags: 0x84, value: LoroValue::I64(number as i64 + 1) })
 }
 
@@ -42,6 +42,7 @@ fn base(work: Work, runs: u64, marks: u64) -> Bare {
 struct Needs {
     runs: u64,
     extra: Arc<StyleOp>,
+    extras_key: Key,
     absent: Key,
     highest: Key,
 }
@@ -65,11 +66,22 @@ fn call(work: Work, tank: &mut Bare, needs: &Needs, turn: u64) -> u64 {
         Work::RemoveWide => {
             tank.remove(&needs.extra, span - 1);
         }
-        Work::HasKey => return tank.has_key(at + 3..at + 6, &needs.absent) as u64,
-        Work::HasKeyWide => return tank.has_key(0..span, &needs.absent) as u64,
-        Work::Value => return tank.value(at + 5, &needs.highest),
+        Work::HasKey | Work::HasKeyShared => {
+            return tank.has_key(at + 3..at + 6, &needs.absent) as u64
+        }
+        Work::HasKeyWide | Work::HasKeyWideShared => {
+            return tank.has_key(0..span, &needs.absent) as u64
+        }
+        Work::Value | Work::ValueShared => return tank.value(at + 5, &needs.highest),
+        Work::Marks | Work::MarksShared => return tank.keys(at + 5) as u64,
     }
-    tank.length() as u64
+    // The number of an edit that is accepted. (What a removal answers is not compared: docs/DIFFERENCES.md.)
+    0
+}
+
+/// What the last tank counts for.
+fn ending(tank: &Bare, needs: &Needs) -> u64 {
+    tank.length() as u64 + tank.has_key(0..ASKED as usize, &needs.extras_key) as u64
 }
 
 impl Side for OriginalSide {
@@ -78,23 +90,29 @@ impl Side for OriginalSide {
     }
 
     /// A copy of a large tank takes far longer than an edit of it.
-    fn most_turns(&self, work: Work, runs: u64, marks: u64) -> u64 {
+    fn most_turns(&self, Cell { work, marks, runs }: Cell) -> u64 {
         if work.is_question() {
             return 1 << 20;
         }
         ((1 << 20) / (runs * marks)).max(64)
     }
 
-    fn time(&self, work: Work, runs: u64, marks: u64, turns: u64) -> Clock {
+    fn time(&self, Cell { work, marks, runs }: Cell, turns: u64) -> Clock {
         let mut base = base(work, runs, marks);
-        let highest = Key::new(marks as u16);
-        let needs = Needs { runs, extra: extra(), absent: Key::new(ABSENT), highest };
+        let needs = Needs {
+            runs,
+            extra: extra(),
+            extras_key: Key::new(EXTRA),
+            absent: Key::new(ABSENT),
+            highest: Key::new(BASE + marks as u16),
+        };
         let mut clock = Clock::default();
         if work.is_question() {
             clock.run(|| sum(0..turns, |turn| call(work, black_box(&mut base), &needs, turn)));
             return clock;
         }
         let copies = (2000 / (runs * marks)).clamp(1, 64);
+        let mut end = ending(&base, &needs);
         for first in (0..turns).step_by(copies as usize) {
             let last = turns.min(first + copies);
             let mut tanks = vec![base.clone(); (last - first) as usize];
@@ -102,7 +120,9 @@ impl Side for OriginalSide {
                 let tank = |turn: u64| (turn - first) as usize;
                 sum(first..last, |turn| call(work, black_box(&mut tanks[tank(turn)]), &needs, turn))
             });
+            end = ending(tanks.last().expect("a tank for each turn"), &needs);
         }
+        clock.add(end);
         clock
     }
 }

@@ -1,4 +1,4 @@
-//! The two sides of the measurement.
+//! The sides of the measurement.
 
 use std::ops::Range;
 use std::sync::OnceLock;
@@ -6,17 +6,17 @@ use std::time::Instant;
 
 use crate::count::{self, Counted, Each};
 use crate::counted;
-use crate::work::Work;
+use crate::work::Cell;
 
 pub trait Side {
     fn name(&self) -> &'static str;
 
     /// So many turns are worth asking for at most.
-    fn most_turns(&self, work: Work, runs: u64, marks: u64) -> u64;
+    fn most_turns(&self, cell: Cell) -> u64;
 
-    /// Does the work so many times on the tank of this size. With no turns, what it takes is not
+    /// Does the work so many times on the tank of that size. With no turns, what it takes is not
     /// the work's.
-    fn time(&self, work: Work, runs: u64, marks: u64, turns: u64) -> Clock;
+    fn time(&self, cell: Cell, turns: u64) -> Clock;
 }
 
 #[derive(Clone, Copy, Debug)]
@@ -25,8 +25,6 @@ pub struct Timed {
     pub nanoseconds: f64,
     /// For each call, where bytes are counted.
     pub bytes: Each,
-    /// The sum of the answers, by which both sides are seen to have done the same.
-    pub sum: u64,
 }
 
 /// Adds up the answers of some turns.
@@ -38,8 +36,9 @@ pub fn sum(turns: Range<u64>, call: impl FnMut(u64) -> u64) -> u64 {
 #[derive(Clone, Copy, Default)]
 pub struct Clock {
     pub nanoseconds: f64,
+    /// The sum of the answers, by which the sides are seen to have done the same.
+    pub sum: u64,
     counted: Counted,
-    sum: u64,
 }
 
 impl Clock {
@@ -54,15 +53,29 @@ impl Clock {
         self.sum = self.sum.wrapping_add(sum);
     }
 
+    /// To the sum alone.
+    pub fn add(&mut self, answer: u64) {
+        self.sum = self.sum.wrapping_add(answer);
+    }
+
     pub fn each(self, calls: u64) -> Timed {
         let nanoseconds = (self.nanoseconds / calls as f64).max(0.0);
-        Timed { nanoseconds, bytes: self.counted.each(calls), sum: self.sum }
+        Timed { nanoseconds, bytes: self.counted.each(calls) }
+    }
+
+    /// The one that ran for less.
+    pub fn least(self, other: Clock) -> Clock {
+        if other.nanoseconds < self.nanoseconds {
+            other
+        } else {
+            self
+        }
     }
 
     /// Without the work that another clock ran.
     pub fn less(self, other: Clock) -> Clock {
         let nanoseconds = self.nanoseconds - other.nanoseconds;
-        Clock { nanoseconds, counted: self.counted - other.counted, sum: self.sum }
+        Clock { nanoseconds, sum: self.sum, counted: self.counted - other.counted }
     }
 }
 

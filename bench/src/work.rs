@@ -1,15 +1,22 @@
-//! What is timed, the same for both sides.
+//! What is timed, the same for all sides.
 //!
 //! A tank of `runs` runs: all but the last have `WIDTH` positions each, the last is the unmarked
 //! rest. Run `i` is full, with all marks, where `i` is even or odd as `runs` is; the others but
 //! run 0 carry the lower half of the marks. So neighbours differ, whatever the counts. Mark `b`
-//! has key `b + 1`, lamport `b + 10`, peer 1, flags 0x84 and the whole number `b + 1` as its value.
-//! The extra mark has key 777, lamport 1, peer 1, flags 0x84 and null.
+//! has key `BASE + b + 1`, lamport `b + 10`, peer 1, flags 0x84 and the whole number `b + 1` as its
+//! value. The extra mark has key `EXTRA`, lamport 1, peer 1, flags 0x84 and null.
+//!
+//! In a shared tank the run in the middle also carries a mark of the laboratory's, which the plant,
+//! who asks, is not shown. The original knows no parties and holds the plant's marks alone.
 
 pub const WIDTH: u64 = 10;
-pub const EXTRA: u16 = 777;
+/// What every key is counted from. It is handed to the library, so that its compiler knows no key.
+pub const BASE: u16 = 100;
+pub const EXTRA: u16 = BASE + 777;
 /// A key that no mark has.
-pub const ABSENT: u16 = 999;
+pub const ABSENT: u16 = BASE + 999;
+/// The positions that the last tank is asked for the extra mark's key in.
+pub const ASKED: u64 = 5000;
 
 pub const RUNS: [u64; 3] = [3, 50, 500];
 pub const MARKS: [u64; 3] = [1, 5, 20];
@@ -38,9 +45,16 @@ pub enum Work {
     HasKeyWide,
     /// The value of the highest key at a position.
     Value,
+    /// The marks at a position.
+    Marks,
+    /// The same four, asked of a shared tank.
+    HasKeyShared,
+    HasKeyWideShared,
+    ValueShared,
+    MarksShared,
 }
 
-pub const WORK: [Work; 11] = [
+pub const WORK: [Work; 16] = [
     Work::Annotate,
     Work::AnnotateWide,
     Work::Insert,
@@ -52,12 +66,17 @@ pub const WORK: [Work; 11] = [
     Work::HasKey,
     Work::HasKeyWide,
     Work::Value,
+    Work::Marks,
+    Work::HasKeyShared,
+    Work::HasKeyWideShared,
+    Work::ValueShared,
+    Work::MarksShared,
 ];
 
 impl Work {
     /// Whether it leaves the tank as it was.
     pub fn is_question(self) -> bool {
-        matches!(self, Work::HasKey | Work::HasKeyWide | Work::Value)
+        self as u64 >= Work::HasKey as u64
     }
 
     pub fn name(self) -> &'static str {
@@ -73,8 +92,27 @@ impl Work {
             Work::HasKey => "has key",
             Work::HasKeyWide => "has key wide",
             Work::Value => "value",
+            Work::Marks => "marks",
+            Work::HasKeyShared => "has key, shared tank",
+            Work::HasKeyWideShared => "has key wide, shared tank",
+            Work::ValueShared => "value, shared tank",
+            Work::MarksShared => "marks, shared tank",
         }
     }
+}
+
+/// A work on a tank of so many runs, with so many marks.
+#[derive(Clone, Copy, Debug)]
+pub struct Cell {
+    pub work: Work,
+    pub marks: u64,
+    pub runs: u64,
+}
+
+/// All sizes of the work that is chosen, by work, then marks, then runs.
+pub fn cells(chosen: &[Work]) -> impl Iterator<Item = Cell> + '_ {
+    let rows = chosen.iter().flat_map(|&work| MARKS.map(|marks| (work, marks)));
+    rows.flat_map(|(work, marks)| RUNS.map(|runs| Cell { work, marks, runs }))
 }
 
 /// Where the marked part ends.

@@ -46,10 +46,10 @@ pub summed-all : {f : ℕ → ℕ} {n m s : ℕ} → Summed f n m s → m ≤ n 
 summed-all {f} {n} {m} s l = let e : n ≡ m = omega (arith, s .most, l) in rw (← e) (s .is)
 
 -- ---- The house that the last turn leaves
-pub left-none : (edit : ℕ → Edit) (h : House) → h ≡ rules.left edit 0 h
+pub left-none : (edit : ℕ → Edit) (t : ℕ) (h : House) → h ≡ rules.left edit t 0 h
 unfolding rules.left
-left-none edit h = refl
+left-none edit t h = refl
 
-pub left-next : (edit : ℕ → Edit) (n : ℕ) (h : House) → afterAt h 0 (edit n) ≡ rules.left edit (n + 1) h
+pub left-next : (edit : ℕ → Edit) (t n : ℕ) (h : House) → afterAt h t (edit n) ≡ rules.left edit t (n + 1) h
 unfolding rules.left
-left-next edit n h = rw add-one refl
+left-next edit t n h = rw add-one refl

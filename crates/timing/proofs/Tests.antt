@@ -12,7 +12,7 @@ spots : (spot 50 0 ≡ 30) × (spot 50 1 ≡ 100) × (spot 50 7 ≡ 30)
 spots = (refl, refl, refl)
 
 -- between two runs, and from the end of the marked part
-calls : (editAt 3 50 0 ≡ inserting Plant 40 2) × (editAt 7 50 0 ≡ removing (idOf extra) 489)
+calls : (editAt 3 0 50 0 ≡ inserting Plant 40 2) × (editAt 7 100 50 0 ≡ removing (idOf (extra 100)) 489)
 calls = (refl, refl)
 
 -- the sum has 64 bits
@@ -20,6 +20,6 @@ wraps : summed (λ k. 2 ^ 63 + k) 2 ≡ 1
 unfolding sumBelow
 wraps = refl
 
--- there is no work 11
-none : timed 11 3 1 5 ≡ 0
+-- there is no work 16
+none : timed 16 0 0 3 1 5 ≡ 0
 none = refl

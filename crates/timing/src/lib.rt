@@ -1,5 +1,6 @@
 // The work of `bench/` on the tank map: a tank is built, one call is made on it `turns` times, and what the calls answer is added up, so that
-// the benchmark sees that both sides did the same. `specs/Work.antt` says what the sum is, by the rules alone.
+// the benchmark sees that both sides did the same. `specs/Work.antt` says what the sum is, by the rules alone. Which of the eight tanks it is,
+// and what its keys are counted from, is handed in, so that no compiler can make a call for one tank or key.
 ghost use Prim.Native.Nat.{_≤_, _<_, _%_, _/_};
 ghost use mathlib.Core.Path.{_≡_};
 ghost use mathlib.Core.Bool.{cond};
@@ -46,12 +47,12 @@ fn marked(marks: u64) -> u64
 }
 
 // Mark b of the tank.
-fn mark(b: u64) -> Mark
-    requires { ⌜ b ≤ 63 ⌝ }
-    ensures { λ r. ⌜ r ≡ rules.markB b ⌝ }
+fn mark(base: u64, b: u64) -> Mark
+    requires { ⌜ (base < 32768) × (b ≤ 63) ⌝ }
+    ensures { λ r. ⌜ r ≡ rules.markB base b ⌝ }
 {
     Mark {
-        key: (b + 1) as u16,
+        key: (base + b + 1) as u16,
         flags: 0x84,
         party: Party::Plant,
         lamport: (b + 10) as u32,
@@ -62,11 +63,12 @@ fn mark(b: u64) -> Mark
 }
 
 // The mark that annotate and removal are timed with.
-fn extra() -> Mark
-    ensures { λ r. ⌜ r ≡ rules.extra ⌝ }
+fn extra(base: u64) -> Mark
+    requires { ⌜ base < 32768 ⌝ }
+    ensures { λ r. ⌜ r ≡ rules.extra base ⌝ }
 {
     Mark {
-        key: 777,
+        key: (base + 777) as u16,
         flags: 0x84,
         party: Party::Plant,
         lamport: 1,
@@ -77,84 +79,107 @@ fn extra() -> Mark
 }
 
 // Its identity.
-fn extra_id() -> Identity
-    ensures { λ r. ⌜ r ≡ idOf rules.extra ⌝ }
+fn extra_id(base: u64) -> Identity
+    requires { ⌜ base < 32768 ⌝ }
+    ensures { λ r. ⌜ r ≡ idOf (rules.extra base) ⌝ }
 {
     Identity {
         party: Party::Plant,
-        key: 777,
+        key: (base + 777) as u16,
         lamport: 1,
         peer: 1,
     }
 }
 
-// Tank 0 with a mark more.
-fn annotated(s: Tanks, start: u64, end: u64, m: Mark) -> Tanks
-    requires { ⌜ Sound s ⌝ }
-    ensures { λ r. ⌜ MeansHouse (rules.annotated start end m (meaning s)) r ⌝ }
+// The lab's mark, in a tank that both parties have marks in.
+fn others(base: u64) -> Mark
+    requires { ⌜ base < 32768 ⌝ }
+    ensures { λ r. ⌜ r ≡ rules.others base ⌝ }
 {
-    let e = s.annotate(0, start, end, m);
+    Mark {
+        key: (base + 888) as u16,
+        flags: 0x84,
+        party: Party::Lab,
+        lamport: 1,
+        cnt: 0,
+        peer: 2,
+        value: Value::Null,
+    }
+}
+
+// The tank with a mark more.
+fn annotated(s: Tanks, tank: u64, start: u64, end: u64, m: Mark) -> Tanks
+    requires { ⌜ Sound s ⌝ }
+    ensures { λ r. ⌜ MeansHouse (rules.annotated tank start end m (meaning s)) r ⌝ }
+{
+    let e = s.annotate(tank, start, end, m);
     e.tanks
 }
 
 // The lower half of the marks, on all marked runs.
-fn lower(s: Tanks, runs: u64, marks: u64) -> Tanks
+fn lower(s: Tanks, tank: u64, base: u64, runs: u64, marks: u64) -> Tanks
     requires { ⌜ Sound s ⌝ }
-    requires { ⌜ Sized runs × (marks ≤ 63) ⌝ }
-    ensures { λ r. ⌜ MeansHouse (rules.lower runs marks (meaning s)) r ⌝ }
+    requires { ⌜ (base < 32768) × Sized runs × (marks ≤ 63) ⌝ }
+    ensures { λ r. ⌜ MeansHouse (rules.lower tank base runs marks (meaning s)) r ⌝ }
 {
     let mut u = s;
     let mut b = 0;
     while b < marks / 2 {
-        u = annotated(u, runs % 2 * 10, runs * 10 - 10, mark(b));
+        u = annotated(u, tank, runs % 2 * 10, runs * 10 - 10, mark(base, b));
         b += 1;
     }
     u
 }
 
 // Mark b on every other run.
-fn every_other(s: Tanks, runs: u64, b: u64) -> Tanks
+fn every_other(s: Tanks, tank: u64, base: u64, runs: u64, b: u64) -> Tanks
     requires { ⌜ Sound s ⌝ }
-    requires { ⌜ Sized runs × (b ≤ 63) ⌝ }
-    ensures { λ r. ⌜ MeansHouse (rules.everyOther runs b (meaning s)) r ⌝ }
+    requires { ⌜ (base < 32768) × Sized runs × (b ≤ 63) ⌝ }
+    ensures { λ r. ⌜ MeansHouse (rules.everyOther tank base runs b (meaning s)) r ⌝ }
 {
     let mut u = s;
     let mut j = 0;
     while j < runs / 2 {
         let at = (runs % 2 + j * 2) * 10;
-        u = annotated(u, at, at + 10, mark(b));
+        u = annotated(u, tank, at, at + 10, mark(base, b));
         j += 1;
     }
     u
 }
 
 // The upper half of the marks, each on every other run.
-fn upper(s: Tanks, runs: u64, marks: u64) -> Tanks
+fn upper(s: Tanks, tank: u64, base: u64, runs: u64, marks: u64) -> Tanks
     requires { ⌜ Sound s ⌝ }
-    requires { ⌜ Sized runs × (marks ≤ 63) ⌝ }
-    ensures { λ r. ⌜ MeansHouse (rules.upper runs marks (meaning s)) r ⌝ }
+    requires { ⌜ (base < 32768) × Sized runs × (marks ≤ 63) ⌝ }
+    ensures { λ r. ⌜ MeansHouse (rules.upper tank base runs marks (meaning s)) r ⌝ }
 {
     let mut u = s;
     let mut j = 0;
     while j < marks - marks / 2 {
-        u = every_other(u, runs, marks / 2 + j);
+        u = every_other(u, tank, base, runs, marks / 2 + j);
         j += 1;
     }
     u
 }
 
-// The tank that the work starts from, as `bench/src/work.rs` has it, with all room for tank 0.
-fn built(runs: u64, marks: u64) -> Tanks
-    requires { ⌜ Sized runs × (marks ≤ 63) ⌝ }
-    ensures { λ r. ⌜ MeansHouse (rules.built runs marks) r ⌝ }
+// The tank that the work starts from, as `bench/src/work.rs` has it, with all room for it.
+fn built(tank: u64, base: u64, runs: u64, marks: u64) -> Tanks
+    requires { ⌜ (tank < 8) × (base < 32768) × Sized runs × (marks ≤ 63) ⌝ }
+    ensures { λ r. ⌜ MeansHouse (rules.built tank base runs marks) r ⌝ }
 {
     let mut settings = [Setting { share: 1, limit: 1 }; 8];
-    settings[0] = Setting {
+    settings[tank as usize] = Setting {
         share: 1,
         limit: 505,
     };
     let o = tanks::open(settings);
-    upper(lower(o.tanks, runs, marks), runs, marks)
+    upper(
+        lower(o.tanks, tank, base, runs, marks),
+        tank,
+        base,
+        runs,
+        marks,
+    )
 }
 
 // A remainder.
@@ -183,16 +208,16 @@ fn middle(runs: u64) -> u64
 }
 
 // The edit of a turn, for works 0 to 7.
-fn edit_at(work: u64, runs: u64, turn: u64) -> Edit
-    requires { ⌜ Sized runs ⌝ }
-    ensures { λ r. ⌜ editOf r ≡ rules.editAt work runs turn ⌝ }
+fn edit_at(work: u64, base: u64, runs: u64, turn: u64) -> Edit
+    requires { ⌜ (base < 32768) × Sized runs ⌝ }
+    ensures { λ r. ⌜ editOf r ≡ rules.editAt work base runs turn ⌝ }
 {
     let at = spot(runs, turn);
     if work == 0 {
-        return Edit::Annotate(at + 3, at + 8, extra());
+        return Edit::Annotate(at + 3, at + 8, extra(base));
     }
     if work == 1 {
-        return Edit::Annotate(1, runs * 10 - 11, extra());
+        return Edit::Annotate(1, runs * 10 - 11, extra(base));
     }
     if work == 2 {
         return Edit::Insert(Party::Plant, at + 5, 1);
@@ -207,44 +232,57 @@ fn edit_at(work: u64, runs: u64, turn: u64) -> Edit
         return Edit::Delete(Party::Plant, at + 5, at + 15);
     }
     if work == 6 {
-        return Edit::Remove(extra_id(), middle(runs) + 9);
+        return Edit::Remove(extra_id(base), middle(runs) + 9);
     }
-    Edit::Remove(extra_id(), runs * 10 - 11)
+    Edit::Remove(extra_id(base), runs * 10 - 11)
 }
 
 // What the edits start from: for a removal one run in the middle, or the whole marked part, carries the extra mark.
-fn carrying(work: u64, runs: u64, s: Tanks) -> Tanks
+fn carrying(work: u64, tank: u64, base: u64, runs: u64, s: Tanks) -> Tanks
     requires { ⌜ Sound s ⌝ }
-    requires { ⌜ Sized runs ⌝ }
-    ensures { λ r. ⌜ MeansHouse (rules.carrying work runs (meaning s)) r ⌝ }
+    requires { ⌜ (base < 32768) × Sized runs ⌝ }
+    ensures { λ r. ⌜ MeansHouse (rules.carrying work tank base runs (meaning s)) r ⌝ }
 {
     if work == 6 {
         let at = middle(runs);
-        return annotated(s, at, at + 10, extra());
+        return annotated(s, tank, at, at + 10, extra(base));
     }
     if work == 7 {
-        return annotated(s, 0, runs * 10 - 10, extra());
+        return annotated(s, tank, 0, runs * 10 - 10, extra(base));
     }
     s
 }
 
-// How many positions tank 0 has.
-fn length(s: Tanks) -> u64
+// What is asked: from work 12 on the run in the middle carries the lab's mark too.
+fn parted(work: u64, tank: u64, base: u64, runs: u64, s: Tanks) -> Tanks
     requires { ⌜ Sound s ⌝ }
-    ensures { λ r. ⌜ r ≡ tankAt (meaning s) 0 .length ⌝ }
+    requires { ⌜ (base < 32768) × Sized runs ⌝ }
+    ensures { λ r. ⌜ MeansHouse (rules.parted work tank base runs (meaning s)) r ⌝ }
 {
-    let c = s.length(0);
+    if work < 12 {
+        return s;
+    }
+    let at = middle(runs);
+    annotated(s, tank, at, at + 10, others(base))
+}
+
+// How many positions the tank has.
+fn length(s: Tanks, tank: u64) -> u64
+    requires { ⌜ (Sound s) × (tank < 8) ⌝ }
+    ensures { λ r. ⌜ r ≡ tankAt (meaning s) tank .length ⌝ }
+{
+    let c = s.length(tank);
     match c {
         Count::Refused(_) => 0,
         Count::Counts(n) => n,
     }
 }
 
-// An insertion counts for the marks of its answer, another edit for the length after it.
-fn score(work: u64, marks: u64, positions: u64) -> u64
-    ensures { λ r. ⌜ r ≡ cond (eqb (work / 2) 1) marks positions ⌝ }
+// An insertion counts for the marks of its answer, another edit for its number.
+fn score(work: u64, marks: u64, number: u64) -> u64
+    ensures { λ r. ⌜ r ≡ cond (eqb (work / 2) 1) marks number ⌝ }
 {
-    if work / 2 == 1 { marks } else { positions }
+    if work / 2 == 1 { marks } else { number }
 }
 
 // 1 for yes.
@@ -276,20 +314,24 @@ fn if_shown(n: u64, s: Shown) -> u64
     }
 }
 
-// A key that no mark has, in a range: 1 for yes.
-fn has_key(s: Tanks, start: u64, end: u64) -> u64
-    requires { ⌜ Sound s ⌝ }
-    ensures { λ r. ⌜ r ≡ rules.oneIfYes (keyAsked (meaning s) 0 Plant start end 999) ⌝ }
+// Whether a mark with the extra one's key is left: 1 for yes.
+fn has_extra(s: Tanks, tank: u64, base: u64) -> u64
+    requires { ⌜ (Sound s) × (base < 32768) ⌝ }
+    ensures { λ r. ⌜ r ≡ rules.extraLeft tank base (meaning s) ⌝ }
 {
-    one_if_yes(ask::range_contains_key(s, 0, Party::Plant, start, end, 999))
+    one_if_yes(ask::range_contains_key(s, tank, Party::Plant, 0, 5000, (base + 777) as u16))
 }
 
-// Where the range begins in which works 8 and 9 ask: three positions of a run, or the whole marked part.
+// Where the range begins that is asked for a key: three positions of a run, or for the wide work the whole marked part.
 fn key_from(work: u64, runs: u64, turn: u64) -> u64
     requires { ⌜ Sized runs ⌝ }
     ensures { λ r. ⌜ r ≡ rules.keyFrom work runs turn ⌝ }
 {
-    if work == 8 { spot(runs, turn) + 3 } else { 0 }
+    if work % 2 == 0 {
+        spot(runs, turn) + 3
+    } else {
+        0
+    }
 }
 
 // Where it ends.
@@ -297,81 +339,117 @@ fn key_to(work: u64, runs: u64, turn: u64) -> u64
     requires { ⌜ Sized runs ⌝ }
     ensures { λ r. ⌜ r ≡ rules.keyTo work runs turn ⌝ }
 {
-    if work == 8 {
+    if work % 2 == 0 {
         spot(runs, turn) + 6
     } else {
         runs * 10 - 10
     }
 }
 
-// Works 0 to 7. That the last state is asked a question keeps a compiler from leaving the edits' work undone.
-fn edits(work: u64, s: Tanks, runs: u64, turns: u64) -> u64
-    requires { ⌜ Sound s ⌝ }
-    requires { ⌜ Sized runs ⌝ }
-    ensures { λ r. ⌜ r ≡ rules.editSum work runs turns (meaning s) ⌝ }
+// Works 0 to 7. That the last state is asked two questions keeps a compiler from leaving the edits' work undone.
+fn edits(work: u64, s: Tanks, tank: u64, base: u64, runs: u64, turns: u64) -> u64
+    requires { ⌜ (Sound s) × (tank < 8) ⌝ }
+    requires { ⌜ (base < 32768) × Sized runs ⌝ }
+    ensures { λ r. ⌜ r ≡ rules.editSum work tank base runs turns (meaning s) ⌝ }
 {
     let mut u = s;
     let mut sum = 0;
     let mut k = 0;
     while k < turns {
-        let e = s.edit(0, edit_at(work, runs, k));
+        let e = s.edit(tank, edit_at(work, base, runs, k));
         u = e.tanks;
-        sum = wrapping_add_u64(sum, score(work, e.styles.count as u64, length(u)));
+        sum = wrapping_add_u64(sum, score(work, e.styles.count as u64, e.number));
         k += 1;
     }
-    wrapping_add_u64(sum, has_key(u, 0, 5000))
+    wrapping_add_u64(
+        sum,
+        wrapping_add_u64(length(u, tank), has_extra(u, tank, base)),
+    )
 }
 
-// Works 8 and 9.
-fn keys(work: u64, s: Tanks, runs: u64, turns: u64) -> u64
+// Works 8, 9, 12 and 13: a key that no mark has, in a range.
+fn keys(work: u64, s: Tanks, tank: u64, base: u64, runs: u64, turns: u64) -> u64
     requires { ⌜ Sound s ⌝ }
-    requires { ⌜ Sized runs ⌝ }
-    ensures { λ r. ⌜ r ≡ rules.summed (rules.keyScore work runs (meaning s)) turns ⌝ }
+    requires { ⌜ (base < 32768) × Sized runs ⌝ }
+    ensures { λ r. ⌜ r ≡ rules.summed (rules.keyScore work tank base runs (meaning s)) turns ⌝ }
 {
     let mut sum = 0;
     let mut k = 0;
     while k < turns {
-        sum = wrapping_add_u64(
-            sum,
-            has_key(s, key_from(work, runs, k), key_to(work, runs, k)),
-        );
+        let from = key_from(work, runs, k);
+        let to = key_to(work, runs, k);
+        let t = ask::range_contains_key(s, tank, Party::Plant, from, to, (base + 999) as u16);
+        sum = wrapping_add_u64(sum, one_if_yes(t));
         k += 1;
     }
     sum
 }
 
-// Work 10: the value of the highest key at a position.
-fn values(s: Tanks, runs: u64, marks: u64, turns: u64) -> u64
+// Works 10 and 14: the value of the highest key at a position.
+fn values(s: Tanks, tank: u64, base: u64, runs: u64, marks: u64, turns: u64) -> u64
     requires { ⌜ Sound s ⌝ }
-    requires { ⌜ Sized runs × (marks ≤ 63) ⌝ }
-    ensures { λ r. ⌜ r ≡ rules.summed (rules.valueScore runs marks (meaning s)) turns ⌝ }
+    requires { ⌜ (base < 32768) × Sized runs × (marks ≤ 63) ⌝ }
+    ensures { λ r. ⌜ r ≡ rules.summed (rules.valueScore tank base runs marks (meaning s)) turns ⌝ }
 {
     let mut sum = 0;
     let mut k = 0;
     while k < turns {
-        let v = ask::value_at(s, 0, Party::Plant, spot(runs, k) + 5, marks as u16);
+        let at = spot(runs, k) + 5;
+        let key = (base + marks) as u16;
+        let v = ask::value_at(s, tank, Party::Plant, at, key);
         sum = wrapping_add_u64(sum, if_shown(marks, v));
         k += 1;
     }
     sum
 }
 
-// The sum of a work, from 0 to 10, over so many turns on a tank of so many runs and marks; any other number answers 0.
-#[no_mangle]
-pub extern "C" fn timing(work: u64, runs: u64, marks: u64, turns: u64) -> u64
-    ensures { λ r. ⌜ r ≡ rules.timed work (rules.sized runs) (rules.marked marks) turns ⌝ }
+// Works 11 and 15: the marks at a position.
+fn sets(s: Tanks, tank: u64, runs: u64, turns: u64) -> u64
+    requires { ⌜ Sound s ⌝ }
+    requires { ⌜ Sized runs ⌝ }
+    ensures { λ r. ⌜ r ≡ rules.summed (rules.setScore tank runs (meaning s)) turns ⌝ }
 {
+    let mut sum = 0;
+    let mut k = 0;
+    while k < turns {
+        let a = ask::styles_at(s, tank, Party::Plant, spot(runs, k) + 5);
+        sum = wrapping_add_u64(sum, a.styles.count as u64);
+        k += 1;
+    }
+    sum
+}
+
+// Works 8 to 15.
+fn asking(work: u64, s: Tanks, tank: u64, base: u64, runs: u64, marks: u64, turns: u64) -> u64
+    requires { ⌜ Sound s ⌝ }
+    requires { ⌜ (base < 32768) × Sized runs × (marks ≤ 63) ⌝ }
+    ensures { λ r. ⌜ r ≡ rules.askSum work tank base runs marks turns (meaning s) ⌝ }
+{
+    if work % 4 < 2 {
+        return keys(work, s, tank, base, runs, turns);
+    }
+    if work % 4 == 2 {
+        return values(s, tank, base, runs, marks, turns);
+    }
+    sets(s, tank, runs, turns)
+}
+
+// The sum of a work, from 0 to 15, over so many turns on a tank of so many runs and marks; any other number answers 0. The tank's number counts
+// modulo 8, and what keys are counted from modulo 32,768.
+#[no_mangle]
+pub extern "C" fn timing(work: u64, tank: u64, base: u64, runs: u64, marks: u64, turns: u64) -> u64
+    ensures { λ r. ⌜ r ≡ rules.timed work (tank % 8) (base % 32768) (rules.sized runs) (rules.marked marks) turns ⌝ }
+{
+    let t = rest(tank, 8);
+    let b = rest(base, 32768);
     let n = sized(runs);
     let m = marked(marks);
-    let s = built(n, m);
+    let s = built(t, b, n, m);
     if work < 8 {
-        return edits(work, carrying(work, n, s), n, turns);
+        return edits(work, carrying(work, t, b, n, s), t, b, n, turns);
     }
-    if work < 10 {
-        return keys(work, s, n, turns);
-    }
-    if work == 10 {
-        return values(s, n, m, turns);
+    if work < 16 {
+        return asking(work, parted(work, t, b, n, s), t, b, n, m, turns);
     }
     0
 }

@@ -1,6 +1,6 @@
 -- By the number of the work.
 use borrow.Author.Needs.{needs}
-use borrow.Author.Tests.{ne-eqb}
+use borrow.Author.Tests.{eq-eqb, ne-eqb}
 use Rattle.timing.proofs.key_to.Statement.{statement}
 use Rattle.timing.proofs.key_to.Tie as tie
 
@@ -8,4 +8,4 @@ pub key-to-spec : {M : Type 1} → statement M
 key-to-spec =
     tie.close
     (tie.spec (λ c κs. search needs) (λ c. search needs) (λ c. search needs) (λ c. search needs)
-    (λ c. rw (c .before .if1 .taken, c .spot .ensures .0)) (λ c. rw (ne-eqb _ _ (c .if1 .left))))
+    (λ c. rw (eq-eqb _ _ (c .before .if1 .taken), c .spot .ensures .0)) (λ c. rw (ne-eqb _ _ (c .if1 .left))))

@@ -238,6 +238,12 @@ impl Bare {
         }
     }
 
+    /// How many keys a position carries.
+    #[inline]
+    pub fn keys(&self, pos: usize) -> usize {
+        self.0.get_styles_of_range(pos..pos + 1).map_or(0, |styles| styles.len())
+    }
+
     #[inline]
     pub fn length(&self) -> usize {
         *self.0.tree.root_cache() as usize
