@@ -267,6 +267,28 @@ module _ (lens sets : List ℕ) where
   copy-holds f base from to k m h =
       omega (arith, total-copy f base from to (runs lens sets k), total-copy f base from to (runs lens sets m), total-mono k m h)
 
+  -- runs without a position of from .. to add nothing to the copy
+  copy-idle : (f : ℕ → ℕ) (base : List Run) (from to k m : ℕ) → k ≤ m → ((i : ℕ) → k ≤ i → i < m → clip from to (total (runs lens sets i)) (getD lens i 0) ≡ 0)
+      → copyRuns f base from to (runs lens sets m) ≡ copyRuns f base from to (runs lens sets k)
+  unfolding runs copyRuns
+  copy-idle f base from to k zero h idle = let e : 0 ≡ k = omega arith in ap (λ (i : ℕ). copyRuns f base from to (runs lens sets i)) e
+  copy-idle f base from to k (suc m) h idle =
+      elim (decLt m k) [
+        | yes l ↦ let e : suc m ≡ k = omega arith in ap (λ (i : ℕ). copyRuns f base from to (runs lens sets i)) e
+        | no l ↦
+            push-none (copyRuns f base from to (runs lens sets m)) (clip from to (total (runs lens sets m)) (getD lens m 0)) (f (getD sets m 0)) (idle m (omega arith) (omega arith))
+            ∙ copy-idle f base from to k m (omega arith) (λ i a b. idle i a (omega arith))
+      ]
+
+  -- those before `from`
+  pub copy-early : (f : ℕ → ℕ) (base : List Run) (from to k : ℕ) → total (runs lens sets k) ≤ from → copyRuns f base from to (runs lens sets k) ≡ base
+  unfolding runs copyRuns
+  copy-early f base from to k h = copy-idle f base from to 0 k (omega arith) (λ i a b. omega (arith, total-more i, total-mono (i + 1) k (omega arith)))
+
+  -- those from `to` on
+  pub copy-late : (f : ℕ → ℕ) (base : List Run) (from to k m : ℕ) → k ≤ m → to ≤ total (runs lens sets k) → copyRuns f base from to (runs lens sets m) ≡ copyRuns f base from to (runs lens sets k)
+  copy-late f base from to k m g h = copy-idle f base from to k m g (λ i a b. omega (arith, total-mono k i a))
+
 -- ---- there is one run that holds a position, with one start and one end
 found-le : {lens : List ℕ} {n pos i start end j start′ end′ : ℕ} → Found lens n pos i start end → Found lens n pos j start′ end′ → i < j → ⊥
 found-le {lens} {n} {pos} {i} {start} {end} {j} f g h =

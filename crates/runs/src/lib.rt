@@ -64,7 +64,7 @@ fn change(set: u64, bits: u64, gone: u64) -> u64
 }
 
 // Onto the runs of the first `n` entries, the positions from .. to of the source's first `m` runs, each with `bits` added to its set and `gone` taken away.
-// Returns how many runs there are then.
+// Returns how many runs there are then. The runs before `from` are passed over, and those from `to` on are not looked at.
 pub fn copy(
     olens: &mut [u64],
     osets: &mut [u64],
@@ -81,10 +81,14 @@ pub fn copy(
     ensures { λ r. ⌜ Appended (runs (now (olens .entry)) (now (osets .entry)) n) (min to (total (runs (now (lens .entry)) (now (sets .entry)) m)) - from) (λ q. changing bits gone (setAt (runs (now (lens .entry)) (now (sets .entry)) m) (from + q))) (runs (now (olens .exit)) (now (osets .exit)) r) ⌝ }
     ensures { λ r. ⌜ SameBehind r (now (olens .entry)) (now (osets .entry)) (now (olens .exit)) (now (osets .exit)) ⌝ }
 {
-    let mut k = 0;
-    let mut start: u64 = 0;
+    let first = find_forward(lens, m, from);
+    let mut k = first.index;
+    let mut start = first.start;
     let mut at = n;
     while k < m {
+        if to <= start {
+            return at;
+        }
         let end = start + lens[k];
         let len = clip(from, to, start, end);
         at = push(olens, osets, at, len, change(sets[k], bits, gone));
