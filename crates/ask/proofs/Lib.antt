@@ -1,4 +1,5 @@
 pub mod AskLaws
+pub mod Standing
 pub mod Most
 pub mod Ranges
 pub mod Examples

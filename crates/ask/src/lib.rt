@@ -22,6 +22,7 @@ use styles::Party;
 use styles::Value;
 use tank::Tank;
 use tanks::Tanks;
+use tanks::look;
 
 // A tank's number, and the party that asks.
 pub struct Spot {
@@ -42,7 +43,8 @@ pub fn shown(s: Tanks, tank: u64, who: Party) -> Tank
     t
 }
 
-// The value shown for a key at a position.
+// The value shown for a key at a position. As in all questions of a position, the tank is read where it stands; and the tables are taken out first,
+// for an index that is not known beforehand copies all of what it is read from, which would be the state.
 pub fn value_at(s: Tanks, tank: u64, who: Party, pos: u64, key: u16) -> Shown
     requires { ⌜ Sound s ⌝ }
     ensures { λ r. ⌜ r ≡ valueAsked (meaning s) tank who pos key ⌝ }
@@ -50,7 +52,15 @@ pub fn value_at(s: Tanks, tank: u64, who: Party, pos: u64, key: u16) -> Shown
     if 8 <= tank {
         return Shown::Refused(1);
     }
-    questions::value_at(shown(s, tank, who), pos, key)
+    let t = tank as usize;
+    let heads = s.heads;
+    if look::length_in(heads, t) <= pos {
+        return Shown::Refused(4);
+    }
+    let pool = s.pool;
+    let tables = s.tables;
+    let table = tables[t];
+    questions::show(look::winner_at(heads, pool, table, t, who, pos, key))
 }
 
 // The marks that a position carries.
@@ -61,7 +71,19 @@ pub fn styles_at(s: Tanks, tank: u64, who: Party, pos: u64) -> SetAsked
     if 8 <= tank {
         return questions::no_set(1);
     }
-    questions::styles_at(shown(s, tank, who), pos)
+    let t = tank as usize;
+    let heads = s.heads;
+    if look::length_in(heads, t) <= pos {
+        return questions::no_set(4);
+    }
+    let pool = s.pool;
+    let tables = s.tables;
+    let table = tables[t];
+    let styles = look::styles_at(heads, pool, table, t, who, pos);
+    SetAsked {
+        number: 0,
+        styles: styles,
+    }
 }
 
 // The mark of a rank at a position.
@@ -72,7 +94,15 @@ pub fn style_at(s: Tanks, tank: u64, who: Party, pos: u64, rank: u64) -> Asked
     if 8 <= tank {
         return Asked::Refused(1);
     }
-    questions::style_at(shown(s, tank, who), pos, rank)
+    let t = tank as usize;
+    let heads = s.heads;
+    if look::length_in(heads, t) <= pos {
+        return Asked::Refused(4);
+    }
+    let pool = s.pool;
+    let tables = s.tables;
+    let table = tables[t];
+    questions::found(look::ranked_at(heads, pool, table, t, who, pos, rank))
 }
 
 // From where to where the marks of a position hold.
@@ -94,7 +124,19 @@ pub fn get_styles_for_insert(s: Tanks, tank: u64, who: Party, pos: u64) -> SetAs
     if 8 <= tank {
         return questions::no_set(1);
     }
-    questions::get_styles_for_insert(shown(s, tank, who), pos)
+    let t = tank as usize;
+    let heads = s.heads;
+    if look::length_in(heads, t) < pos {
+        return questions::no_set(4);
+    }
+    let pool = s.pool;
+    let tables = s.tables;
+    let table = tables[t];
+    let styles = look::styles_for_insert(heads, pool, table, t, who, pos);
+    SetAsked {
+        number: 0,
+        styles: styles,
+    }
 }
 
 // The mark of a rank among those that an insertion would get.
@@ -105,7 +147,15 @@ pub fn style_for_insert(s: Tanks, tank: u64, who: Party, pos: u64, rank: u64) ->
     if 8 <= tank {
         return Asked::Refused(1);
     }
-    questions::style_for_insert(shown(s, tank, who), pos, rank)
+    let t = tank as usize;
+    let heads = s.heads;
+    if look::length_in(heads, t) < pos {
+        return Asked::Refused(4);
+    }
+    let pool = s.pool;
+    let tables = s.tables;
+    let table = tables[t];
+    questions::found(look::ranked_for_insert(heads, pool, table, t, who, pos, rank))
 }
 
 // Has any position of start .. end a mark with the key?

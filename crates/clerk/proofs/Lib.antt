@@ -6,3 +6,4 @@ pub mod Lists
 pub mod Saving
 pub mod Painting
 pub mod Performing
+pub mod Edited

@@ -1,10 +1,11 @@
 -- A call is performed as one of its op.
 use mathlib.Core.Path.{_≡_, refl, sym, ap, subst, _∙_}
-use mathlib.Core.Bool.{true, false, false≢true, true≢false}
+use mathlib.Core.Bool.{Bool, true, false, false≢true, true≢false}
 use mathlib.Core.List.{List, []}
 use Prim.Native.Nat.{ℕ}
 use Rattle.styles.specs.declared.Party.{Party}
 use Rattle.styles.specs.declared.Party.the-variants.{Plant}
+use Rattle.tanks.specs.declared.Edit.{Edit}
 use Rattle.tanks.specs.declared.Tanks.{Tanks}
 use Rattle.tanks.specs.House.{House}
 use Rattle.tanks.specs.Pool.{meaning, Sound}
@@ -19,11 +20,35 @@ use Rattle.script.specs.declared.Text.{Text}
 use Rattle.answers.specs.Waiting.{Pieces, Adds}
 use Rattle.answers.proofs.Laws.{no-piece}
 use Rattle.clerk.specs.declared.Done.{Done}
+use Rattle.clerk.specs.declared.Kind.{Kind}
 use Rattle.clerk.specs.declared.Moved.{Moved}
 use Rattle.clerk.specs.declared.Noted.{Noted}
 use Rattle.clerk.specs.declared.Side.{Side}
-use Rattle.clerk.specs.Calls.{changed, changeSays, answerSays, listingSays, asking, askingSays, Changes}
+use Rattle.clerk.specs.Calls.{changed, changeSays, answerSays, listingSays, changeKind, kindOf, askingSays, Changes}
 use Rattle.clerk.specs.Desk.{Settled, textHouse, textSide, textSays, deskSide, deskSays, bothHouse, bothSide, bothSays, afterOp, sideAfter, saysOf, Notes, Moves, Performs}
+
+-- ---- What a call is
+-- a question
+abbrev isAsks : Kind → Bool
+isAsks Kind.Asks = true
+isAsks (Kind.Edits x) = false
+isAsks Kind.Other = false
+
+-- an edit of one tank
+abbrev isEdits : Kind → Bool
+isEdits Kind.Asks = false
+isEdits (Kind.Edits x) = true
+isEdits Kind.Other = false
+
+-- no change is a question
+change-asks-not : (e : Change) (who : Party) (c : Call) → isAsks (changeKind e who c) ≡ false
+unfolding changeKind
+change-asks-not Change.Open who c = refl
+change-asks-not Change.Annotate who c = refl
+change-asks-not Change.Insert who c = refl
+change-asks-not Change.Delete who c = refl
+change-asks-not Change.Remove who c = refl
+change-asks-not Change.Age who c = refl
 
 -- ---- The arms of each group
 -- of `change`
@@ -79,18 +104,18 @@ module _ (s : Tanks) (side : Side) (c : Call) (body : List ℕ) {d out : List �
   changes e kept p = as-op e (record { sound = p .sound; settled = kept; is = p .is; keeps = refl; answer = p .answer })
 
   -- what only asks leaves all as it was
-  only-asks : {k : ℕ} (op : Op) → asking op ≡ true → Sound s → Settled side → Adds d at (askingSays op (meaning s) (side .party) c) k out → Performs op s side c body d at (record { tanks = s; side = side; at = k }) out
-  unfolding afterOp sideAfter saysOf asking askingSays
+  only-asks : {k : ℕ} (op : Op) → isAsks (kindOf op (side .party) c) ≡ true → Sound s → Settled side → Adds d at (askingSays op (meaning s) (side .party) c) k out → Performs op s side c body d at (record { tanks = s; side = side; at = k }) out
+  unfolding afterOp sideAfter saysOf kindOf askingSays
   only-asks Op.Nothing e ok kept says = absurd (false≢true e)
-  only-asks (Op.Change x) e ok kept says = absurd (false≢true e)
+  only-asks (Op.Change x) e ok kept says = absurd (false≢true (sym (change-asks-not x (side .party) c) ∙ e))
   only-asks (Op.Question q) e ok kept says = record { sound = ok; settled = kept; is = refl; keeps = refl; answer = says }
   only-asks (Op.Listing l) e ok kept says = record { sound = ok; settled = kept; is = refl; keeps = refl; answer = says }
   only-asks (Op.Text x) e ok kept says = absurd (false≢true e)
   only-asks (Op.Desk x) e ok kept says = absurd (false≢true e)
   only-asks (Op.Both b) e ok kept says = absurd (false≢true e)
 
-  pub told : {k : ℕ} → asking (c .op) ≡ true → Sound s → Settled side → Adds d at (askingSays (c .op) (meaning s) (side .party) c) k out → Performs (c .op) s side c body d at (record { tanks = s; side = side; at = k }) out
-  told e = only-asks (c .op) e
+  pub told : {k : ℕ} → kindOf (c .op) (side .party) c ≡ Kind.Asks → Sound s → Settled side → Adds d at (askingSays (c .op) (meaning s) (side .party) c) k out → Performs (c .op) s side c body d at (record { tanks = s; side = side; at = k }) out
+  told e = only-asks (c .op) (ap isAsks e)
 
   -- a text
   pub texted : {r : Moved} {x : Text} → c .op ≡ Op.Text x → Moves (textHouse x (meaning s) side c body) (textSide x (meaning s) side c body) (textSays x (meaning s) side c body) d at r out → Performs (c .op) s side c body d at r out
@@ -116,11 +141,21 @@ pub none : (s : Tanks) (side : Side) (c : Call) (body d : List ℕ) (at : ℕ) �
 unfolding afterOp sideAfter saysOf
 none s side c body d at e ok kept = as-op s side c body e (record { sound = ok; settled = kept; is = refl; keeps = refl; answer = no-piece d at })
 
--- an op that asks is none of the others
-pub no-question : {op : Op} {q : Question} → op ≡ Op.Question q → asking op ≡ false → {P : Type 0} → P
-unfolding asking
-no-question e n = absurd (true≢false (sym (ap asking e) ∙ n))
+-- ---- A call that is neither a question nor an edit
+module _ (who : Party) (c : Call) {op : Op} (other : kindOf op who c ≡ Kind.Other) where
+  pub no-question : {q : Question} → op ≡ Op.Question q → {P : Type 0} → P
+  unfolding kindOf
+  no-question e = absurd (true≢false (sym (ap (λ (o : Op). isAsks (kindOf o who c)) e) ∙ ap isAsks other))
 
-pub no-listing : {op : Op} {l : Listing} → op ≡ Op.Listing l → asking op ≡ false → {P : Type 0} → P
-unfolding asking
-no-listing e n = absurd (true≢false (sym (ap asking e) ∙ n))
+  pub no-listing : {l : Listing} → op ≡ Op.Listing l → {P : Type 0} → P
+  unfolding kindOf
+  no-listing e = absurd (true≢false (sym (ap (λ (o : Op). isAsks (kindOf o who c)) e) ∙ ap isAsks other))
+
+  -- is, where it changes the tanks, another change
+  pub other-change : {e : Change} → op ≡ Op.Change e → changeKind e who c ≡ Kind.Other
+  unfolding kindOf
+  other-change e = sym (ap (λ (o : Op). kindOf o who c) e) ∙ other
+
+-- and such a change is none of the four
+pub no-edit : (who : Party) (c : Call) {e f : Change} {x : Edit} → e ≡ f → changeKind f who c ≡ Kind.Edits x → changeKind e who c ≡ Kind.Other → {P : Type 0} → P
+no-edit who c e edit other = absurd (true≢false (sym (ap isEdits (ap (λ (o : Change). changeKind o who c) e ∙ edit)) ∙ ap isEdits other))

@@ -1,14 +1,15 @@
 -- What a call that has to do with the tanks alone does to them, and what it answers: a row for each op.
 use mathlib.Core.Path.{_≡_}
-use mathlib.Core.Bool.{Bool, true, false}
 use mathlib.Core.List.{List, [], _∷_, _++_}
 use Prim.Native.Nat.{ℕ, _+_}
 use lib.ListN.{length}
 use Rattle.styles.specs.declared.Party.{Party}
+use Rattle.styles.specs.declared.Styles.{Styles}
 use Rattle.styles.specs.Answers.{stylesOf}
 use Rattle.lists.specs.Lists.{rangeList, wholeList, rangeNumber, wholeNumber}
 use Rattle.lists.specs.Anchors.{anchors, anchorsNumber}
 use Rattle.tank.specs.Rules.{View, Edit, annotating, inserting, deleting, removing}
+use Rattle.tanks.specs.declared.Edit as code
 use Rattle.tanks.specs.declared.Setting.{Setting}
 use Rattle.tanks.specs.declared.Tanks.{Tanks}
 use Rattle.tanks.specs.House.{House, tankAt, held, openNumber, opening, askNumber, refusalAt, afterAt, insertedSetAt, removedFirstAt}
@@ -28,6 +29,7 @@ use Rattle.text.specs.Bytes.{bytes}
 use Rattle.answers.specs.Waiting.{Pieces, Adds}
 use Rattle.answers.specs.Replies.{lineSays, refusedSays, orRefused, acceptedSays, stylesSay, firstSays, agedSays, countSays, touchedSays, toldSays, shownSays, askedSays, setSays, sharedSays, extentSays, proposalSays, neededSays, listSays, anchorsSay, bytesSay}
 use Rattle.clerk.specs.declared.Done.{Done}
+use Rattle.clerk.specs.declared.Kind.{Kind}
 
 -- ---- What a call speaks of, by the order of its op's fields
 -- the tank is the first number of every call but `open`
@@ -136,18 +138,34 @@ listingSays Listing.Anchors h who c = askAt h (tankFor c) who (refusedSays 1) (�
 listingSays Listing.Save h who c = saveSays h (numberAt c 0)
 listingSays Listing.SaveNeeded h who c = saveNeededSays h
 
--- ---- Any op
--- does it only ask?
-unfoldable pub asking : Op → Bool
-asking Op.Nothing = false
-asking (Op.Change e) = false
-asking (Op.Question q) = true
-asking (Op.Listing l) = true
-asking (Op.Text x) = false
-asking (Op.Desk d) = false
-asking (Op.Both b) = false
+-- ---- Any op, by a party: a question, an edit of one tank as the code has it, or any other call
+-- a change; opening and ageing are none of the four edits
+unfoldable pub changeKind : Change → Party → Call → Kind
+changeKind Change.Open who c = Kind.Other
+changeKind Change.Annotate who c = Kind.Edits (code.Edit.Annotate (startIn c) (endIn c) (markOf who c))
+changeKind Change.Insert who c = Kind.Edits (code.Edit.Insert who (numberAt c 1) (numberAt c 2))
+changeKind Change.Delete who c = Kind.Edits (code.Edit.Delete who (startIn c) (endIn c))
+changeKind Change.Remove who c = Kind.Edits (code.Edit.Remove (identityOf who c) (numberAt c 4))
+changeKind Change.Age who c = Kind.Other
 
--- what is answered by those that do; the others are not among these
+-- any call
+unfoldable pub kindOf : Op → Party → Call → Kind
+kindOf Op.Nothing who c = Kind.Other
+kindOf (Op.Change e) who c = changeKind e who c
+kindOf (Op.Question q) who c = Kind.Asks
+kindOf (Op.Listing l) who c = Kind.Asks
+kindOf (Op.Text x) who c = Kind.Other
+kindOf (Op.Desk d) who c = Kind.Other
+kindOf (Op.Both b) who c = Kind.Other
+
+-- the answer to an edit, from what it hands back: its number, and beside it the marks that an insertion takes over or the first position that a removal gives
+unfoldable pub editSays : code.Edit → ℕ → Styles → ℕ → Pieces
+editSays (code.Edit.Annotate start end mark) number styles first = acceptedSays number
+editSays (code.Edit.Insert who pos len) number styles first = orRefused number (stylesSay styles)
+editSays (code.Edit.Delete who start end) number styles first = acceptedSays number
+editSays (code.Edit.Remove id last) number styles first = firstSays number first
+
+-- what is answered by those that only ask; the others are not among these
 unfoldable pub askingSays : Op → House → Party → Call → Pieces
 askingSays Op.Nothing h who c = []
 askingSays (Op.Change e) h who c = []

@@ -1,5 +1,6 @@
 // The clerk of the tank map: takes calls as they are read, and writes their answers as text.
-mod edits; // edits.rt: calls that change the state
+mod editing; // editing.rt: the four edits of one tank
+mod changes; // changes.rt: other calls that change the state
 mod asking; // asking.rt: calls that ask
 mod listing; // listing.rt: stretches and anchors
 mod desk; // desk.rt: calls that have to do with what is kept beside the tanks
@@ -15,16 +16,13 @@ ghost use Rattle.script.specs.Lines.{stateOf};
 ghost use Rattle.script.specs.Bodies.{Fits};
 ghost use Rattle.tanks.specs.Pool.{Sound, meaning};
 ghost use Rattle.answers.specs.Waiting.{Adds, pieceRoom};
-ghost use Rattle.clerk.specs.Calls.{answerSays, listingSays, asking, askingSays, Changes};
+ghost use Rattle.clerk.specs.declared.Kind as kinds;
+ghost use Rattle.clerk.specs.Calls.{changeKind, answerSays, listingSays, kindOf, askingSays, Changes};
 ghost use Rattle.clerk.specs.Desk.{emptySide, Settled, textHouse, textSide, textSays, deskSide, deskSays, bothHouse, bothSide, bothSays, Notes, Moves, Performs};
 ghost use Rattle.clerk.specs.Course.{malformedSays, Eats, Closes, Reads, Runs, RunsWhole};
 use answers::say;
-use edits::aged;
-use edits::annotated;
-use edits::deleted;
-use edits::inserted;
-use edits::opened;
-use edits::removed;
+use changes::aged;
+use changes::opened;
 pub use listing::whole;
 use log::Log;
 use night::Plan;
@@ -43,8 +41,17 @@ use script::Text;
 use settings_text::Kept;
 use strip::legend::Legend;
 use styles::Party;
+use tanks::Edit;
 use tanks::Setting;
 use tanks::Tanks;
+
+// What the loop over calls does with one: it tells what is asked, makes an edit of one tank where the state stands, or hands
+// the state on.
+pub enum Kind {
+    Asks,
+    Edits(Edit),
+    Other,
+}
 
 // The state after a call, and how much of the output waits.
 pub struct Done {
@@ -144,18 +151,25 @@ pub fn empty() -> Side
     }
 }
 
-// A call by a party that changes the tanks: the state after it, and its answer in the output.
+// The state as it was, and nothing said.
+fn unmoved(s: Tanks, at: usize) -> Done
+    ensures { λ r. ⌜ r ≡ record { tanks = s; at = at } ⌝ }
+{
+    Done { tanks: s, at: at }
+}
+
+// A call by a party that changes the tanks and is no edit of the four: the state after it, and its answer in the output.
 fn change(s: Tanks, e: Change, who: Party, call: Call, out: &mut [u8], at: usize) -> Done
-    requires { ⌜ Sound s ⌝ }
+    requires { ⌜ Sound s × (changeKind e who call ≡ kinds.Kind.Other) ⌝ }
     requires { ⌜ pieceRoom ≤ length (now out) ⌝ }
     ensures { λ r. ⌜ Changes e s who call (now (out .entry)) at r (now (out .exit)) ⌝ }
 {
     match e {
         Change::Open => opened(s, call, out, at),
-        Change::Annotate => annotated(s, who, call, out, at),
-        Change::Insert => inserted(s, who, call, out, at),
-        Change::Delete => deleted(s, who, call, out, at),
-        Change::Remove => removed(s, who, call, out, at),
+        Change::Annotate => unmoved(s, at),
+        Change::Insert => unmoved(s, at),
+        Change::Delete => unmoved(s, at),
+        Change::Remove => unmoved(s, at),
         Change::Age => aged(s, who, call, out, at),
     }
 }
@@ -258,19 +272,19 @@ fn on_both(s: Tanks, side: Side, b: Both, call: Call, out: &mut [u8], at: usize)
     }
 }
 
-// Does a call only ask?
-fn asks(call: Call) -> bool
-    ensures { λ r. ⌜ r ≡ asking (call .op) ⌝ }
+// What a call by a party is.
+fn kind_of(who: Party, call: Call) -> Kind
+    ensures { λ r. ⌜ r ≡ kindOf (call .op) who call ⌝ }
 {
     let op = call.op;
     match op {
-        Op::Nothing => false,
-        Op::Change(_) => false,
-        Op::Question(_) => true,
-        Op::Listing(_) => true,
-        Op::Text(_) => false,
-        Op::Desk(_) => false,
-        Op::Both(_) => false,
+        Op::Nothing => Kind::Other,
+        Op::Change(e) => editing::change_kind(e, who, call),
+        Op::Question(_) => Kind::Asks,
+        Op::Listing(_) => Kind::Asks,
+        Op::Text(_) => Kind::Other,
+        Op::Desk(_) => Kind::Other,
+        Op::Both(_) => Kind::Other,
     }
 }
 
@@ -294,7 +308,7 @@ fn told(s: Tanks, who: Party, call: Call, out: &mut [u8], at: usize) -> usize
 
 // Any other, with the body behind it where it has one.
 fn perform(s: Tanks, side: Side, call: Call, body: &[u8], out: &mut [u8], at: usize) -> Moved
-    requires { ⌜ (Sound s) × Settled side × (asking (call .op) ≡ false) ⌝ }
+    requires { ⌜ (Sound s) × Settled side × (kindOf (call .op) (side .party) call ≡ kinds.Kind.Other) ⌝ }
     requires { ⌜ pieceRoom ≤ length (now out) ⌝ }
     ensures { λ r. ⌜ Performs (call .op) s side call (now (body .entry)) (now (out .entry)) at r (now (out .exit)) ⌝ }
 {
@@ -328,7 +342,8 @@ fn put_bad(out: &mut [u8], at: usize, r: Reader) -> usize
 }
 
 // The bytes of one read, a line or a part of a body to a turn. The tanks go through a call once a group, and never once a
-// line.
+// line. An edit of one tank is made here and not in a function of its own, for a function that takes the tanks copies them:
+// the parts that it has to do with are handed over, and what comes is put back in their place.
 pub fn eat(bytes: &[u8], s: Tanks, stand: Stand, body: &mut [u8], out: &mut [u8]) -> Eaten
     requires { ⌜ (Sound s) × Settled (stand .side) × Fits (stand .inlet) (now body) × (stand .over ≡ false) ⌝ }
     requires { ⌜ (mostBody ≤ length (now body)) × (pieceRoom ≤ length (now out)) ⌝ }
@@ -353,17 +368,38 @@ pub fn eat(bytes: &[u8], s: Tanks, stand: Stand, body: &mut [u8], out: &mut [u8]
             }
             Event::Call => {
                 let call = t.call;
-                if asks(call) {
-                    let who = side.party;
-                    at = told(tanks, who, call, out, at);
-                } else {
-                    let size = t.size;
-                    let d = perform(tanks, side, call, &body[..size], out, at);
-                    let next = d.tanks;
-                    tanks = next;
-                    let kept = d.side;
-                    side = kept;
-                    at = d.at;
+                let who = side.party;
+                let kind = kind_of(who, call);
+                match kind {
+                    Kind::Asks => {
+                        at = told(tanks, who, call, out, at);
+                    }
+                    Kind::Edits(edit) => {
+                        let n = call.numbers;
+                        let u = tanks::place(n[0]);
+                        let settings = tanks.settings;
+                        let heads = tanks.heads;
+                        let pool = tanks.pool;
+                        let table = tanks.tables[u];
+                        let p = tanks::edit_parts(settings, heads, pool, table, n[0], edit);
+                        let left = p.pool;
+                        tanks.pool = left;
+                        let head = p.head;
+                        tanks.heads[u] = head;
+                        let marks = p.table;
+                        tanks.tables[u] = marks;
+                        let styles = p.styles;
+                        at = editing::answered(edit, p.number, styles, p.first, out, at);
+                    }
+                    Kind::Other => {
+                        let size = t.size;
+                        let d = perform(tanks, side, call, &body[..size], out, at);
+                        let next = d.tanks;
+                        tanks = next;
+                        let kept = d.side;
+                        side = kept;
+                        at = d.at;
+                    }
                 }
             }
         }

@@ -230,9 +230,18 @@ pub fn take(s: Tanks, log: Log, bytes: &[u8]) -> Taken
         };
         if whole {
             let n = call.numbers;
-            let done = tanks.edit(n[0], edit_in(call));
-            let next = done.tanks;
-            tanks = next;
+            let t = tanks::place(n[0]);
+            let settings = tanks.settings;
+            let heads = tanks.heads;
+            let pool = tanks.pool;
+            let table = tanks.tables[t];
+            let done = tanks::edit_parts(settings, heads, pool, table, n[0], edit_in(call));
+            let next = done.pool;
+            tanks.pool = next;
+            let head = done.head;
+            tanks.heads[t] = head;
+            let marks = done.table;
+            tanks.tables[t] = marks;
             let Outcome::Applied(more) = counted(done.number, edits) else {
                 return stopped(tanks, edits, reader.newlines, done.number);
             };

@@ -78,7 +78,7 @@ fn show_mark(m: Mark) -> Shown
 }
 
 // What a winner shows.
-fn show(w: Winner) -> Shown
+pub fn show(w: Winner) -> Shown
     ensures { λ r. ⌜ r ≡ shownOf 0 w ⌝ }
 {
     match w {
@@ -88,7 +88,7 @@ fn show(w: Winner) -> Shown
 }
 
 // The mark of a rank as an answer.
-fn found(m: Ranked) -> Asked
+pub fn found(m: Ranked) -> Asked
     ensures { λ r. ⌜ r ≡ askedOf 0 m ⌝ }
 {
     match m {

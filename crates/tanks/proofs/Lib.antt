@@ -4,9 +4,11 @@ pub mod SettingLaws
 pub mod Put
 pub mod PutLaws
 pub mod MeaningLaws
+pub mod LookLaws
 pub mod WriteLaws
 pub mod CallLaws
 pub mod AnswerLaws
+pub mod PartsLaws
 pub mod AskLaws
 pub mod OpeningLaws
 pub mod Unique

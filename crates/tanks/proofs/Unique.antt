@@ -5,7 +5,7 @@ use mathlib.Core.List.{List}
 use native.Mathlib.Omega.{arith}
 use native.Mathlib.Decide.{decLt}
 use lib.ListN.{getD}
-use lib.Seq.{ext-getD}
+use lib.Seq.{ext-getD, getD-set-same}
 use Rattle.runs.specs.Positions.{sumBelow}
 use Rattle.tanks.specs.declared.Setting.{Setting}
 use Rattle.tanks.specs.declared.Head.{Head}
@@ -22,12 +22,15 @@ use Rattle.tanks.specs.declared.Edited.{Edited}
 use Rattle.tanks.specs.declared.Inserted.{Inserted}
 use Rattle.tanks.specs.declared.Removed.{Removed}
 use Rattle.tanks.specs.declared.Done.{Done}
+use Rattle.tanks.specs.declared.Parts.{Parts}
+use Rattle.tanks.specs.declared.Table.{Table}
 use Rattle.tanks.specs.House.{House, insertedSetAt, removedFirstAt}
 use Rattle.tanks.specs.Pool.{noHead, noRun, noTable, runsIn, runsBelow, tankIn, tankOf, headOf, tableIn, meaning, Sound}
-use Rattle.tanks.specs.Contracts.{Opens, CalledAt, DoneAt, Taken}
+use Rattle.tanks.specs.Contracts.{Opens, CalledAt, placeOf, PartsOfSome, doneWith, EditsParts, DoneAt, Taken}
 use Rattle.tanks.proofs.SliceLaws.{array-at}
 use Rattle.tanks.proofs.MeaningLaws.{tank-at}
 use Rattle.tanks.proofs.CallLaws.{after-refused}
+use Rattle.tanks.proofs.PartsLaws.{place-below}
 
 run-eq : (a b : Run) → a .len ≡ b .len → a .set ≡ b .set → a ≡ b
 run-eq a b p q = λ i. record { len = p i; set = q i }
@@ -133,6 +136,20 @@ one-done s t e r r′ p q =
     let f = p .styles-are ∙ sym (q .styles-are) in
     let g = p .first-is ∙ sym (q .first-is) in
     λ i. record { number = one-number (p .called) (q .called) i; styles = f i; first = g i; tanks = one-next (p .called) (q .called) i }
+
+-- the parts that an edit leaves
+pub one-parts : (t : ℕ) (e : Edit) (st : List Setting) (hs : List Head) (pool : List Run) (table : Table) (p q : Parts) → PartsOfSome (placeOf t) st hs pool table
+    → EditsParts st hs pool table t e p → EditsParts st hs pool table t e q → p ≡ q
+one-parts t e st hs pool table p q some l r =
+    let s = some .state in
+    let u = placeOf t in
+    let h : u < 8 = place-below t in
+    let d = one-done s t e (doneWith s u p) (doneWith s u q) (l s (some .sound) (some .parts)) (r s (some .sound) (some .parts)) in
+    let a = ap (λ (x : Done). getD (x .tanks .heads) u noHead) d in
+    let b = ap (λ (x : Done). getD (x .tanks .tables) u noTable) d in
+    let head = sym (getD-set-same (s .heads) u (p .head) noHead (omega (arith, some .sound .heads-8))) ∙ a ∙ getD-set-same (s .heads) u (q .head) noHead (omega (arith, some .sound .heads-8)) in
+    let marks = sym (getD-set-same (s .tables) u (p .table) noTable (omega (arith, some .sound .tables-8))) ∙ b ∙ getD-set-same (s .tables) u (q .table) noTable (omega (arith, some .sound .tables-8)) in
+    λ i. record { pool = d i .tanks .pool; table = marks i; head = head i; number = d i .number; styles = d i .styles; first = d i .first }
 
 -- a tank taken out
 pub one-taken : (s : Tanks) (t : ℕ) (x x′ : Tank) → Taken s t x → Taken s t x′ → x ≡ x′

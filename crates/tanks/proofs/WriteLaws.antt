@@ -64,6 +64,11 @@ pub run-step : (s now : Tanks) (p : List Run) (at : ℕ) (f : ℕ → Run) (back
     → withPool now (set (now .pool) (at + j) r) ≡ withPool s (part p at f (lowest back count (k + 1)) (k + 1))
 run-step s now p at f back count k j r h i e g = rw (e, g) (ap (withPool s) (part-next p at f back count k j h i))
 
+-- the same of a pool by itself
+pub pool-step : (now p : List Run) (at : ℕ) (f : ℕ → Run) (back : Bool) (count k j : ℕ) (r : Run) → k < count → j ≡ cond back (count - 1 - k) k
+    → now ≡ part p at f (lowest back count k) k → r ≡ f j → set now (at + j) r ≡ part p at f (lowest back count (k + 1)) (k + 1)
+pool-step now p at f back count k j r h i e g = rw (e, g) (part-next p at f back count k j h i)
+
 -- the run that is read has not been written over
 kept : (p : List Run) (at : ℕ) (f : ℕ → Run) (back : Bool) (from m count k j : ℕ) → back ≡ ltb from (at + m) → k < count → j ≡ cond back (count - 1 - k) k → m ≤ j
     → getD (part p at f (lowest back count k) k) (from + (j - m)) noRun ≡ getD p (from + (j - m)) noRun
@@ -77,6 +82,10 @@ kept p at f false from m count k j b h e l =
 pub read-kept : (s now : Tanks) (at : ℕ) (f : ℕ → Run) (back : Bool) (from m count k j : ℕ) → back ≡ ltb from (at + m) → k < count → j ≡ cond back (count - 1 - k) k → m ≤ j
     → now ≡ withPool s (part (s .pool) at f (lowest back count k) k) → getD (now .pool) (from + (j - m)) noRun ≡ getD (s .pool) (from + (j - m)) noRun
 read-kept s now at f back from m count k j b h e l i = rw i (kept (s .pool) at f back from m count k j b h e l)
+
+pub pool-kept : (now p : List Run) (at : ℕ) (f : ℕ → Run) (back : Bool) (from m count k j : ℕ) → back ≡ ltb from (at + m) → k < count → j ≡ cond back (count - 1 - k) k → m ≤ j
+    → now ≡ part p at f (lowest back count k) k → getD now (from + (j - m)) noRun ≡ getD p (from + (j - m)) noRun
+pool-kept now p at f back from m count k j b h e l i = rw i (kept p at f back from m count k j b h e l)
 
 -- all of them written
 pub part-all : (p : List Run) (at : ℕ) (f : ℕ → Run) (back : Bool) (count : ℕ) → part p at f (lowest back count count) count ≡ laid p at f count

@@ -1,8 +1,10 @@
 -- What the functions of this crate promise and ask.
 use Prim.Native.Nat.{ℕ, _≤_, _<_}
 use mathlib.Core.Path.{_≡_}
-use mathlib.Core.Bool.{Bool, true}
+use mathlib.Core.Bool.{Bool, true, cond}
 use mathlib.Core.List.{List, [], _∷_}
+use lib.Dec.{ltb}
+use lib.ListN.{getD, set}
 use Rattle.styles.specs.declared.Identity.{Identity}
 use Rattle.styles.specs.declared.Mark.{Mark}
 use Rattle.styles.specs.declared.Party.{Party}
@@ -12,16 +14,19 @@ use Rattle.tank.specs.Rules.{Edit, annotating, inserting, deleting, removing, r
 use Rattle.tank.specs.State as state
 use Rattle.tanks.specs.declared.Setting.{Setting}
 use Rattle.tanks.specs.declared.Head.{Head}
+use Rattle.tanks.specs.declared.Run.{Run}
+use Rattle.tanks.specs.declared.Table.{Table}
 use Rattle.tanks.specs.declared.Tanks.{Tanks}
 use Rattle.tanks.specs.declared.Opened.{Opened}
 use Rattle.tanks.specs.declared.Edit as code
+use Rattle.tanks.specs.declared.Parts.{Parts}
 use Rattle.tanks.specs.declared.Performed.{Performed}
 use Rattle.tanks.specs.declared.Done.{Done}
 use Rattle.tanks.specs.declared.Count.{Count}
 use Rattle.tanks.specs.declared.YesNo.{YesNo}
 use Rattle.tanks.specs.Settings.{accepted, shareOf, limitOf, judgement}
 use Rattle.tanks.specs.House.{tankAt, held, withTank, openNumber, opening, refusalAt, afterAt, insertedSetAt, removedFirstAt, Call}
-use Rattle.tanks.specs.Pool.{runsIn, meaning, Sound}
+use Rattle.tanks.specs.Pool.{noTable, runsIn, meaning, Sound}
 
 -- ---- Public functions
 -- what opening hands back
@@ -75,6 +80,36 @@ pub record DoneAt (s : Tanks) (t : ℕ) (e : Edit) (r : Done) : Type 0 where
   pub called : CalledAt s t e (r .number) (r .tanks)
   pub styles-are : r .styles ≡ stylesOf (setBeside (insertedSetAt (meaning s) t) e)
   pub first-is : r .first ≡ firstBeside (removedFirstAt (meaning s) t) e
+
+-- ---- edit_parts, which log and clerk call on the parts of the state that they hold
+-- the place of tank t's head and table; where there is no tank t, the first
+abbrev pub placeOf : ℕ → ℕ
+placeOf t = cond (ltb t 8) t 0
+
+-- the parts of a state that an edit with a head and a table at place u has to do with
+pub record PartsOf (s : Tanks) (u : ℕ) (st : List Setting) (hs : List Head) (pool : List Run) (table : Table) : Type 0 where
+  pub settings-are : s .settings ≡ st
+  pub heads-are : s .heads ≡ hs
+  pub pool-is : s .pool ≡ pool
+  pub table-is : getD (s .tables) u noTable ≡ table
+
+-- they are those of some sound state
+pub record PartsOfSome (u : ℕ) (st : List Setting) (hs : List Head) (pool : List Run) (table : Table) : Type 0 where
+  pub state : Tanks
+  pub sound : Sound state
+  pub parts : PartsOf state u st hs pool table
+
+-- a state with the parts that an edit leaves, put back where they were read
+abbrev pub withParts : Tanks → ℕ → Parts → Tanks
+withParts s u p = record { settings = s .settings; heads = set (s .heads) u (p .head); tables = set (s .tables) u (p .table); pool = p .pool }
+
+-- what the edit hands back once they are put back
+abbrev pub doneWith : Tanks → ℕ → Parts → Done
+doneWith s u p = record { number = p .number; styles = p .styles; first = p .first; tanks = withParts s u p }
+
+-- an edit of tank t on the parts of a state: put back into any sound state that they are parts of, they are what the edit leaves of it
+abbrev pub EditsParts : List Setting → List Head → List Run → Table → ℕ → Edit → Parts → Type 0
+EditsParts st hs pool table t e p = (s : Tanks) → Sound s → PartsOf s (placeOf t) st hs pool table → DoneAt s t e (doneWith s (placeOf t) p)
 
 -- a tank taken out: it means what the house's tank t does, and is a fresh one where there is none
 pub record Taken (s : Tanks) (t : ℕ) (x : Tank) : Type 0 where

@@ -47,6 +47,14 @@ ownRuns hs pool t = take (runsIn hs t) (drop (runsBelow hs t) pool)
 abbrev pub zeroFilled : List ℕ → List ℕ
 zeroFilled ns = ns ++ replicate (514 - length ns) 0
 
+-- the lengths of tank t's runs, and zeros behind them
+abbrev pub lensIn : List Head → List Run → ℕ → List ℕ
+lensIn hs pool t = zeroFilled (map (λ r. r .len) (ownRuns hs pool t))
+
+-- their sets likewise
+abbrev pub setsIn : List Head → List Run → ℕ → List ℕ
+setsIn hs pool t = zeroFilled (map (λ r. r .set) (ownRuns hs pool t))
+
 -- tank t on its own: its head, its runs' lengths and sets with zeros behind them, and its marks
 unfoldable pub tankIn : List Head → List Run → Table → ℕ → Tank
 tankIn hs pool table t = record {
@@ -54,8 +62,8 @@ tankIn hs pool table t = record {
   length = getD hs t noHead .length;
   runs = runsIn hs t;
   marks = getD hs t noHead .marks;
-  lens = zeroFilled (map (λ r. r .len) (ownRuns hs pool t));
-  sets = zeroFilled (map (λ r. r .set) (ownRuns hs pool t));
+  lens = lensIn hs pool t;
+  sets = setsIn hs pool t;
   table = table .marks;
 }
 

@@ -1,6 +1,7 @@
 // Eight tanks in one state: settings at opening, the edits and the questions with the tank's number in front.
 mod settings; // settings.rt: shares and limits
 mod pool; // pool.rt: the tanks' runs and marks in one state
+pub mod look; // look.rt: one tank read where it stands
 
 ghost use mathlib.Core.Path.{_≡_};
 ghost use mathlib.Core.List.{[]};
@@ -10,7 +11,7 @@ ghost use Rattle.tank.specs.State as state;
 ghost use Rattle.tank.specs.Rules.{annotating, deleting, inserting, removing};
 ghost use Rattle.tanks.specs.House.{tankAt, held, insertedSetAt, removedFirstAt, askNumber};
 ghost use Rattle.tanks.specs.Pool.{freshly, meaning, Sound};
-ghost use Rattle.tanks.specs.Contracts.{Opens, CalledAt, counts, says, Taken, editOf, PerformedAs, DoneAt, PutAt};
+ghost use Rattle.tanks.specs.Contracts.{Opens, CalledAt, counts, says, Taken, editOf, placeOf, PartsOfSome, EditsParts, PerformedAs, DoneAt, PutAt};
 use pool::head_of;
 use pool::spots;
 use pool::table_in;
@@ -60,39 +61,39 @@ pub struct Table {
     marks: [Mark; 64],
 }
 
-// In the pool stand the runs of tank 0, then those of tank 1, and so on, and blanks behind them. A crate above may read the settings and how
-// many runs each tank holds; the rest it asks for.
+// In the pool stand the runs of tank 0, then those of tank 1, and so on, and blanks behind them. A crate above reads the settings and how
+// many runs each tank holds, and writes what `edit_parts` hands back to where it was read; the rest it asks for.
 pub struct Tanks {
     pub settings: [Setting; 8],
     pub heads: [Head; 8],
-    tables: [Table; 8],
-    pool: [Run; 512],
+    pub tables: [Table; 8],
+    pub pool: [Run; 512],
 }
 
 // What opening hands back: 0 or 2, and the state.
 pub struct Opened {
-    pub number: u64,
     pub tanks: Tanks,
+    pub number: u64,
 }
 
 // What annotate and delete hand back: 0 or the refusal's number, and the next state.
 pub struct Edited {
-    pub number: u64,
     pub tanks: Tanks,
+    pub number: u64,
 }
 
 // What insert hands back: beside those the set that the new positions carry, empty where it is refused.
 pub struct Inserted {
+    pub tanks: Tanks,
     pub number: u64,
     pub styles: Styles,
-    pub tanks: Tanks,
 }
 
 // What a removal hands back: beside those the first position of the stretch, 0 where it is refused.
 pub struct Removed {
+    pub tanks: Tanks,
     pub number: u64,
     pub first: u64,
-    pub tanks: Tanks,
 }
 
 // An edit of one tank. Insertions and deletions name the party that tries them.
@@ -105,10 +106,20 @@ pub enum Edit {
 
 // What an edit hands back, whichever it is: the set of an insertion, the first position of a removal.
 pub struct Done {
+    pub tanks: Tanks,
     pub number: u64,
     pub styles: Styles,
     pub first: u64,
-    pub tanks: Tanks,
+}
+
+// What an edit leaves of the parts of a state that it has to do with, and what it hands back beside them.
+pub struct Parts {
+    pub pool: [Run; 512],
+    pub table: Table,
+    pub head: Head,
+    pub number: u64,
+    pub styles: Styles,
+    pub first: u64,
 }
 
 // The same of a tank taken out.
@@ -220,15 +231,78 @@ fn perform(x: Tank, call: Edit) -> Performed
     }
 }
 
-// A refused call: the state as it was.
-fn refused(number: u64, tanks: Tanks) -> Done
-    ensures { λ r. ⌜ (r .number ≡ number) × (r .styles ≡ stylesOf []) × (r .first ≡ 0) × (r .tanks ≡ tanks) ⌝ }
+// A refused call: the parts as they were.
+fn unchanged(number: u64, pool: [Run; 512], table: Table, head: Head) -> Parts
+    ensures { λ r. ⌜ (r .pool ≡ pool) × (r .table ≡ table) × (r .head ≡ head) × (r .number ≡ number) × (r .styles ≡ stylesOf []) × (r .first ≡ 0) ⌝ }
 {
-    Done {
+    Parts {
+        pool: pool,
+        table: table,
+        head: head,
         number: number,
         styles: styles::table::no_marks(),
         first: 0,
-        tanks: tanks,
+    }
+}
+
+// The place of a tank's head and table; where there is no such tank, the first.
+pub fn place(tank: u64) -> usize
+    ensures { λ r. ⌜ (r ≡ placeOf tank) × (r < 8) ⌝ }
+{
+    if tank < 8 { tank as usize } else { 0 }
+}
+
+// One edit of one tank, on the parts of a state that it has to do with: the tank is taken out, edited by its own rules, judged, and put back. The
+// runs of the tanks behind it move, from the front or from the back, so that none is written over before it has moved. Who holds a state
+// hands over these parts and puts back what comes: the state itself, of which seven tables have no part in it, is not copied.
+pub fn edit_parts(
+    settings: [Setting; 8],
+    heads: [Head; 8],
+    mut pool: [Run; 512],
+    table: Table,
+    tank: u64,
+    call: Edit,
+) -> Parts
+    requires { ⌜ PartsOfSome (placeOf tank) settings heads pool table ⌝ }
+    ensures { λ r. ⌜ EditsParts settings heads pool table tank (editOf call) r ⌝ }
+{
+    if 8 <= tank {
+        return unchanged(1, pool, table, heads[0]);
+    }
+    let t = tank as usize;
+    let done = perform(taken(heads, pool, table, t), call);
+    let x = done.tank;
+    let m = x.runs;
+    let number = edit_verdict(settings, heads, t, call, done.number, m as u64);
+    if 0 < number {
+        return unchanged(number, pool, table, heads[t]);
+    }
+    let s = spots(heads, t, m);
+    let mut k = 0;
+    while k < s.count {
+        let j = turn(s.grows, k, s.count);
+        k += 1;
+        if j < m {
+            pool[s.at + j] = Run {
+                len: x.lens[j],
+                set: x.sets[j],
+            };
+        } else {
+            if j < s.full {
+                pool[s.at + j] = pool[s.from + (j - m)];
+            } else {
+                pool[s.at + j] = Run { len: 0, set: 0 };
+            }
+        }
+    }
+    let styles = done.styles;
+    Parts {
+        pool: pool,
+        table: table_in(x),
+        head: head_of(x),
+        number: 0,
+        styles: styles,
+        first: done.first,
     }
 }
 
@@ -244,50 +318,28 @@ impl Tanks {
         Tank::fresh()
     }
 
-    // One edit of one tank: it is taken out, edited by its own rules, judged, and put back. The runs of the tanks behind it move, from the
-    // front or from the back, so that none is written over before it has moved. All edits are this one function, and thin above it, so
-    // that the state is copied in and out once.
+    // One edit of one tank, put together from what its parts become.
     pub fn edit(mut self, tank: u64, call: Edit) -> Done
         requires { ⌜ Sound self ⌝ }
         ensures { λ r. ⌜ DoneAt self tank (editOf call) r ⌝ }
     {
-        if 8 <= tank {
-            return refused(1, self);
-        }
-        let t = tank as usize;
+        let t = place(tank);
+        let settings = self.settings;
         let heads = self.heads;
-        let done = perform(taken(heads, self.pool, self.tables[t], t), call);
-        let x = done.tank;
-        let m = x.runs;
-        let number = edit_verdict(self.settings, heads, t, call, done.number, m as u64);
-        if 0 < number {
-            return refused(number, self);
-        }
-        let s = spots(heads, t, m);
-        let mut k = 0;
-        while k < s.count {
-            let j = turn(s.grows, k, s.count);
-            k += 1;
-            if j < m {
-                self.pool[s.at + j] = Run {
-                    len: x.lens[j],
-                    set: x.sets[j],
-                };
-            } else {
-                if j < s.full {
-                    self.pool[s.at + j] = self.pool[s.from + (j - m)];
-                } else {
-                    self.pool[s.at + j] = Run { len: 0, set: 0 };
-                }
-            }
-        }
-        self.heads[t] = head_of(x);
-        self.tables[t] = table_in(x);
-        let styles = done.styles;
+        let pool = self.pool;
+        let table = self.tables[t];
+        let p = edit_parts(settings, heads, pool, table, tank, call);
+        let next = p.pool;
+        self.pool = next;
+        let head = p.head;
+        self.heads[t] = head;
+        let marks = p.table;
+        self.tables[t] = marks;
+        let styles = p.styles;
         Done {
-            number: 0,
+            number: p.number,
             styles: styles,
-            first: done.first,
+            first: p.first,
             tanks: self,
         }
     }
@@ -332,16 +384,28 @@ impl Tanks {
         }
     }
 
-    // Every position of start .. end of the tank gains the mark.
-    pub fn annotate(self, tank: u64, start: u64, end: u64, mark: Mark) -> Edited
+    // Every position of start .. end of the tank gains the mark. It goes to the parts itself and not through `edit`: with two that call it
+    // `edit_parts` stays a function of its own, and these two are put into their callers, so that the state is not copied for a call.
+    pub fn annotate(mut self, tank: u64, start: u64, end: u64, mark: Mark) -> Edited
         requires { ⌜ Sound self ⌝ }
         ensures { λ r. ⌜ CalledAt self tank (annotating start end mark) (r .number) (r .tanks) ⌝ }
     {
-        let done = self.edit(tank, Edit::Annotate(start, end, mark));
-        let tanks = done.tanks;
+        let t = place(tank);
+        let settings = self.settings;
+        let heads = self.heads;
+        let pool = self.pool;
+        let table = self.tables[t];
+        let call = Edit::Annotate(start, end, mark);
+        let p = edit_parts(settings, heads, pool, table, tank, call);
+        let next = p.pool;
+        self.pool = next;
+        let head = p.head;
+        self.heads[t] = head;
+        let marks = p.table;
+        self.tables[t] = marks;
         Edited {
-            number: done.number,
-            tanks: tanks,
+            tanks: self,
+            number: p.number,
         }
     }
 
@@ -399,7 +463,8 @@ impl Tanks {
             return Count::Refused(1);
         }
         let t = tank as usize;
-        let h = self.heads[t];
+        let heads = self.heads;
+        let h = heads[t];
         Count::Counts(h.length)
     }
 
@@ -412,7 +477,8 @@ impl Tanks {
             return YesNo::Refused(1);
         }
         let t = tank as usize;
-        let h = self.heads[t];
+        let heads = self.heads;
+        let h = heads[t];
         YesNo::Says(h.touched)
     }
 
@@ -425,7 +491,8 @@ impl Tanks {
             return Count::Refused(1);
         }
         let t = tank as usize;
-        let h = self.heads[t];
+        let heads = self.heads;
+        let h = heads[t];
         Count::Counts(h.runs as u64)
     }
 }

@@ -1,8 +1,12 @@
--- `get_styles_for_insert` meets its contract: no such tank, or the tank taken out answers for the one that it is.
+-- `get_styles_for_insert` meets its contract: no such tank, 4, or the marks that an insertion would get.
 use mathlib.Core.List.{[]}
+use mathlib.Core.Path.{refl}
+use native.Mathlib.Omega.{arith}
 use borrow.Author.Needs.{needs}
 use Rattle.questions.specs.Questions.{setOf, stylesForInsert}
-use Rattle.ask.proofs.AskLaws.{past, inside}
+use Rattle.tanks.proofs.LookLaws.{stands-in}
+use Rattle.ask.proofs.AskLaws.{past}
+use Rattle.ask.proofs.Standing.{over-insert, within-insert}
 use Rattle.ask.proofs.get_styles_for_insert.Statement.{statement}
 use Rattle.ask.proofs.get_styles_for_insert.Tie as tie
 
@@ -13,11 +17,30 @@ returns c =
 
 returns-2 : tie.Need-returns-2
 returns-2 c =
-    let k = c .before in
-    let e = k .before in
+    let i = c .before in
+    let n = i .before in
+    let e = n .before .before in
+    let a = e .before .args in
+    over-insert setOf (setOf 1 []) (a .s) (a .tank) (a .who) (a .pos) (e .if1 .left) (n .length-in .ensures) (i .if2 .taken) (c .no-set2 .ensures)
+
+styles-for-insert-requires : tie.Need-styles-for-insert-requires
+styles-for-insert-requires c κs =
+    let i = c .before .before .before in
+    let n = i .before in
+    let e = n .before .before in
     let s = e .before in
-    inside (s .args .s) (s .args .tank) (s .args .who) (setOf 1 []) (stylesForInsert (s .args .pos)) (e .if1 .left) (k .shown .ensures)
-    (c .get-styles-for-insert .ensures)
+    (stands-in (s .args .s) (s .args .tank) (e .if1 .left) refl (s .pre), omega (arith, n .length-in .ensures, i .if2 .left))
+
+returns-3 : tie.Need-returns-3
+returns-3 c =
+    let w = c in
+    let k = w .before in
+    let i = k .before .before .before in
+    let n = i .before in
+    let e = n .before .before in
+    let a = e .before .args in
+    within-insert setOf (setOf 1 []) (a .s) (a .tank) (a .who) (a .pos) (e .if1 .left) (n .length-in .ensures) (i .if2 .left) refl
+    (λ j. record { number = 0; styles = w .styles-for-insert .ensures j })
 
 pub get-styles-for-insert-spec : {M : Type 1} → statement M
-get-styles-for-insert-spec = tie.close (tie.spec (λ c κs. search needs) returns (λ c κs. search needs) (λ c κs. search needs) returns-2)
+get-styles-for-insert-spec = tie.close (tie.spec (λ c κs. search needs) returns (λ c κs. search needs) (λ c κs. search needs) returns-2 (λ c. search needs) (λ c. search needs) styles-for-insert-requires returns-3)

@@ -1,5 +1,5 @@
--- By the op: one that asks is not performed here.
-use Rattle.clerk.proofs.Performing.{as-moved, changes, texted, noted, both, none, no-question, no-listing}
+-- By the op: one that asks is not performed here, nor is an edit of one tank.
+use Rattle.clerk.proofs.Performing.{as-moved, changes, texted, noted, both, none, no-question, no-listing, other-change}
 use borrow.Author.Needs.{needs}
 use Rattle.clerk.proofs.perform.Statement.{statement}
 use Rattle.clerk.proofs.perform.Tie as tie
@@ -15,10 +15,10 @@ returns-2 c =
     as-moved (c .moving2 .ensures) (changes (s .args .s) (s .args .side) _ _ (c .before .before .before .before .before .before .before .op .given .1) (s .pre .0 .1) (c .before .before .before .before .change .ensures))
 
 returns-3 : tie.Need-returns-3
-returns-3 c = no-question (c .before .enum-told2 .given .1) (c .before .before .before .before .before .pre .0 .2)
+returns-3 c = no-question _ _ (c .before .before .before .before .before .pre .0 .2) (c .before .enum-told2 .given .1)
 
 returns-4 : tie.Need-returns-4
-returns-4 c = no-listing (c .before .enum-told3 .given .1) (c .before .before .before .before .before .pre .0 .2)
+returns-4 c = no-listing _ _ (c .before .before .before .before .before .pre .0 .2) (c .before .enum-told3 .given .1)
 
 returns-5 : tie.Need-returns-5
 returns-5 c = texted _ _ _ _ (c .before .before .before .before .before .op2 .given .1) (c .before .before .take-text .ensures)
@@ -31,7 +31,12 @@ returns-6 c =
 returns-7 : tie.Need-returns-7
 returns-7 c = both _ _ _ _ (c .before .before .before .before .before .op4 .given .1) (c .before .before .on-both .ensures)
 
+change-requires : tie.Need-change-requires
+change-requires c κs =
+    let s = c .before .before .before .before .before .before in
+    ((s .pre .0 .0, other-change _ _ (s .pre .0 .2) (c .before .before .op .given .1)), search needs)
+
 pub perform-spec : {M : Type 1} → statement M
 perform-spec =
     tie.close
-    (tie.spec (λ c. search needs) (λ c κs. search needs) (λ c. search needs) (λ c κs. search needs) (λ c κs. search needs) (λ c. search needs) (λ c κs. search needs) (λ c. search needs) (λ c κs. search needs) (λ c. search needs) (λ c κs. search needs) (λ c. search needs) (λ c κs. search needs) (λ c κs. search needs) (λ c. search needs) (λ c κs. search needs) returns (λ c. search needs) returns-2 returns-3 returns-4 (λ c. search needs) returns-5 (λ c. search needs) returns-6 (λ c. search needs) returns-7)
+    (tie.spec (λ c. search needs) (λ c κs. search needs) (λ c. search needs) change-requires (λ c κs. search needs) (λ c. search needs) (λ c κs. search needs) (λ c. search needs) (λ c κs. search needs) (λ c. search needs) (λ c κs. search needs) (λ c. search needs) (λ c κs. search needs) (λ c κs. search needs) (λ c. search needs) (λ c κs. search needs) returns (λ c. search needs) returns-2 returns-3 returns-4 (λ c. search needs) returns-5 (λ c. search needs) returns-6 (λ c. search needs) returns-7)

@@ -6,7 +6,9 @@ use native.Mathlib.Omega.{arith}
 use lib.ListN.{length, drop}
 use borrow.Author.Needs.{needs}
 use Rattle.tank.specs.Rules.{Edit}
-use Rattle.tanks.specs.Contracts.{CalledAt}
+use Rattle.tanks.specs.declared.Tanks.{Tanks}
+use Rattle.tanks.specs.Contracts.{CalledAt, editOf, withParts}
+use Rattle.tanks.proofs.PartsLaws.{parts-some, parts-back}
 use Rattle.script.specs.declared.Event.{Event}
 use Rattle.log.specs.declared.Step.{Step}
 use Rattle.log.specs.declared.Stop.{Stop}
@@ -44,15 +46,32 @@ returns-2 c =
     takes-stopped (s .args .s) (s .args .log) (s .args .bytes .now) (c .stopped .result) (on .enum-told .given .1) (l .loop .tanks) (l .loop .edits) (w .wrong-line .result) 13 (l .loop .inv .sound) (c .stopped .ensures)
     (turn-wrong (l .loop .tanks) (l .loop .edits) (f .before .loop-test .taken) (f .feed .ensures) (l .loop .inv .op) (w .wrong-line .result) (sym (p .line-step .ensures) ∙ w .before .enum-told3 .given .1) (w .wrong-line .ensures) ∙ l .loop .inv .left)
 
+-- the tanks once the parts of the group's edit are put back
+abbrev left : tie.After-edit-parts Inv-loop μ-loop → Tanks
+left d =
+    let p = d .before .before .before .before .before .before in
+    let l = p .before .before .before .before .before .before .before .before .before .before .before in
+    withParts (l .loop .tanks) (p .place .result) (d .edit-parts .result)
+
 -- the call of the group, as the rules have it
-called : (c : tie.After-edit Inv-loop μ-loop) →
-    (let f = c .before .before .before .before .before .before .before .before .before .before in
+called : (d : tie.After-edit-parts Inv-loop μ-loop) →
+    (let f = d .before .before .before .before .before .before .before .before .before .before .before .before .before .before .before in
     let l = f .before .before in
-    CalledAt (l .loop .tanks) (callOf (f .feed .result .call) .tank) (callOf (f .feed .result .call) .edit) (c .edit .result .number) (c .edit .result .tanks))
-called c =
-    let f = c .before .before .before .before .before .before .before .before .before .before in
+    CalledAt (l .loop .tanks) (callOf (f .feed .result .call) .tank) (callOf (f .feed .result .call) .edit) (d .edit-parts .result .number) (left d))
+called d =
+    let p = d .before .before .before .before .before .before in
+    let f = p .before .before .before .before .before .before .before .before .before in
     let l = f .before .before in
-    subst (λ (e : Edit). CalledAt (l .loop .tanks) (callOf (f .feed .result .call) .tank) e (c .edit .result .number) (c .edit .result .tanks)) (c .before .edit-in .ensures) (c .edit .ensures .called)
+    let k = callOf (f .feed .result .call) in
+    subst (λ (e : Edit). CalledAt (l .loop .tanks) (k .tank) e (d .edit-parts .result .number) (left d)) (d .before .edit-in .ensures)
+    (parts-back (l .loop .tanks) (k .tank) (p .place .result) (p .place .ensures .0) (l .loop .inv .sound) (editOf (d .before .edit-in .result)) (d .edit-parts .result) (d .edit-parts .ensures) .called)
+
+edit-parts-requires : tie.Need-edit-parts-requires Inv-loop μ-loop
+edit-parts-requires c κs =
+    let p = c .before .before .before .before .before in
+    let f = p .before .before .before .before .before .before .before .before .before in
+    let l = f .before .before in
+    parts-some (l .loop .tanks) (callOf (f .feed .result .call) .tank) (p .place .result) (p .place .ensures .0) (l .loop .inv .sound)
 
 -- its last line brings a call, of an op of the log's
 whole-is : (c : tie.Then1 Inv-loop μ-loop) → (let f = c .before .before .before .before .before .before .before in (f .feed .result .event ≡ Event.Call) × (logged (f .feed .result .call .op) ≡ true))
@@ -64,34 +83,36 @@ whole-is c =
 returns-3 : tie.Need-returns-3 Inv-loop μ-loop
 returns-3 c =
     let n = c .before .before .before in
-    let d = n .before .before in
-    let t = d .before .before .before in
+    let d = n .before .before .before .before in
+    let t = d .before .before .before .before .before .before .before .before in
     let f = t .before .before .before .before .before .before .before in
     let l = f .before .before in
     let on = l .before .before in
     let s = on .before .before .before in
-    takes-stopped (s .args .s) (s .args .log) (s .args .bytes .now) (c .stopped2 .result) (on .enum-told .given .1) (d .edit .result .tanks) (l .loop .edits) (f .feed .result .reader .newlines) (d .edit .result .number) (called d .sound) (c .stopped2 .ensures)
-    (turn-refused (l .loop .tanks) (l .loop .edits) (f .before .loop-test .taken) (f .feed .ensures) (l .loop .inv .op) (whole-is t) (called d) (outcome-refused (d .edit .result .number) (l .loop .edits) (sym (n .counted .ensures) ∙ c .before .enum-told4 .given .1)) ∙ l .loop .inv .left)
+    takes-stopped (s .args .s) (s .args .log) (s .args .bytes .now) (c .stopped2 .result) (on .enum-told .given .1) (left d) (l .loop .edits) (f .feed .result .reader .newlines) (d .edit-parts .result .number) (called d .sound) (c .stopped2 .ensures)
+    (turn-refused (l .loop .tanks) (l .loop .edits) (f .before .loop-test .taken) (f .feed .ensures) (l .loop .inv .op) (whole-is t) (called d) (outcome-refused (d .edit-parts .result .number) (l .loop .edits) (sym (n .counted .ensures) ∙ c .before .enum-told4 .given .1)) ∙ l .loop .inv .left)
 
 loop-less : tie.Need-loop-less Inv-loop μ-loop
 loop-less c =
-    let f = c .before .before .before .before .before .before .before .before .before .before .before .before .before .before .before in
+    let d = c .before .before .before .before .before .before .before in
+    let t = d .before .before .before .before .before .before .before .before in
+    let f = t .before .before .before .before .before .before .before in
     omega (arith, f .feed .ensures .at)
 
 loop-again : tie.Need-loop-again Inv-loop μ-loop
 loop-again c =
     let n = c .before .before .before in
-    let d = n .before .before in
-    let t = d .before .before .before in
+    let d = n .before .before .before .before in
+    let t = d .before .before .before .before .before .before .before .before in
     let f = t .before .before .before .before .before .before .before in
     let l = f .before .before in
-    let o = outcome-applied (d .edit .result .number) (l .loop .edits) (c .before .more .given .0 .0) (sym (n .counted .ensures) ∙ c .before .more .given .1) in
+    let o = outcome-applied (d .edit-parts .result .number) (l .loop .edits) (c .before .more .given .0 .0) (sym (n .counted .ensures) ∙ c .before .more .given .1) in
     record {
       inside = omega (arith, f .feed .ensures .at);
       sound = called d .sound;
       op = ready-call (l .loop .tanks) (l .loop .edits) (f .before .loop-test .taken) (f .feed .ensures) (l .loop .inv .op) (whole-is t .0);
       tidy = fed-tidy (f .feed .ensures) (l .loop .inv .tidy);
-      left = ap (λ (k : ℕ). afterBytes (standing (d .edit .result .tanks) (f .feed .result .reader) k) (drop (f .feed .result .at) (l .before .before .before .before .before .args .bytes .now))) (o .1)
+      left = ap (λ (k : ℕ). afterBytes (standing (left d) (f .feed .result .reader) k) (drop (f .feed .result .at) (l .before .before .before .before .before .args .bytes .now))) (o .1)
           ∙ turn-edit (l .loop .tanks) (l .loop .edits) (f .before .loop-test .taken) (f .feed .ensures) (l .loop .inv .op) (whole-is t) (called d) (o .0)
           ∙ l .loop .inv .left;
     }
@@ -142,7 +163,15 @@ take-spec =
     returns-2
     (λ c. search needs)
     (λ c κs. search needs)
+    (λ c. search needs)
+    (λ c. search needs)
+    (λ c. search needs)
     (λ c κs. search needs)
+    edit-parts-requires
+    (λ c. search needs)
+    (λ c. search needs)
+    (λ c. search needs)
+    (λ c. search needs)
     (λ c κs. search needs)
     (λ c. search needs)
     (λ c. search needs)

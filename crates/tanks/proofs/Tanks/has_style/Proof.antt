@@ -10,9 +10,9 @@ returns c = asked-past YesNo.Refused YesNo.Says (c .before .args .tank) _ (c .if
 
 returns-2 : tie.Need-returns-2
 returns-2 c =
-    let h = c .before .if1 .left in
-    let a = c .before .before in
-    asked-in YesNo.Refused YesNo.Says (a .args .tank) _ _ h (touched-said (a .args .t1) (a .args .tank) h)
+    let h = c .before .before .if1 .left in
+    let a = c .before .before .before in
+    asked-in YesNo.Refused YesNo.Says (a .args .tank) _ _ h (touched-said (a .args .self) (a .args .tank) h)
 
 pub has-style-spec : {M : Type 1} → statement M
 has-style-spec = tie.close (tie.spec returns (λ c. search needs) (λ c. search needs) returns-2)

@@ -10,9 +10,9 @@ returns c = asked-past Count.Refused Count.Counts (c .before .args .tank) _ (c .
 
 returns-2 : tie.Need-returns-2
 returns-2 c =
-    let h = c .before .if1 .left in
-    let a = c .before .before in
-    asked-in Count.Refused Count.Counts (a .args .tank) _ _ h (runs-said (a .args .t1) (a .args .tank) h (a .pre))
+    let h = c .before .before .if1 .left in
+    let a = c .before .before .before in
+    asked-in Count.Refused Count.Counts (a .args .tank) _ _ h (runs-said (a .args .self) (a .args .tank) h (a .pre))
 
 pub runs-spec : {M : Type 1} → statement M
 runs-spec = tie.close (tie.spec returns (λ c. search needs) (λ c. search needs) returns-2)

@@ -1,4 +1,4 @@
-// Calls that change the state: each is made with the numbers that were read, and answered.
+// Calls that change the state and are no edits of the four: each is made with the numbers that were read, and answered.
 ghost use mathlib.Core.Path.{_≡_};
 ghost use Prim.Native.Nat.{_≤_};
 ghost use lib.ListN.{length};
@@ -10,8 +10,6 @@ ghost use Rattle.clerk.specs.Calls.{Changes, settingsOf};
 use super::Done;
 use answers::accept;
 use answers::aged_or;
-use answers::first_or;
-use answers::set_or;
 use script::Call;
 use styles::Party;
 use tanks::Setting;
@@ -63,55 +61,6 @@ pub fn opened(s: Tanks, call: Call, out: &mut [u8], at: usize) -> Done
     let o = tanks::open(settings(call));
     let t = o.tanks;
     let k = accept(out, at, o.number);
-    Done { tanks: t, at: k }
-}
-
-pub fn annotated(s: Tanks, who: Party, call: Call, out: &mut [u8], at: usize) -> Done
-    requires { ⌜ Sound s ⌝ }
-    requires { ⌜ pieceRoom ≤ length (now out) ⌝ }
-    ensures { λ r. ⌜ Changes changes.Change.Annotate s who call (now (out .entry)) at r (now (out .exit)) ⌝ }
-{
-    let n = call.numbers;
-    let e = s.annotate(n[0], n[1], n[2], script::mark_of(who, call));
-    let t = e.tanks;
-    let k = accept(out, at, e.number);
-    Done { tanks: t, at: k }
-}
-
-pub fn inserted(s: Tanks, who: Party, call: Call, out: &mut [u8], at: usize) -> Done
-    requires { ⌜ Sound s ⌝ }
-    requires { ⌜ pieceRoom ≤ length (now out) ⌝ }
-    ensures { λ r. ⌜ Changes changes.Change.Insert s who call (now (out .entry)) at r (now (out .exit)) ⌝ }
-{
-    let n = call.numbers;
-    let e = s.insert(n[0], who, n[1], n[2]);
-    let t = e.tanks;
-    let m = e.styles;
-    let k = set_or(out, at, e.number, m);
-    Done { tanks: t, at: k }
-}
-
-pub fn deleted(s: Tanks, who: Party, call: Call, out: &mut [u8], at: usize) -> Done
-    requires { ⌜ Sound s ⌝ }
-    requires { ⌜ pieceRoom ≤ length (now out) ⌝ }
-    ensures { λ r. ⌜ Changes changes.Change.Delete s who call (now (out .entry)) at r (now (out .exit)) ⌝ }
-{
-    let n = call.numbers;
-    let e = s.delete(n[0], who, n[1], n[2]);
-    let t = e.tanks;
-    let k = accept(out, at, e.number);
-    Done { tanks: t, at: k }
-}
-
-pub fn removed(s: Tanks, who: Party, call: Call, out: &mut [u8], at: usize) -> Done
-    requires { ⌜ Sound s ⌝ }
-    requires { ⌜ pieceRoom ≤ length (now out) ⌝ }
-    ensures { λ r. ⌜ Changes changes.Change.Remove s who call (now (out .entry)) at r (now (out .exit)) ⌝ }
-{
-    let n = call.numbers;
-    let e = s.remove_style_scanning_backward(n[0], script::identity_of(who, call), n[4]);
-    let t = e.tanks;
-    let k = first_or(out, at, e.number, e.first);
     Done { tanks: t, at: k }
 }
 

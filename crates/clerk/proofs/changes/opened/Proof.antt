@@ -7,8 +7,8 @@ use Rattle.answers.specs.Replies.{acceptedSays}
 use Rattle.clerk.specs.Calls.{changed, changeSays}
 use Rattle.tanks.specs.Contracts.{Opens}
 use Rattle.tanks.specs.declared.Setting.{Setting}
-use Rattle.clerk.proofs.edits.opened.Statement.{statement}
-use Rattle.clerk.proofs.edits.opened.Tie as tie
+use Rattle.clerk.proofs.changes.opened.Statement.{statement}
+use Rattle.clerk.proofs.changes.opened.Tie as tie
 
 returns : tie.Need-returns
 unfolding changed changeSays

@@ -5,8 +5,8 @@ use Prim.Native.Nat.{ℕ}
 use Rattle.answers.proofs.Laws.{adds-as}
 use Rattle.answers.specs.Replies.{agedSays}
 use Rattle.clerk.specs.Calls.{changed, changeSays}
-use Rattle.clerk.proofs.edits.aged.Statement.{statement}
-use Rattle.clerk.proofs.edits.aged.Tie as tie
+use Rattle.clerk.proofs.changes.aged.Statement.{statement}
+use Rattle.clerk.proofs.changes.aged.Tie as tie
 
 same-answer : {n n′ d d′ r r′ : ℕ} → n ≡ n′ → d ≡ d′ → r ≡ r′ → agedSays n d r ≡ agedSays n′ d′ r′
 same-answer e f g = λ i. agedSays (e i) (f i) (g i)

@@ -1,0 +1,122 @@
+-- An edit on the parts of a state: what it leaves, put back, is what the edit leaves of the state.
+use Prim.Native.Nat.{ℕ, _≤_, _<_}
+use mathlib.Core.Path.{_≡_, refl, sym, ap, _∙_, subst}
+use mathlib.Core.List.{List, []}
+use native.Mathlib.Omega.{arith}
+use native.Mathlib.Decide.{ℕ-discrete, decLt}
+use borrow.Author.Tests.{lt-ltb, le-ltb}
+use lib.ListN.{length, getD, set, length-set}
+use lib.Seq.{getD-set-same, getD-set-other, ext-getD}
+use Rattle.styles.specs.Answers.{stylesOf}
+use Rattle.tank.specs.declared.Tank.{Tank}
+use Rattle.tank.specs.Rules.{Edit, firstRefusal, madeBy}
+use Rattle.tank.specs.State.{Formed}
+use Rattle.tanks.specs.declared.Setting.{Setting}
+use Rattle.tanks.specs.declared.Head.{Head}
+use Rattle.tanks.specs.declared.Run.{Run}
+use Rattle.tanks.specs.declared.Spots.{Spots}
+use Rattle.tanks.specs.declared.Table.{Table}
+use Rattle.tanks.specs.declared.Tanks.{Tanks}
+use Rattle.tanks.specs.declared.Parts.{Parts}
+use Rattle.tanks.specs.declared.Performed.{Performed}
+use Rattle.tanks.specs.declared.Done.{Done}
+use Rattle.tanks.specs.Settings.{shareOf, judgement}
+use Rattle.tanks.specs.House.{shareNumber}
+use Rattle.tanks.specs.Pool.{noHead, noTable, runsIn, tankIn, tankOf, headOf, tableIn, spotsOf, Sound}
+use Rattle.tanks.specs.Contracts.{placeOf, PartsOf, PartsOfSome, withParts, doneWith, EditsParts, PerformedAs, DoneAt}
+use Rattle.tanks.proofs.LaidLaws.{laid}
+use Rattle.tanks.proofs.Put.{runFrom, puts}
+use Rattle.tanks.proofs.SettingLaws.{TakenOut, taken}
+use Rattle.tanks.proofs.MeaningLaws.{tail-refused, tail-done}
+use Rattle.tanks.proofs.CallLaws.{ownBy, called-by, called-past}
+use Rattle.tanks.proofs.AnswerLaws.{done-refused, done-by}
+
+-- ---- places
+pub place-in : (t : ℕ) → t < 8 → placeOf t ≡ t
+place-in t h = rw (lt-ltb t 8 h)
+
+pub place-past : (t : ℕ) → 8 ≤ t → placeOf t ≡ 0
+place-past t h = rw (le-ltb t 8 h)
+
+pub place-below : (t : ℕ) → placeOf t < 8
+place-below t = elim (decLt t 8) [ yes h ↦ rw (lt-ltb t 8 h) h | no h ↦ rw (le-ltb t 8 (omega arith)) (omega arith) ]
+
+pub at-place : {s : Tanks} {st : List Setting} {hs : List Head} {pool : List Run} {table : Table} (t : ℕ) → t < 8 → PartsOf s (placeOf t) st hs pool table → PartsOf s t st hs pool table
+at-place {s} {st} {hs} {pool} {table} t h p = subst (λ (u : ℕ). PartsOf s u st hs pool table) (place-in t h) p
+
+-- ---- what is said of the parts is said of the state
+module _ {s : Tanks} {u : ℕ} {st : List Setting} {hs : List Head} {pool : List Run} {table : Table} (p : PartsOf s u st hs pool table) where
+  pub on-parts : (P : List Setting → List Head → List Run → Table → Type 0) → P (s .settings) (s .heads) (s .pool) (getD (s .tables) u noTable) → P st hs pool table
+  on-parts P x =
+      subst (λ (z : Table). P st hs pool z) (p .table-is)
+      (subst (λ (z : List Run). P st hs z (getD (s .tables) u noTable)) (p .pool-is)
+      (subst (λ (z : List Head). P st z (s .pool) (getD (s .tables) u noTable)) (p .heads-are)
+      (subst (λ (z : List Setting). P z (s .heads) (s .pool) (getD (s .tables) u noTable)) (p .settings-are) x)))
+
+  pub on-state : (P : List Setting → List Head → List Run → Table → Type 0) → P st hs pool table → P (s .settings) (s .heads) (s .pool) (getD (s .tables) u noTable)
+  on-state P x =
+      subst (λ (z : List Setting). P z (s .heads) (s .pool) (getD (s .tables) u noTable)) (sym (p .settings-are))
+      (subst (λ (z : List Head). P st z (s .pool) (getD (s .tables) u noTable)) (sym (p .heads-are))
+      (subst (λ (z : List Run). P st hs z (getD (s .tables) u noTable)) (sym (p .pool-is))
+      (subst (λ (z : Table). P st hs pool z) (sym (p .table-is)) x)))
+
+-- ---- put back as they were
+set-own : {A : Type 0} (d : A) (xs : List A) (u : ℕ) → u < length xs → set xs u (getD xs u d) ≡ xs
+set-own d xs u h =
+    ext-getD d (set xs u (getD xs u d)) xs (length-set xs u (getD xs u d))
+    (λ k _. elim (ℕ-discrete u k) [
+      | yes e ↦ subst (λ (j : ℕ). getD (set xs u (getD xs u d)) j d ≡ getD xs j d) e (getD-set-same xs u (getD xs u d) d h)
+      | no n ↦ getD-set-other xs u k (getD xs u d) d (λ e. n (sym e))
+    ])
+
+-- the parts of a refused edit
+abbrev pub Unchanged : ℕ → List Run → Table → Head → Parts → Type 0
+Unchanged v pool table head r = (r .pool ≡ pool) × (r .table ≡ table) × (r .head ≡ head) × (r .number ≡ v) × (r .styles ≡ stylesOf []) × (r .first ≡ 0)
+
+with-same : (s : Tanks) (u : ℕ) (r : Parts) → Sound s → u < 8 → r .pool ≡ s .pool → r .table ≡ getD (s .tables) u noTable → r .head ≡ getD (s .heads) u noHead → withParts s u r ≡ s
+with-same s u r ok h a b c =
+    rw (a, b, c, set-own noTable (s .tables) u (omega (arith, ok .tables-8)), set-own noHead (s .heads) u (omega (arith, ok .heads-8)))
+
+-- what the code knows of an edit of tank t on parts: the tank taken out, and the verdict
+abbrev pub Known : ℕ → Edit → Tank → ℕ → ℕ → ℕ → List Setting → List Head → List Run → Table → Type 0
+Known t e x number n v st hs pool table =
+    (x ≡ tankIn hs pool table t) × (v ≡ firstRefusal (firstRefusal number (shareNumber (madeBy e) (shareOf st t) (runsIn hs t) n)) (judgement st (runsIn hs) t n))
+
+module _ (s : Tanks) (t : ℕ) (e : Edit) (ok : Sound s) where
+  -- no such tank
+  pub parts-past : (r : Parts) → 8 ≤ t → Unchanged 1 (s .pool) (getD (s .tables) (placeOf t) noTable) (getD (s .heads) 0 noHead) r → DoneAt s t e (doneWith s (placeOf t) r)
+  parts-past r h is =
+      let z = place-past t h in
+      done-refused s t e 1 (doneWith s (placeOf t) r) (called-past s t e ok h) (omega arith)
+      (is .3, is .4, is .5, with-same s (placeOf t) r ok (omega (arith, z)) (is .0) (is .1) (rw z (is .2)))
+
+  module _ (h : t < 8) (x : Tank) (p : Performed) (performed : PerformedAs e x p) (v : ℕ) (known : Known t e x (p .number) (p .tank .runs) v (s .settings) (s .heads) (s .pool) (getD (s .tables) t noTable)) where
+    own : TakenOut s t x
+    unfolding tankOf
+    own = taken s ok t x h (known .0)
+
+    pub parts-refused : (r : Parts) → 0 < v → Unchanged v (s .pool) (getD (s .tables) t noTable) (getD (s .heads) t noHead) r → DoneAt s t e (doneWith s t r)
+    parts-refused r g is =
+        done-refused s t e v (doneWith s t r)
+        (called-by s t e x (p .number) (p .tank) v s ok h own (performed .called) (tail-refused s t (ownBy s t e (p .number) (p .tank .runs)) (p .tank) v ok (known .1) g)) g
+        (is .3, is .4, is .5, with-same s t r ok h (is .0) (is .1) (is .2))
+
+    pub parts-done : (r : Parts) → v ≡ 0 → r .pool ≡ puts s t (p .tank) .pool → r .table ≡ tableIn (p .tank) → r .head ≡ headOf (p .tank) → r .number ≡ 0 → r .styles ≡ p .styles → r .first ≡ p .first
+        → DoneAt s t e (doneWith s t r)
+    unfolding puts
+    parts-done r z a b c n d f =
+        let k =
+        called-by s t e x (p .number) (p .tank) 0 (puts s t (p .tank)) ok h own (performed .called)
+        (tail-done s t (ownBy s t e (p .number) (p .tank .runs)) (p .tank) ok h (performed .called .formed) (sym (known .1) ∙ z)) in
+        rw (a, b, c, n, d, f) (done-by s t e x p (puts s t (p .tank)) h own performed k)
+
+-- ---- a holder of a state: its own parts, and what comes back put where they were
+module _ (s : Tanks) (t u : ℕ) (place : u ≡ placeOf t) (ok : Sound s) where
+  parts-own : PartsOf s (placeOf t) (s .settings) (s .heads) (s .pool) (getD (s .tables) u noTable)
+  parts-own = record { settings-are = refl; heads-are = refl; pool-is = refl; table-is = ap (λ (k : ℕ). getD (s .tables) k noTable) (sym place) }
+
+  pub parts-some : PartsOfSome (placeOf t) (s .settings) (s .heads) (s .pool) (getD (s .tables) u noTable)
+  parts-some = record { state = s; sound = ok; parts = parts-own }
+
+  pub parts-back : (e : Edit) (r : Parts) → EditsParts (s .settings) (s .heads) (s .pool) (getD (s .tables) u noTable) t e r → DoneAt s t e (doneWith s u r)
+  parts-back e r edits = subst (λ (k : ℕ). DoneAt s t e (doneWith s k r)) (sym place) (edits s ok parts-own)
