@@ -80,7 +80,7 @@ on-same Event.Nothing x q r c = refl
 on-same Event.Bad x q r c = refl
 on-same Event.Call x q r c = refl
 
-none-behind : (c : ℕ) → (c ≡ 10 → ⊥) → hasEnd (c ∷ []) ≡ false
+pub none-behind : (c : ℕ) → (c ≡ 10 → ⊥) → hasEnd (c ∷ []) ≡ false
 unfolding holds
 none-behind c n = held-past 10 c [] n
 
@@ -94,27 +94,27 @@ pub record Ready (x : Course) : Type 0 where
   pub on : x .stop ≡ Stop.Going
   pub op : logged (x .reader .call .op) ≡ true
 
-byte-taken : (x : Course) (c : ℕ) → Ready x → afterByte x c ≡ afterLine x (c ∷ [])
+pub byte-taken : (x : Course) (c : ℕ) → Ready x → afterByte x c ≡ afterLine x (c ∷ [])
 unfolding afterByte
 byte-taken x c r = rw (r .on)
 
 -- a byte more of a line that goes on
-part : Course → ℕ → Course
+unfoldable pub part : Course → ℕ → Course
 part x c = readOn x (afterOf (x .reader) (c ∷ []))
 
 part-call : (s : State) (c : ℕ) → hasEnd (c ∷ []) ≡ false → afterOf s (c ∷ []) .call ≡ s .call
 unfolding afterOf
 part-call s c e = rw e
 
-part-brings : (x : Course) (c : ℕ) → Ready x → hasEnd (c ∷ []) ≡ false → afterLine x (c ∷ []) ≡ part x c
+pub part-brings : (x : Course) (c : ℕ) → Ready x → hasEnd (c ∷ []) ≡ false → afterLine x (c ∷ []) ≡ part x c
 unfolding onLine bringsOf part
 part-brings x c r e = rw e (rw (r .op))
 
-part-ready : (x : Course) (c : ℕ) → Ready x → hasEnd (c ∷ []) ≡ false → Ready (part x c)
+pub part-ready : (x : Course) (c : ℕ) → Ready x → hasEnd (c ∷ []) ≡ false → Ready (part x c)
 unfolding part
 part-ready x c r e = record { on = refl; op = rw (part-call (x .reader) c e) (r .op) }
 
-part-line : (x : Course) (c : ℕ) (cs : List ℕ) → hasEnd (c ∷ []) ≡ false → afterLine (part x c) cs ≡ afterLine x (c ∷ cs)
+pub part-line : (x : Course) (c : ℕ) (cs : List ℕ) → hasEnd (c ∷ []) ≡ false → afterLine (part x c) cs ≡ afterLine x (c ∷ cs)
 unfolding part bringsOf
 part-line x c cs e =
     let s = x .reader in

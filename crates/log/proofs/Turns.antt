@@ -131,7 +131,7 @@ module _ (s : Tanks) (edits : ℕ) {r : Reader} {from : ℕ} {input : List ℕ} 
       ∙ sym (drop-least (from + length (lineFront (drop from input)) + 1) input)
       ∙ sym (ap (λ (k : ℕ). drop k input) (fed .at))
 
-  line-is : afterLine (standing s r edits) (drop from input) ≡ onLine (f .event) (standing s r edits) (stateOf (f .reader)) (f .call)
+  pub line-is : afterLine (standing s r edits) (drop from input) ≡ onLine (f .event) (standing s r edits) (stateOf (f .reader)) (f .call)
   line-is =
       ap (λ (v : Event). onLine v (standing s r edits) (afterOf (stateOf r) (drop from input)) (readOf (stateOf r) (drop from input) .call)) (sym (fed .event))
       ∙ ap₂ (λ (t : State) (c : Call). onLine (f .event) (standing s r edits) t c) (sym (fed-state fed)) (sym (fed .call))

@@ -2,11 +2,14 @@
 //
 // A read may end anywhere. `begin`, then `take` with each read, and `end` where the log is over: tanks and log are then the same
 // however the bytes were cut. The reader of lines and groups is the call scripts' own, so a log is a script of three ops.
+mod groups; // groups.rt: the whole groups at the front of some bytes
+
 ghost use mathlib.Core.Bool.{true};
 ghost use mathlib.Core.Path.{_≡_};
 ghost use Rattle.tanks.specs.Pool as pool;
 ghost use Rattle.tanks.specs.Contracts.{editOf};
 ghost use Rattle.log.specs.Log.{changeBy, isEdit, logged, editBy, stepOf, wrongLine, outcomeOf, fresh, stoppedLog, atEnd, Sound, Takes};
+pub use groups::take_groups;
 use script::Call;
 use script::Change;
 use script::Ending;
@@ -34,6 +37,16 @@ pub struct Log {
 pub struct Taken {
     pub tanks: Tanks,
     pub log: Log,
+}
+
+// The tanks after the whole groups at the front of some bytes, the place behind the last of them, how many lines and edits they were, and
+// where the log stopped behind them, if it did.
+pub struct Took {
+    pub tanks: Tanks,
+    pub at: usize,
+    pub lines: u64,
+    pub edits: u64,
+    pub stop: Stop,
 }
 
 // What a line's end brings: a good line, and whether it was its group's last; or a wrong one.

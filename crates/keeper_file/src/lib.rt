@@ -1,0 +1,135 @@
+// The keeper's file: up to which byte a log was read and the tanks as they were then, as one text, and back.
+ghost use mathlib.Core.Path.{_≡_};
+ghost use mathlib.Core.List.{_++_};
+ghost use Prim.Native.Nat.{_≤_};
+ghost use lib.ListN.{length};
+ghost use Rattle.script.specs.Lines.{countedOf};
+ghost use Rattle.runs.specs.Stretches.{inFront};
+ghost use Rattle.lists.specs.Lists.{filledBeside, unlessRefused};
+ghost use Rattle.tanks.specs.Pool.{Sound, meaning};
+ghost use Rattle.keeper_file.specs.File.{placeText, fileOf, roomNumber, fileNumber, furtherBy, differs, FiledAgain, ReadsBack};
+use lists::Listed;
+use tanks::Tanks;
+use text_lines::Taken as Line;
+
+// No file is longer: 26 bytes of its first line, and the longest saved text.
+pub const MOST: usize = 117956;
+
+// What a file says: 0, a place and tanks; or 13, its first wrong line, and the tanks as they were.
+pub struct Back {
+    pub number: u64,
+    pub line: u64,
+    pub place: u64,
+    pub tanks: Tanks,
+}
+
+// Room for the longest saved text.
+fn text_room() -> [u8; 118784]
+    ensures { λ r. ⌜ 118784 ≡ length r ⌝ }
+{
+    [0; 118784]
+}
+
+// The line of a place and a text behind it, at the front of `out`; a refusal writes nothing.
+fn put_file(place: u64, text: &[u8], out: &mut [u8]) -> Listed
+    ensures { λ r. ⌜ r ≡ filledBeside (roomNumber (length (now (out .entry))) (placeText place ++ now (text .entry))) (placeText place ++ now (text .entry)) ⌝ }
+    ensures { λ r. ⌜ now (out .exit) ≡ inFront (unlessRefused (roomNumber (length (now (out .entry))) (placeText place ++ now (text .entry))) (placeText place ++ now (text .entry))) (now (out .entry)) ⌝ }
+{
+    let mut line = [0u8; 32];
+    let k = script::put_field(&mut line, 0, b"read=", place);
+    if out.len() < k {
+        return Listed {
+            number: 11,
+            count: 0,
+        };
+    }
+    if out.len() - k < text.len() {
+        return Listed {
+            number: 11,
+            count: 0,
+        };
+    }
+    let a = text::put(out, 0, &line[..k]);
+    let b = text::put(out, a, text);
+    Listed {
+        number: 0,
+        count: b,
+    }
+}
+
+// Writes the file of a place and some tanks to the front of `out`; a refusal writes nothing. What is written reads back as both.
+pub fn write(s: Tanks, place: u64, out: &mut [u8]) -> Listed
+    requires { ⌜ Sound s ⌝ }
+    ensures { λ r. ⌜ r ≡ filledBeside (fileNumber (length (now (out .entry))) place (meaning s)) (fileOf place (meaning s)) ⌝ }
+    ensures { λ r. ⌜ now (out .exit) ≡ inFront (unlessRefused (fileNumber (length (now (out .entry))) place (meaning s)) (fileOf place (meaning s))) (now (out .entry)) ⌝ }
+    ensures { λ r. ⌜ (r .number ≡ 0 → FiledAgain place (meaning s)) × (r .count ≤ length (now (out .entry))) ⌝ }
+{
+    let mut text = text_room();
+    let t = saved::write(s, &mut text);
+    let n = t.count;
+    put_file(place, &text[..n], out)
+}
+
+fn not_read(line: u64, tanks: Tanks) -> Back
+    ensures { λ r. ⌜ r ≡ record { number = 13; line = line; place = 0; tanks = tanks } ⌝ }
+{
+    Back {
+        number: 13,
+        line: line,
+        place: 0,
+        tanks: tanks,
+    }
+}
+
+// One line more, as far as 64 bits count.
+fn counted(line: u64) -> u64
+    ensures { λ r. ⌜ r ≡ countedOf line ⌝ }
+{
+    if line < 18446744073709551615 {
+        return line + 1;
+    }
+    line
+}
+
+// The place and the tanks that a file says, or 13, its first wrong line and the tanks as they were.
+pub fn read_back(s: Tanks, bytes: &[u8]) -> Back
+    requires { ⌜ Sound s ⌝ }
+    ensures { λ r. ⌜ ReadsBack s (now (bytes .entry)) r ⌝ }
+{
+    let Line::Number(place, start) = text_lines::number(bytes, 0, b"read=", 0, 18446744073709551615)
+    else {
+        return not_read(1, s);
+    };
+    let r = saved::restore(s, &bytes[start..]);
+    let tanks = r.tanks;
+    if 0 < r.number {
+        return not_read(counted(r.line), tanks);
+    }
+    Back {
+        number: 0,
+        line: 0,
+        place: place,
+        tanks: tanks,
+    }
+}
+
+// The place so many bytes further on.
+pub fn further(place: u64, more: usize) -> u64
+    ensures { λ r. ⌜ r ≡ furtherBy place more ⌝ }
+{
+    let n = text::wide(more);
+    if n < 18446744073709551615 - place {
+        return place + n;
+    }
+    18446744073709551615
+}
+
+// Whether the file is to be written: where its text is another than the one that is kept.
+pub fn changed(kept: &[u8], next: &[u8]) -> bool
+    ensures { λ r. ⌜ r ≡ differs (now (kept .entry)) (now (next .entry)) ⌝ }
+{
+    if text::same(kept, next) {
+        return false;
+    }
+    true
+}
