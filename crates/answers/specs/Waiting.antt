@@ -6,7 +6,7 @@ use Prim.Native.Nat.{ℕ, _+_, _≤_}
 use lib.Dec.{leb}
 use lib.ListN.{length, take}
 use Rattle.text.specs.Number.{put}
-use Rattle.script.specs.Writing.{freeAt}
+use Rattle.script.specs.Writing.{freeAt, mostWritten}
 
 -- pieces of text: whole lines, or parts of a text that is handed out as it is
 abbrev pub Pieces : Type 0
@@ -25,7 +25,7 @@ waiting buffer at = record { buffer = buffer; at = at }
 abbrev pub pieceRoom : ℕ
 pieceRoom = 192
 
--- one piece more: behind what waits, or at the front, where what waited has been written out since there was no room for a piece
+-- one piece more: behind what waits, or, since there was no room for a piece, at the front of a buffer that has been written out, or over the last bytes of one that is held
 unfoldable pub with : Waiting → List ℕ → Waiting
 with w piece = waiting (put (w .buffer) (freeAt pieceRoom (w .at) (w .buffer)) piece) (freeAt pieceRoom (w .at) (w .buffer) + length piece)
 
@@ -48,7 +48,11 @@ pub record Adds (buffer : List ℕ) (at : ℕ) (pieces : Pieces) (after : ℕ) (
 abbrev pub front : Waiting → List ℕ
 front w = take (w .at) (w .buffer)
 
--- what waited, each time that there is no room for a piece
+-- what goes out where there is no room: all that waits, and nothing of a buffer that is held
+abbrev pub goesOut : Waiting → List ℕ
+goesOut w = cond (leb (length (w .buffer)) mostWritten) (front w) []
+
+-- what goes out, each time that there is no room for a piece
 unfoldable pub sent : Waiting → Pieces → List ℕ
 sent w [] = []
-sent w (piece ∷ pieces) = cond (leb (w .at + pieceRoom) (length (w .buffer))) [] (front w) ++ sent (with w piece) pieces
+sent w (piece ∷ pieces) = cond (leb (w .at + pieceRoom) (length (w .buffer))) [] (goesOut w) ++ sent (with w piece) pieces

@@ -77,13 +77,13 @@ unfolding saidByte
 said-byte byte = by-place (λ (x : Course). saidByte x byte) λ p v w. refl
 
 -- where bytes lead depends on the place alone
-place-bytes : (input : List ℕ) (x y : Course) → whereOf x ≡ whereOf y → whereOf (afterBytes x input) ≡ whereOf (afterBytes y input)
+pub place-bytes : (input : List ℕ) (x y : Course) → whereOf x ≡ whereOf y → whereOf (afterBytes x input) ≡ whereOf (afterBytes y input)
 unfolding afterBytes
 place-bytes [] x y e = e
 place-bytes (byte ∷ more) x y e = place-bytes more (afterByte x byte) (afterByte y byte) (place-byte byte x y e)
 
 -- and so does what they say
-said-bytes : (input : List ℕ) (x y : Course) → whereOf x ≡ whereOf y → saidBytes x input ≡ saidBytes y input
+pub said-bytes : (input : List ℕ) (x y : Course) → whereOf x ≡ whereOf y → saidBytes x input ≡ saidBytes y input
 unfolding saidBytes
 said-bytes [] x y e = refl
 said-bytes (byte ∷ more) x y e = ap₂ _++_ (said-byte byte x y e) (said-bytes more (afterByte x byte) (afterByte y byte) (place-byte byte x y e))

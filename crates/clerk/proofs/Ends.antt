@@ -10,6 +10,7 @@ use Rattle.tanks.specs.Pool.{meaning, Sound}
 use Rattle.script.specs.declared.Ending.{Ending}
 use Rattle.script.specs.declared.Inlet.{Inlet}
 use Rattle.script.specs.Reading.{freshOf}
+use Rattle.script.specs.Writing.{mostWritten}
 use Rattle.script.specs.Lines.{readerAt, stateOf}
 use Rattle.script.specs.Bodies.{Stage, endingIn, stageOf, Fits, resting}
 use Rattle.answers.specs.Waiting.{Pieces, Waiting, waiting, pieceRoom, withAll, Short, Adds}
@@ -135,11 +136,12 @@ runs-as {t} {inlet} {side} {x} {r} {n} memory out {over} ok stands l most =
     }
 
 -- from the very beginning
-pub runs-whole : {h : House} {first : Inlet} {side : Side} (memory : List ℕ) {after d out : List ℕ} {r : Eaten} → h ≡ opening smallestSettings → first ≡ resting (readerAt (freshOf 0) 0) → side ≡ emptySide → pieceRoom ≤ length d → RunsFrom (record { house = h; side = side; stage = stageOf first memory; waits = waiting d 0; over = false }) r after out → RunsWhole r
-runs-whole {h} {first} {side} memory {after} {d} {out} {r} e f g room x =
+pub runs-whole : {h : House} {first : Inlet} {side : Side} (memory : List ℕ) {after d out : List ℕ} {r : Eaten} → h ≡ opening smallestSettings → first ≡ resting (readerAt (freshOf 0) 0) → side ≡ emptySide → pieceRoom ≤ length d → length d ≤ mostWritten → RunsFrom (record { house = h; side = side; stage = stageOf first memory; waits = waiting d 0; over = false }) r after out → RunsWhole r
+runs-whole {h} {first} {side} memory {after} {d} {out} {r} e f g room small x =
     record {
       buffer = d;
       room = room;
+      small = small;
       memory = after;
       out = out;
       runs =

@@ -4,28 +4,29 @@ use mathlib.Core.List.{List, [], _∷_, _++_, append-assoc, flatten}
 use Prim.Native.Nat.{ℕ, _≤_}
 use native.Mathlib.Omega.{arith}
 use lib.ListN.{length, take}
-use Rattle.text.proofs.Putting.{put-room}
-use Rattle.script.specs.Writing.{freeAt}
+use Rattle.script.specs.Writing.{freeAt, mostWritten}
 use Rattle.answers.specs.Waiting.{Pieces, Waiting, pieceRoom, with, withAll, Short, front, sent}
-use Rattle.answers.proofs.Sent.{nothing-lost}
+use Rattle.answers.proofs.Sent.{put-length, free-inside, nothing-lost}
 use Rattle.clerk.specs.declared.Eaten.{Eaten}
 use Rattle.clerk.specs.Course.{Course, afterRead, saidRead, writtenAfter, saidReads, gone, beginning, RunsWhole}
 use Rattle.clerk.proofs.Cuts.{waits-read}
 
--- of one read, whatever waited before it: what goes out meanwhile and what then waits are what waited before and all that is said
-pub run-nothing-lost : (x : Course) (input : List ℕ) → pieceRoom ≤ length (x .waits .buffer) → x .waits .at ≤ length (x .waits .buffer) → Short (saidRead x input) → sent (x .waits) (saidRead x input) ++ front (afterRead x input .waits) ≡ front (x .waits) ++ flatten (saidRead x input)
-run-nothing-lost x input room inside short = nothing-lost room inside (record { is = waits-read x input; short = short })
+-- of one read into a buffer that is written out, whatever waited before it: what goes out meanwhile and what then waits are what waited before and all that is said
+pub run-nothing-lost : (x : Course) (input : List ℕ) → pieceRoom ≤ length (x .waits .buffer) → length (x .waits .buffer) ≤ mostWritten → x .waits .at ≤ length (x .waits .buffer) → Short (saidRead x input) → sent (x .waits) (saidRead x input) ++ front (afterRead x input .waits) ≡ front (x .waits) ++ flatten (saidRead x input)
+run-nothing-lost x input room small inside short = nothing-lost room small inside (record { is = waits-read x input; short = short })
 
 -- ---- All reads of a run
--- pieces take no room away
-room-stays : (w : Waiting) (pieces : Pieces) → length (w .buffer) ≤ length (withAll w pieces .buffer)
-unfolding withAll with
-room-stays w [] = omega arith
-room-stays w (t ∷ ts) = omega (arith, put-room (w .buffer) (freeAt pieceRoom (w .at) (w .buffer)) t, room-stays (with w t) ts)
+-- pieces leave a buffer as long as it was
+same-room : (w : Waiting) (pieces : Pieces) → pieceRoom ≤ length (w .buffer) → Short pieces → length (withAll w pieces .buffer) ≡ length (w .buffer)
+unfolding withAll with Short
+same-room w [] room short = refl
+same-room w (t ∷ ts) room short =
+    let same = put-length (w .buffer) (freeAt pieceRoom (w .at) (w .buffer)) t (free-inside (w .at) (w .buffer) t room (short .0)) in
+    same-room (with w t) ts (omega (arith, same, room)) (short .1) ∙ same
 
--- nor does a read
-read-room : (x : Course) (input : List ℕ) → length (x .waits .buffer) ≤ length (afterRead x input .waits .buffer)
-read-room x input = omega (arith, room-stays (x .waits) (saidRead x input), ap (λ (w : Waiting). length (w .buffer)) (waits-read x input))
+-- and so does a read
+read-room : (x : Course) (input : List ℕ) → pieceRoom ≤ length (x .waits .buffer) → Short (saidRead x input) → length (afterRead x input .waits .buffer) ≡ length (x .waits .buffer)
+read-room x input room short = ap (λ (w : Waiting). length (w .buffer)) (waits-read x input) ∙ same-room (x .waits) (saidRead x input) room short
 
 -- parts of short pieces
 short-parts : (ts us : Pieces) → Short (ts ++ us) → Short ts × Short us
@@ -39,17 +40,18 @@ flatten-parts [] us = refl
 flatten-parts (t ∷ ts) us = ap (λ (l : List ℕ). t ++ l) (flatten-parts ts us) ∙ sym (append-assoc t (flatten ts) (flatten us))
 
 -- from a place where nothing waits, all that goes out is all that is said
-pub reads-nothing-lost : (x : Course) (inputs : List (List ℕ)) → pieceRoom ≤ length (x .waits .buffer) → x .waits .at ≡ 0 → Short (saidReads x inputs) → gone x inputs ≡ flatten (saidReads x inputs)
+pub reads-nothing-lost : (x : Course) (inputs : List (List ℕ)) → pieceRoom ≤ length (x .waits .buffer) → length (x .waits .buffer) ≤ mostWritten → x .waits .at ≡ 0 → Short (saidReads x inputs) → gone x inputs ≡ flatten (saidReads x inputs)
 unfolding gone saidReads flatten
-reads-nothing-lost x [] room none short = refl
-reads-nothing-lost x (input ∷ inputs) room none short =
+reads-nothing-lost x [] room small none short = refl
+reads-nothing-lost x (input ∷ inputs) room small none short =
     let p = short-parts (saidRead x input) (saidReads (writtenAfter x input) inputs) short in
+    let same = read-room x input room (p .0) in
     ap₂
     _++_
-    (run-nothing-lost x input room (omega (arith, none)) (p .0) ∙ ap (λ (k : ℕ). take k (x .waits .buffer) ++ flatten (saidRead x input)) none)
-    (reads-nothing-lost (writtenAfter x input) inputs (omega (arith, room, read-room x input)) refl (p .1))
+    (run-nothing-lost x input room small (omega (arith, none)) (p .0) ∙ ap (λ (k : ℕ). take k (x .waits .buffer) ++ flatten (saidRead x input)) none)
+    (reads-nothing-lost (writtenAfter x input) inputs (omega (arith, room, same)) (omega (arith, small, same)) refl (p .1))
     ∙ sym (flatten-parts (saidRead x input) (saidReads (writtenAfter x input) inputs))
 
 -- a whole run
 pub whole-nothing-lost : {r : Eaten} (w : RunsWhole r) → gone (beginning (w .buffer)) (w .runs .leads .inputs) ≡ flatten (saidReads (beginning (w .buffer)) (w .runs .leads .inputs))
-whole-nothing-lost w = reads-nothing-lost (beginning (w .buffer)) (w .runs .leads .inputs) (w .room) refl (w .runs .leads .short)
+whole-nothing-lost w = reads-nothing-lost (beginning (w .buffer)) (w .runs .leads .inputs) (w .room) (w .small) refl (w .runs .leads .short)

@@ -15,6 +15,7 @@ use Rattle.script.specs.declared.Inlet.{Inlet}
 use Rattle.text.specs.Bytes.{bytes}
 use Rattle.script.specs.Grammar.{mostBody}
 use Rattle.script.specs.Reading.{freshOf}
+use Rattle.script.specs.Writing.{mostWritten}
 use Rattle.script.specs.Lines.{State, readerAt, stateOf, countedOf}
 use Rattle.script.specs.Bodies.{Stage, inLines, Brought, broughtBy, endingIn, stageOf, Fits}
 use Rattle.answers.specs.Waiting.{Pieces, Waiting, waiting, pieceRoom, withAll, Short, front, sent}
@@ -214,10 +215,11 @@ Runs s first side memory buffer r after out = RunsFrom (going s first side memor
 abbrev pub beginning : List ℕ → Course
 beginning buffer = record { house = opening smallestSettings; side = emptySide; stage = inLines (stateOf (readerAt (freshOf 0) 0)); waits = waiting buffer 0; over = false }
 
--- a run from its beginning to its end, in a buffer of its own that has room for a piece, and memory for a body
+-- a run from its beginning to its end, in a buffer of its own that has room for a piece and is written out, and memory for a body
 pub record RunsWhole (r : Eaten) : Type 0 where
   pub buffer : List ℕ
   pub room : pieceRoom ≤ length buffer
+  pub small : length buffer ≤ mostWritten
   pub memory : List ℕ
   pub out : List ℕ
   pub runs : RunsFrom (beginning buffer) r memory out

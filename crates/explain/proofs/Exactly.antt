@@ -5,9 +5,9 @@ use mathlib.Core.List.{List, [], _∷_, _++_}
 use Prim.Native.Nat.{ℕ, zero, suc, _+_, _/_, _%_, _^_, _≤_, _<_}
 use native.Mathlib.Decide.{decLt}
 use native.Mathlib.Omega.{arith}
-use lib.Dec.{leb, ltb}
+use lib.Dec.{ltb}
 use lib.ListN.{length, take, drop, length-append}
-use borrow.Author.Tests.{lt-ltb, le-ltb}
+use borrow.Author.Tests.{lt-ltb, le-ltb, le-leb}
 use Rattle.io.specs.Digits.{glyph, digits}
 use Rattle.text.specs.declared.Parsed.{Parsed}
 use Rattle.text.specs.Bytes.{bytes, upTo, startsOf}
@@ -15,7 +15,7 @@ use Rattle.text.specs.Number.{decimalOf, decimalText, placesFrom, put}
 use Rattle.text.proofs.Finding.{front-here, front-past}
 use Rattle.text.proofs.Laws.{digits-front, decimal-back}
 use Rattle.text.proofs.Putting.{take-put}
-use Rattle.script.specs.Writing.{fieldText}
+use Rattle.script.specs.Writing.{fieldText, freeAt}
 use Rattle.script.specs.Reading.{lineOf}
 use Rattle.script.specs.Lines.{State, countedOf, grownOf}
 use Rattle.answers.specs.Waiting.{Waiting, waiting, pieceRoom, with, withAll, Short, Adds, front}
@@ -24,14 +24,16 @@ use Rattle.explain.specs.Told.{toldNumber, refusalBy, refusalText, refus
 use Rattle.explain.proofs.Telling.{some-number, told-refused, told-bad}
 
 -- ---- The answer is what was put where nothing waited
-front-by : (b : Bool) (d t : List ℕ) → length t ≤ length d → take (cond b 0 0 + length t) (put d (cond b 0 0) t) ≡ t
-front-by true d t h = take-put d 0 t (omega arith)
-front-by false d t h = take-put d 0 t (omega arith)
+front-by : (d t : List ℕ) (k : ℕ) → k ≡ 0 → length t ≤ length d → take (k + length t) (put d k t) ≡ t
+front-by d t k e h = take-put d k t (omega (arith, e, h)) ∙ ap (λ (i : ℕ). take i d ++ t) e
+
+first-place : (d : List ℕ) → pieceRoom ≤ length d → freeAt pieceRoom 0 d ≡ 0
+first-place d room = rw (le-leb (0 + pieceRoom) (length d) (omega (arith, room)))
 
 pub one-line : {d out : List ℕ} {after : ℕ} (name : List ℕ) (n : ℕ) → pieceRoom ≤ length d → Adds d 0 (lineSays name n) after out → take after out ≡ fieldText name n
 unfolding withAll with Short
 one-line {d} name n room x =
-    ap front (x .is) ∙ front-by (leb (0 + pieceRoom) (length d)) d (fieldText name n) (omega (arith, x .short .0))
+    ap front (x .is) ∙ front-by d (fieldText name n) (freeAt pieceRoom 0 d) (first-place d room) (omega (arith, room, x .short .0))
 
 -- ---- The number in it
 -- no digit is a newline

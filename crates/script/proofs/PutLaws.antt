@@ -10,7 +10,7 @@ use Rattle.text.proofs.Laws.{length-hex}
 use Rattle.text.proofs.Putting.{put-put}
 use Rattle.script.specs.declared.Kind.{Kind}
 use Rattle.script.specs.Grammar.{kindName}
-use Rattle.script.specs.Writing.{Puts, freeAt}
+use Rattle.script.specs.Writing.{Puts, freeAt, mostWritten, againAt}
 
 pub puts-then : {d e o s t : List ℕ} {at m n a b : ℕ} → at + m ≤ length d → Puts d at s m a e → Puts e a t n b o → Puts d at (s ++ t) (m + n) b o
 puts-then {d} {e} {o} {s} {t} {at} {m} {n} {a} {b} room x y =
@@ -46,9 +46,16 @@ few-kind Kind.Bool = omega arith
 few-kind Kind.Whole = omega arith
 few-kind Kind.Decimal = omega arith
 
--- a place with room behind it: behind what waits, or at the front
+-- a place with room behind it: behind what waits
 pub free-behind : (room at : ℕ) (d : List ℕ) → room ≤ length d → at ≤ length d - room → (at ≡ freeAt room at d) × (at + room ≤ length d)
 free-behind room at d h k = (rw (le-leb (at + room) (length d) (omega arith)), omega arith)
 
-pub free-front : (room at : ℕ) (d : List ℕ) → room ≤ length d → length d - room < at → (0 ≡ freeAt room at d) × (0 + room ≤ length d)
-free-front room at d h k = (rw (lt-leb (at + room) (length d) (omega arith)), omega arith)
+-- at the front of a buffer that is written out
+pub free-front : (room at : ℕ) (d : List ℕ) → room ≤ length d → length d - room < at → length d ≤ mostWritten → (0 ≡ freeAt room at d) × (0 + room ≤ length d)
+unfolding againAt
+free-front room at d h k w = (rw (lt-leb (at + room) (length d) (omega arith)) (rw (le-leb (length d) mostWritten w)), omega arith)
+
+-- over the last bytes of one that is held
+pub free-held : (room at : ℕ) (d : List ℕ) → room ≤ length d → length d - room < at → mostWritten < length d → (length d - room ≡ freeAt room at d) × (length d - room + room ≤ length d)
+unfolding againAt
+free-held room at d h k w = (rw (lt-leb (at + room) (length d) (omega arith)) (rw (lt-leb (length d) mostWritten w)), omega arith)

@@ -2,7 +2,7 @@
 use mathlib.Core.Path.{_≡_}
 use mathlib.Core.Bool.{cond}
 use mathlib.Core.List.{List, [], _++_}
-use Prim.Native.Nat.{ℕ, _+_, _≤_}
+use Prim.Native.Nat.{ℕ, _+_, _-_, _≤_}
 use lib.Dec.{leb}
 use lib.Ieee.{toBits, binary64}
 use lib.IntN.{ℤ}
@@ -21,9 +21,17 @@ pub record Puts (d : List ℕ) (at : ℕ) (t : List ℕ) (most : ℕ) (r : ℕ) 
   pub few : r ≤ at + most
   pub text : out ≡ put d at t
 
--- where a text of at most so many bytes goes in a buffer whose front waits to be written out: behind what waits, or, where there is no room, to the front
+-- no longer buffer is one that is written out: a longer one is held by its owner, who looks at it when all is put
+abbrev pub mostWritten : ℕ
+mostWritten = 65536
+
+-- where a buffer goes on when it has no room behind what waits: at the front of one that has been written out; in one that is held over its last bytes, so that the place behind tells that not all of it had room
+unfoldable pub againAt : ℕ → List ℕ → ℕ
+againAt room d = cond (leb (length d) mostWritten) 0 (length d - room)
+
+-- where a text of at most so many bytes goes in a buffer whose front waits: behind what waits, or, where there is no room, where the buffer goes on
 abbrev pub freeAt : ℕ → ℕ → List ℕ → ℕ
-freeAt room at d = cond (leb (at + room) (length d)) at 0
+freeAt room at d = cond (leb (at + room) (length d)) at (againAt room d)
 
 -- a name, a word and a newline
 abbrev pub lineText : List ℕ → List ℕ → List ℕ

@@ -154,7 +154,8 @@ pub fn emit(out: &[u8], at: usize) -> usize
     n
 }
 
-// A place with so much room behind it: what waits in front is written out where there is less.
+// A place with so much room behind it. Where there is less, what waits in front is written out. A buffer of more than 65,536 bytes is held: it
+// is never written out, and what had no room is put over its last bytes, so that its owner finds the place there and knows.
 pub fn flushed(out: &[u8], at: usize, room: usize) -> usize
     requires { ⌜ room ≤ length (now out) ⌝ }
     ensures { λ r. ⌜ (r ≡ freeAt room at (now (out .entry))) × (r + room ≤ length (now (out .entry))) ⌝ }
@@ -162,6 +163,9 @@ pub fn flushed(out: &[u8], at: usize, room: usize) -> usize
     if at <= out.len() - room {
         return at;
     }
-    emit(out, at);
-    0
+    if out.len() <= 65536 {
+        emit(out, at);
+        return 0;
+    }
+    out.len() - room
 }

@@ -14,7 +14,7 @@ all-requires c κs =
     ((c .before .before .before .before .before .before .«open» .ensures .sound, c .before .before .before .empty .ensures .1, subst (λ (i : Inlet). Fits i (room .result)) (sym (c .before .before .before .before .begin-inlet .ensures)) (omega arith)), (omega (arith, room .ensures), omega (arith, c .before .before .before .before .before .before .before .before .large-buffer .ensures)))
 
 returns : tie.Need-returns
-returns c = runs-whole _ (c .before .before .before .before .before .before .before .before .before .before .«open» .ensures .is) (c .before .before .before .before .before .before .before .before .begin-inlet .ensures) (c .before .before .before .before .before .before .before .empty .ensures .0) (omega (arith, c .before .before .before .before .before .before .before .before .before .before .before .before .large-buffer .ensures)) (c .before .before .before .all .ensures)
+returns c = runs-whole _ (c .before .before .before .before .before .before .before .before .before .before .«open» .ensures .is) (c .before .before .before .before .before .before .before .before .begin-inlet .ensures) (c .before .before .before .before .before .before .before .empty .ensures .0) (omega (arith, c .before .before .before .before .before .before .before .before .before .before .before .before .large-buffer .ensures)) (omega (arith, c .before .before .before .before .before .before .before .before .before .before .before .before .large-buffer .ensures)) (c .before .before .before .all .ensures)
 
 pub run-spec : {M : Type 1} → statement M
 run-spec = tie.close (tie.spec (λ c κs. search needs) (λ c κs. search needs) (λ c κs. search needs) (λ c κs. search needs) (λ c κs. search needs) (λ c κs. search needs) (λ c. search needs) (λ c. search needs) (λ c. search needs) all-requires returns)
