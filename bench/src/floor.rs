@@ -8,7 +8,8 @@ use std::time::Instant;
 /// The size of `tanks::Tanks`.
 const STATE: usize = 29_056;
 /// How far the copy begins behind a multiple of 64 where the source begins at one: as alike as two
-/// can be, behind a number, and where an edit's result has it behind its number, marks and first.
+/// can be, behind a number, and behind a number, marks and a first place, as an edit's result once
+/// had it.
 const OFFS: [usize; 3] = [0, 8, 24];
 const SAMPLES: usize = 200;
 const TURNS: u32 = 200;
