@@ -34,7 +34,7 @@ use Rattle.questions.specs.declared.SetAsked.{SetAsked}
 use Rattle.questions.specs.declared.Shared.{Shared}
 use Rattle.questions.specs.declared.Told.{Told}
 use Rattle.questions.specs.declared.Told.the-variants as told
-use Rattle.tank.specs.Rules.{alike, forInsert}
+use Rattle.tank.specs.Rules.{View, alike, forInsert}
 use Rattle.tank.specs.State.{runsOf, tableOf, view, Formed}
 use Rattle.questions.specs.Questions.{toldOf, setOf, sharedOf, extentOf, stretchAt, positionRefusal, insertRefusal, yesNoRefusal, yesNo, rangeContainsKey, rangeHasKeyValue, sameRefusal, agreeing, stylesOfRange}
 use Rattle.tank.proofs.Calls.{asked-empty, asked-over, asked-within}
@@ -55,6 +55,34 @@ not-shared-is (suc n) e = λ i. record { number = suc n; agree = false; styles =
 pub no-extent-is : (n : ℕ) → _≡_ {A = Extent} (record { number = n; first = 0; last = 0 }) (extentOf n 0 0)
 no-extent-is zero = refl
 no-extent-is (suc n) = refl
+
+-- ---- the yes/no questions, of any view
+module _ (v : View) (a b : ℕ) (nan holds : Bool) where
+  abbrev answer : Told
+  answer = toldOf (yesNoRefusal a b nan v) (yesNo a b holds v)
+
+  pub no-empty : b ≤ a → told.No ≡ answer
+  unfolding yesNoRefusal yesNo
+  no-empty h = rw (asked-empty a b (cond nan 6 0) v h, le-ltb a b h)
+
+  module _ (some : a < b) where
+    pub told-4 : v .length < b → told.Refused 4 ≡ answer
+    unfolding yesNoRefusal
+    told-4 h = rw (asked-over a b (cond nan 6 0) v some h)
+
+    module _ (fits : b ≤ v .length) where
+      pub told-6 : nan ≡ true → told.Refused 6 ≡ answer
+      unfolding yesNoRefusal
+      told-6 e = rw (asked-within a b (cond nan 6 0) v some fits, e)
+
+      module _ (number : nan ≡ false) where
+        pub no-untouched : v .touched ≡ false → told.No ≡ answer
+        unfolding yesNoRefusal yesNo
+        no-untouched e = rw (asked-within a b (cond nan 6 0) v some fits, number, lt-ltb a b some, e)
+
+        pub told-done : v .touched ≡ true → toldOf 0 holds ≡ answer
+        unfolding yesNoRefusal yesNo
+        told-done e = rw (asked-within a b (cond nan 6 0) v some fits, number, lt-ltb a b some, e)
 
 module _ {t : Tank} (f : Formed t) where
   -- ---- what the runs are asked
@@ -139,34 +167,7 @@ module _ {t : Tank} (f : Formed t) where
   unfolding forInsert view
   none-for-insert pos e = pick-none (tableOf t) ∙ sym (simp e)
 
-  -- ---- the yes/no questions
-  module _ (a b : ℕ) (nan holds : Bool) where
-    abbrev answer : Told
-    answer = toldOf (yesNoRefusal a b nan (view t)) (yesNo a b holds (view t))
-
-    pub no-empty : b ≤ a → told.No ≡ answer
-    unfolding yesNoRefusal yesNo
-    no-empty h = rw (asked-empty a b (cond nan 6 0) (view t) h, le-ltb a b h)
-
-    module _ (some : a < b) where
-      pub told-4 : t .length < b → told.Refused 4 ≡ answer
-      unfolding yesNoRefusal view
-      told-4 h = rw (asked-over a b (cond nan 6 0) (view t) some h)
-
-      module _ (fits : b ≤ t .length) where
-        pub told-6 : nan ≡ true → told.Refused 6 ≡ answer
-        unfolding yesNoRefusal view
-        told-6 e = rw (asked-within a b (cond nan 6 0) (view t) some fits, e)
-
-        module _ (number : nan ≡ false) where
-          pub no-untouched : t .touched ≡ false → told.No ≡ answer
-          unfolding yesNoRefusal yesNo view
-          no-untouched e = rw (asked-within a b (cond nan 6 0) (view t) some fits, number, lt-ltb a b some, e)
-
-          told-done : t .touched ≡ true → toldOf 0 holds ≡ answer
-          unfolding yesNoRefusal yesNo view
-          told-done e = rw (asked-within a b (cond nan 6 0) (view t) some fits, number, lt-ltb a b some, e)
-
+  -- ---- the yes/no questions, by masks
   module _ (a b : ℕ) (some : a < b) (fits : b ≤ t .length) (e : t .touched ≡ true) (key : ℕ) where
     -- some position has a bit of the key's mask where it has a mark with the key
     pub key-done : {mask : ℕ} {r : Bool} → MaskOf (keyIs key) (tableOf t) mask → r ≡ anyAt (λ p. meets mask (setAt (runsOf t) p)) a b
@@ -177,7 +178,7 @@ module _ {t : Tank} (f : Formed t) where
         (q
         ∙ any-ext _ _ a b
         (λ p g h. ap (λ (x : ℕ). meets x (setAt (runsOf t) p)) (mask-only _ _ mask m) ∙ sym (has-key-bits (tableOf t) (setAt (runsOf t) p) key blank)))
-        ∙ told-done a b false _ some fits refl e
+        ∙ told-done (view t) a b false _ some fits refl e
 
     first-small : (s : ℕ) → bitAnd s (maskOf (keyIs key) (tableOf t)) < 2 ^ 64
     first-small s =
@@ -202,7 +203,7 @@ module _ {t : Tank} (f : Formed t) where
         let s = setAt (runsOf t) p in
         (λ i. shows (mask-only _ _ first m i) (mask-only _ _ second n i) s)
         ∙ shows-bits (tableOf t) s key w blank 64 (f .laid .sorted) (first-small s)))
-        ∙ told-done a b (valueNan w) _ some fits number e
+        ∙ told-done (view t) a b (valueNan w) _ some fits number e
 
   -- ---- same marks throughout
   -- positions have one set where they have the same marks

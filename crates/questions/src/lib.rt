@@ -60,7 +60,7 @@ pub struct Extent {
 }
 
 // A test as an answer.
-fn tell(yes: bool) -> Told
+pub fn tell(yes: bool) -> Told
     ensures { λ r. ⌜ r ≡ toldOf 0 yes ⌝ }
 {
     if yes { Told::Yes } else { Told::No }

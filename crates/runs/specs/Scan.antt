@@ -3,13 +3,13 @@ use Prim.Native.Nat.{ℕ, zero, suc, _≤_, _<_, _^_}
 use mathlib.Core.Bool.{Bool, not}
 use mathlib.Core.Path.{_≡_}
 use mathlib.Core.List.{List}
-use lib.Dec.{ltb}
+use lib.Dec.{ltb, eqb}
 use lib.Bits.{bitAnd}
 use lib.ListN.{length}
 use Rattle.styles.specs.Bits.{topIn}
 use Rattle.runs.specs.Runs.{Run, runs, total, setAt}
 use Rattle.runs.specs.declared.scan.Test.{Test}
-use Rattle.runs.specs.declared.scan.Test.the-variants.{Meets, Misses, Hides}
+use Rattle.runs.specs.declared.scan.Test.the-variants.{Meets, Misses, Hides, Differs}
 
 -- the set has a bit of the mask
 abbrev pub meets : ℕ → ℕ → Bool
@@ -24,6 +24,7 @@ unfoldable pub passes : Test → ℕ → Bool
 passes (Meets mask) s = meets mask s
 passes (Misses mask) s = not (meets mask s)
 passes (Hides first second) s = not (shows first second s)
+passes (Differs mask bits) s = not (eqb (bitAnd s mask) bits)
 
 -- the bits that positions pos - 1 and pos have in common: none at 0, and none at the end, since from there on the set is 0
 unfoldable pub commonAt : List Run → ℕ → ℕ

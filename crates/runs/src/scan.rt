@@ -13,20 +13,24 @@ use super::later;
 use super::set_at;
 use super::sooner;
 
-// What a scan looks for in a set: a bit of a mask; none of it; that the highest bit of a first mask is not in a second.
-enum Test {
+// What a scan looks for in a set: a bit of a mask; none of it; that the highest bit of a first mask is not in a second; that its bits of a mask
+// are others than these.
+pub enum Test {
     Meets(u64),
     Misses(u64),
     Hides(u64, u64),
+    Differs(u64, u64),
 }
 
-fn holds(test: Test, set: u64) -> bool
+// Whether a set passes the test.
+pub fn holds(test: Test, set: u64) -> bool
     ensures { λ r. ⌜ r ≡ passes test set ⌝ }
 {
     match test {
         Test::Meets(mask) => set & mask != 0,
         Test::Misses(mask) => set & mask == 0,
         Test::Hides(first, second) => !styles::bits::top_in(set, first, second),
+        Test::Differs(mask, bits) => set & mask != bits,
     }
 }
 

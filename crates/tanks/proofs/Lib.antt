@@ -5,6 +5,7 @@ pub mod Put
 pub mod PutLaws
 pub mod MeaningLaws
 pub mod LookLaws
+pub mod RangeLaws
 pub mod WriteLaws
 pub mod CallLaws
 pub mod AnswerLaws

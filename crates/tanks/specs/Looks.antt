@@ -21,6 +21,11 @@ pub record CanWalk (hs : List Head) (pool : List Run) (t : ℕ) : Type 0 where
   pub canon : runs.Canon (runList hs pool t)
   pub small : runs.total (runList hs pool t) < 2 ^ 63
 
+-- a range of some positions, and all of them the tank's
+pub record Within (hs : List Head) (pool : List Run) (t from to : ℕ) : Type 0 where
+  pub some : from < to
+  pub reach : to ≤ runs.total (runList hs pool t)
+
 -- the head, the runs and the table of a tank in form
 pub record Stands (hs : List Head) (pool : List Run) (table : Table) (t : ℕ) : Type 0 where
   pub inside : t < 8

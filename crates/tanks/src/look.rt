@@ -1,26 +1,30 @@
 // Looks at one tank where it stands: its runs in the pool, its marks in its table. Nothing is taken out of the state, and the other party's
 // marks are left out by their bits.
 ghost use mathlib.Core.Path.{_≡_};
-ghost use mathlib.Core.Bool.{cond};
+ghost use mathlib.Core.Bool.{cond, _&&_};
 ghost use Prim.Native.Nat.{_<_, _≤_, _^_};
 ghost use lib.Bits.{bitAnd};
 ghost use lib.Dec.{ltb};
 ghost use lib.ListN.{getD, take};
 ghost use Rattle.styles.specs.Answers.{stylesOf, rankOf};
 ghost use Rattle.styles.specs.Bits.{pick, MaskOf};
-ghost use Rattle.styles.specs.Marks.{isOf, winner};
+ghost use Rattle.styles.specs.Marks.{isOf, winner, hasKey, showsValue};
+ghost use Rattle.runs.specs.Positions.{anyAt, allAt};
 ghost use Rattle.runs.specs.Runs.{setAt};
-ghost use Rattle.runs.specs.Scan.{commonAt};
+ghost use Rattle.runs.specs.Scan.{commonAt, passes};
 ghost use Rattle.tank.specs.Rules.{forInsert};
 ghost use Rattle.tanks.specs.Pool.{noHead};
-ghost use Rattle.tanks.specs.Looks.{runList, CanWalk, Stands, shownIn};
+ghost use Rattle.tanks.specs.Looks.{runList, CanWalk, Within, Stands, shownIn};
 use super::Head;
 use super::Run;
 use super::Table;
 use super::pool::start;
+use runs::scan::Test;
+use runs::scan::holds;
 use styles::Party;
 use styles::Ranked;
 use styles::Styles;
+use styles::Value;
 use styles::Winner;
 
 // How many positions tank t has.
@@ -30,6 +34,15 @@ pub fn length_in(heads: [Head; 8], t: usize) -> u64
 {
     let h = heads[t];
     h.length
+}
+
+// Has a mark ever been laid on tank t?
+pub fn touched_in(heads: [Head; 8], t: usize) -> bool
+    requires { ⌜ t < 8 ⌝ }
+    ensures { λ r. ⌜ r ≡ getD heads t noHead .touched ⌝ }
+{
+    let h = heads[t];
+    h.touched
 }
 
 // The bits of the marks at a position of tank t, of both parties; 0 past its end.
@@ -85,6 +98,40 @@ fn common_in(heads: [Head; 8], pool: [Run; 512], t: usize, pos: u64) -> u64
         last = r.set;
     }
     0
+}
+
+// Whether a run that ends at `end` has positions from `from` on, and a set that passes the test.
+fn passes_from(from: u64, end: u64, test: Test, set: u64) -> bool
+    ensures { λ r. ⌜ r ≡ (ltb from end && passes test set) ⌝ }
+{
+    if end <= from {
+        return false;
+    }
+    holds(test, set)
+}
+
+// Whether some position of from .. to of tank t has a set that passes the test. Runs from `to` on are not looked at.
+fn some_in(heads: [Head; 8], pool: [Run; 512], t: usize, from: u64, to: u64, test: Test) -> bool
+    requires { ⌜ (CanWalk heads pool t) × Within heads pool t from to ⌝ }
+    ensures { λ r. ⌜ r ≡ anyAt (λ p. passes test (setAt (runList heads pool t) p)) from to ⌝ }
+{
+    let at = start(heads, t);
+    let h = heads[t];
+    let n = h.runs;
+    let mut i = 0;
+    let mut end: u64 = 0;
+    while i < n {
+        if to <= end {
+            return false;
+        }
+        let r = pool[at + i];
+        end += r.len;
+        i += 1;
+        if passes_from(from, end, test, r.set) {
+            return true;
+        }
+    }
+    false
 }
 
 // The bits of a party's marks in tank t's table.
@@ -231,4 +278,48 @@ pub fn ranked_for_insert(
         seen_for_insert(heads, pool, table, t, who, pos),
         rank as usize,
     )
+}
+
+// Whether a party is shown a mark with the key at some position of start .. end.
+pub fn has_key(
+    heads: [Head; 8],
+    pool: [Run; 512],
+    table: Table,
+    t: usize,
+    who: Party,
+    start: u64,
+    end: u64,
+    key: u16,
+) -> bool
+    requires { ⌜ (Stands heads pool table t) × (start < end) × (end ≤ getD heads t noHead .length) ⌝ }
+    ensures { λ r. ⌜ r ≡ anyAt (λ p. hasKey key (shownIn heads pool table t who .at p)) start end ⌝ }
+{
+    let h = heads[t];
+    let marks = table.marks;
+    let own = own_bits(heads, table, t, who);
+    let keyed = styles::table::key_bits(marks, h.marks, key);
+    some_in(heads, pool, t, start, end, Test::Meets(own & keyed))
+}
+
+// Whether a party is shown the value for the key at every position of start .. end.
+pub fn all_show(
+    heads: [Head; 8],
+    pool: [Run; 512],
+    table: Table,
+    t: usize,
+    who: Party,
+    start: u64,
+    end: u64,
+    key: u16,
+    value: Value,
+) -> bool
+    requires { ⌜ (Stands heads pool table t) × (start < end) × (end ≤ getD heads t noHead .length) ⌝ }
+    ensures { λ r. ⌜ r ≡ allAt (λ p. showsValue key value (shownIn heads pool table t who .at p)) start end ⌝ }
+{
+    let h = heads[t];
+    let marks = table.marks;
+    let own = own_bits(heads, table, t, who);
+    let keyed = styles::table::key_bits(marks, h.marks, key);
+    let valued = styles::table::value_bits(marks, h.marks, value);
+    !some_in(heads, pool, t, start, end, Test::Hides(own & keyed, valued))
 }

@@ -1,5 +1,6 @@
 -- `range_has_key_value` meets its contract: the tests in turn, and then the masks of key and value over the runs.
 use Rattle.styles.specs.Values.{valueNan}
+use Rattle.tank.specs.State.{view}
 use Rattle.questions.proofs.QuestionLaws.{no-empty, told-4, told-6, no-untouched, value-done}
 use borrow.Author.Needs.{needs}
 use borrow.Author.Tests.{not-true, not-false}
@@ -8,29 +9,32 @@ use Rattle.questions.proofs.range_has_key_value.Statement.{statement}
 use Rattle.questions.proofs.range_has_key_value.Tie as tie
 
 returns : tie.Need-returns
-returns c = let s = c .before in no-empty (s .pre) (s .args .start) (s .args .end) (valueNan (s .args .value)) _ (c .if1 .taken)
+returns c = let s = c .before in no-empty (view (s .args .t)) (s .args .start) (s .args .end) (valueNan (s .args .value)) _ (c .if1 .taken)
 
 returns-2 : tie.Need-returns-2
+unfolding view
 returns-2 c =
     let e = c .before .before in
     let s = e .before in
-    told-4 (s .pre) (s .args .start) (s .args .end) (valueNan (s .args .value)) _ (e .if1 .left) (c .if2 .taken)
+    told-4 (view (s .args .t)) (s .args .start) (s .args .end) (valueNan (s .args .value)) _ (e .if1 .left) (c .if2 .taken)
 
 returns-3 : tie.Need-returns-3
+unfolding view
 returns-3 c =
     let f = c .before .before in
     let e = f .before .before in
     let s = e .before in
-    told-6 (s .pre) (s .args .start) (s .args .end) (valueNan (s .args .value)) _ (e .if1 .left) (f .if2 .left)
+    told-6 (view (s .args .t)) (s .args .start) (s .args .end) (valueNan (s .args .value)) _ (e .if1 .left) (f .if2 .left)
     (sym (c .before .value-is-nan .ensures) ∙ c .if3 .taken)
 
 returns-4 : tie.Need-returns-4
+unfolding view
 returns-4 c =
     let g = c .before .before in
     let f = g .before .before in
     let e = f .before .before in
     let s = e .before in
-    no-untouched (s .pre) (s .args .start) (s .args .end) (valueNan (s .args .value)) _ (e .if1 .left) (f .if2 .left)
+    no-untouched (view (s .args .t)) (s .args .start) (s .args .end) (valueNan (s .args .value)) _ (e .if1 .left) (f .if2 .left)
     (sym (g .before .value-is-nan .ensures) ∙ g .if3 .left) (not-true _ (c .if4 .taken))
 
 returns-5 : tie.Need-returns-5

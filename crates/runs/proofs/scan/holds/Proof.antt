@@ -25,6 +25,10 @@ unfolding passes
 returns-3 c =
     rw (c .before .before .test3 .given .1) (ap not (c .top-in .ensures))
 
+returns-4 : tie.Need-returns-4
+unfolding passes
+returns-4 c = rw (c .before .test4 .given .1)
+
 pub holds-spec : {M : Type 1} → statement M
 holds-spec =
     tie.close
@@ -33,6 +37,8 @@ holds-spec =
     (λ c. search needs)
     (λ c. search needs)
     (λ c κs. search needs)
+    (λ c. search needs)
     returns
     returns-2
-    returns-3)
+    returns-3
+    returns-4)
