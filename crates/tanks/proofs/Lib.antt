@@ -6,6 +6,7 @@ pub mod PutLaws
 pub mod MeaningLaws
 pub mod LookLaws
 pub mod RangeLaws
+pub mod ReachLaws
 pub mod WriteLaws
 pub mod CallLaws
 pub mod AnswerLaws

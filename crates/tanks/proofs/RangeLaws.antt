@@ -1,6 +1,6 @@
 -- A test of the sets over a range, run by run where they stand in the pool; and with the party's bits it is a test of the marks that are shown.
 use Prim.Native.Nat.{ℕ, zero, suc, _+_, _≤_, _<_, _^_, max, min}
-use mathlib.Core.Path.{_≡_, refl, sym, ap, _∙_}
+use mathlib.Core.Path.{_≡_, refl, sym, ap, _∙_, fun-ext}
 use mathlib.Core.Bool.{Bool, true, false, not, _&&_, and-eq-true-iff}
 use mathlib.Core.List.{List, _∷_, map}
 use native.Mathlib.Omega.{arith}
@@ -25,15 +25,16 @@ use Rattle.runs.specs.Positions.{sumBelow, anyAt, allAt}
 use Rattle.runs.specs.Runs as runs
 use Rattle.runs.specs.Scan.{meets, shows}
 use Rattle.runs.proofs.ExtentLaws.{canon-front}
-use Rattle.runs.proofs.Laws.{total-sums}
+use Rattle.runs.proofs.Laws.{total-sums, total-mono}
 use Rattle.runs.proofs.ScanLaws.{any-yes, any-no, any-ext, all-ext, all-is, at-run, second-fails}
 use Rattle.runs.proofs.SumLaws.{sum-same}
+use Rattle.tank.specs.Rules.{alike}
 use Rattle.tank.proofs.Unique.{table-length}
 use Rattle.tanks.specs.declared.Head.{Head}
 use Rattle.tanks.specs.declared.Run.{Run}
 use Rattle.tanks.specs.declared.Table.{Table}
 use Rattle.tanks.specs.Pool.{noRun, noHead, runsIn, runsBelow, lensIn, setsIn, tankIn}
-use Rattle.tanks.specs.Looks.{runList, CanWalk, Within, Stands, shownIn}
+use Rattle.tanks.specs.Looks.{runList, CanWalk, Within, Stands, shownIn, alikeBy}
 use Rattle.tanks.proofs.LookLaws.{lenFrom, Walked, seen-marks, seen-small, few-in, sorted-in}
 use Rattle.tanks.proofs.SliceLaws.{array-at}
 
@@ -104,6 +105,9 @@ module _ {pool : List Run} {at n i end : ℕ} (w : Walked pool at n i end) where
       let a = w .within in
       let e : i ≡ n = omega arith in
       sym (begun-from w) ∙ ap (λ (x : ℕ). runs.total (runsFrom pool at x)) e
+
+  pub walked-within : end ≤ runs.total (runsFrom pool at n)
+  walked-within = omega (arith, begun-from w, total-mono (lensFrom pool at) (setsFrom pool at) i n (w .within))
 
   module _ (test : ℕ → Bool) (from : ℕ) where
     -- a turn
@@ -189,3 +193,12 @@ module _ {hs : List Head} {pool : List Run} {table : Table} {t : ℕ} (ok : Stan
   pub within-in : {from to : ℕ} → from < to → to ≤ getD hs t noHead .length → Within hs pool t from to
   unfolding tankIn
   within-in h g = record { some = h; reach = omega (arith, g, ok .formed .laid .sum) }
+
+  -- the length is how many positions the runs have
+  pub total-in : runs.total (runList hs pool t) ≡ getD hs t noHead .length
+  unfolding tankIn
+  total-in = sym (ok .formed .laid .sum)
+
+  -- the party is shown the same marks at neighbours where they have the same of its bits
+  pub alike-seen : (who : Party) {own : ℕ} → MaskOf (isOf who) (take (getD hs t noHead .marks) (table .marks)) own → alikeBy own (runList hs pool t) ≡ alike (shownIn hs pool table t who .at)
+  alike-seen who m = fun-ext (λ p. sym (same-seen ok who m p (suc p)))

@@ -1,6 +1,9 @@
 -- What the looks at a tank promise and ask: it is read where it stands, its runs in the pool and its marks in its table.
-use Prim.Native.Nat.{ℕ, _≤_, _<_, _^_}
+use Prim.Native.Nat.{ℕ, suc, _≤_, _<_, _^_}
+use mathlib.Core.Bool.{Bool}
 use mathlib.Core.List.{List}
+use lib.Bits.{bitAnd}
+use lib.Dec.{eqb}
 use Rattle.styles.specs.declared.Party.{Party}
 use Rattle.runs.specs.Runs as runs
 use Rattle.tank.specs.Rules.{View, shownTo}
@@ -13,6 +16,10 @@ use Rattle.tanks.specs.Pool.{runsIn, runsBelow, lensIn, setsIn, tankIn}
 -- tank t's runs, the last first
 abbrev pub runList : List Head → List Run → ℕ → List runs.Run
 runList hs pool t = runs.runs (lensIn hs pool t) (setsIn hs pool t) (runsIn hs t)
+
+-- position p and the next have the same bits of a mask
+abbrev pub alikeBy : ℕ → List runs.Run → ℕ → Bool
+alikeBy own rs p = eqb (bitAnd (runs.setAt rs p) own) (bitAnd (runs.setAt rs (suc p)) own)
 
 -- what a walk over them asks
 pub record CanWalk (hs : List Head) (pool : List Run) (t : ℕ) : Type 0 where

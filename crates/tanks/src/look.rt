@@ -8,13 +8,13 @@ ghost use lib.Dec.{ltb};
 ghost use lib.ListN.{getD, take};
 ghost use Rattle.styles.specs.Answers.{stylesOf, rankOf};
 ghost use Rattle.styles.specs.Bits.{pick, MaskOf};
-ghost use Rattle.styles.specs.Marks.{isOf, winner, hasKey, showsValue};
-ghost use Rattle.runs.specs.Positions.{anyAt, allAt};
-ghost use Rattle.runs.specs.Runs.{setAt};
+ghost use Rattle.styles.specs.Marks.{isOf, winner, hasKey, showsValue, sameMarks};
+ghost use Rattle.runs.specs.Positions.{anyAt, allAt, firstOf, lastOf};
+ghost use Rattle.runs.specs.Runs.{setAt, total};
 ghost use Rattle.runs.specs.Scan.{commonAt, passes};
-ghost use Rattle.tank.specs.Rules.{forInsert};
+ghost use Rattle.tank.specs.Rules.{alike, forInsert};
 ghost use Rattle.tanks.specs.Pool.{noHead};
-ghost use Rattle.tanks.specs.Looks.{runList, CanWalk, Within, Stands, shownIn};
+ghost use Rattle.tanks.specs.Looks.{runList, CanWalk, Within, Stands, shownIn, alikeBy};
 use super::Head;
 use super::Run;
 use super::Table;
@@ -26,6 +26,12 @@ use styles::Ranked;
 use styles::Styles;
 use styles::Value;
 use styles::Winner;
+
+// From where to where a stretch goes, both ends in it.
+pub struct Reach {
+    pub first: u64,
+    pub last: u64,
+}
 
 // How many positions tank t has.
 pub fn length_in(heads: [Head; 8], t: usize) -> u64
@@ -132,6 +138,41 @@ fn some_in(heads: [Head; 8], pool: [Run; 512], t: usize, from: u64, to: u64, tes
         }
     }
     false
+}
+
+// From where to where the positions around `pos` have the same bits of a mask.
+fn reach_in(heads: [Head; 8], pool: [Run; 512], t: usize, own: u64, pos: u64) -> Reach
+    requires { ⌜ (CanWalk heads pool t) × (pos < total (runList heads pool t)) ⌝ }
+    ensures { λ r. ⌜ (r .first ≡ firstOf (alikeBy own (runList heads pool t)) pos) × (r .last ≡ lastOf (alikeBy own (runList heads pool t)) (total (runList heads pool t)) pos) ⌝ }
+{
+    let at = start(heads, t);
+    let h = heads[t];
+    let n = h.runs;
+    let mut i = 0;
+    let mut end: u64 = 0;
+    let mut first: u64 = 0;
+    let mut one: u64 = 0;
+    while i < n {
+        let r = pool[at + i];
+        let bits = r.set & own;
+        let begun = end;
+        end += r.len;
+        i += 1;
+        if bits != one {
+            if pos < begun {
+                return Reach {
+                    first: first,
+                    last: begun - 1,
+                };
+            }
+            first = begun;
+            one = bits;
+        }
+    }
+    Reach {
+        first: first,
+        last: end - 1,
+    }
 }
 
 // The bits of a party's marks in tank t's table.
@@ -322,4 +363,38 @@ pub fn all_show(
     let keyed = styles::table::key_bits(marks, h.marks, key);
     let valued = styles::table::value_bits(marks, h.marks, value);
     !some_in(heads, pool, t, start, end, Test::Hides(own & keyed, valued))
+}
+
+// Whether a party is shown the same marks at all positions of start .. end.
+pub fn agree(
+    heads: [Head; 8],
+    pool: [Run; 512],
+    table: Table,
+    t: usize,
+    who: Party,
+    start: u64,
+    end: u64,
+) -> bool
+    requires { ⌜ (Stands heads pool table t) × (start < end) × (end ≤ getD heads t noHead .length) ⌝ }
+    ensures { λ r. ⌜ r ≡ allAt (λ p. sameMarks (shownIn heads pool table t who .at p) (shownIn heads pool table t who .at start)) start end ⌝ }
+{
+    let own = own_bits(heads, table, t, who);
+    let first = styles::bits::both(set_in(heads, pool, t, start), own);
+    !some_in(heads, pool, t, start, end, Test::Differs(own, first))
+}
+
+// From where to where the marks hold that a party is shown at a position.
+pub fn stretch_in(
+    heads: [Head; 8],
+    pool: [Run; 512],
+    table: Table,
+    t: usize,
+    who: Party,
+    pos: u64,
+) -> Reach
+    requires { ⌜ (Stands heads pool table t) × (pos < getD heads t noHead .length) ⌝ }
+    ensures { λ r. ⌜ (r .first ≡ firstOf (alike (shownIn heads pool table t who .at)) pos) × (r .last ≡ lastOf (alike (shownIn heads pool table t who .at)) (shownIn heads pool table t who .length) pos) ⌝ }
+{
+    let own = own_bits(heads, table, t, who);
+    reach_in(heads, pool, t, own, pos)
 }
