@@ -1,4 +1,6 @@
 // The questions and lists of eight tanks, with the tank's number in front.
+pub mod parts; // parts.rt: questions of one tank, on the parts of a state that it stands in
+
 ghost use mathlib.Core.Path.{_≡_};
 ghost use mathlib.Core.List.{[]};
 ghost use lib.ListN.{length};
@@ -22,7 +24,6 @@ use styles::Party;
 use styles::Value;
 use tank::Tank;
 use tanks::Tanks;
-use tanks::look;
 
 // A tank's number, and the party that asks.
 pub struct Spot {
@@ -43,24 +44,17 @@ pub fn shown(s: Tanks, tank: u64, who: Party) -> Tank
     t
 }
 
-// The value shown for a key at a position. As in all questions of a position, the tank is read where it stands; and the tables are taken out first,
-// for an index that is not known beforehand copies all of what it is read from, which would be the state.
+// The value shown for a key at a position. As in all questions that are asked of the parts, the tank is read where it stands; and the tables are taken
+// out first, for an index that is not known beforehand copies all of what it is read from, which would be the state.
 pub fn value_at(s: Tanks, tank: u64, who: Party, pos: u64, key: u16) -> Shown
     requires { ⌜ Sound s ⌝ }
     ensures { λ r. ⌜ r ≡ valueAsked (meaning s) tank who pos key ⌝ }
 {
-    if 8 <= tank {
-        return Shown::Refused(1);
-    }
-    let t = tank as usize;
     let heads = s.heads;
-    if look::length_in(heads, t) <= pos {
-        return Shown::Refused(4);
-    }
     let pool = s.pool;
     let tables = s.tables;
-    let table = tables[t];
-    questions::show(look::winner_at(heads, pool, table, t, who, pos, key))
+    let table = tables[tanks::place(tank)];
+    parts::value_at(heads, pool, table, tank, who, pos, key)
 }
 
 // The marks that a position carries.
@@ -68,22 +62,11 @@ pub fn styles_at(s: Tanks, tank: u64, who: Party, pos: u64) -> SetAsked
     requires { ⌜ Sound s ⌝ }
     ensures { λ r. ⌜ r ≡ marksAsked (meaning s) tank who pos ⌝ }
 {
-    if 8 <= tank {
-        return questions::no_set(1);
-    }
-    let t = tank as usize;
     let heads = s.heads;
-    if look::length_in(heads, t) <= pos {
-        return questions::no_set(4);
-    }
     let pool = s.pool;
     let tables = s.tables;
-    let table = tables[t];
-    let styles = look::styles_at(heads, pool, table, t, who, pos);
-    SetAsked {
-        number: 0,
-        styles: styles,
-    }
+    let table = tables[tanks::place(tank)];
+    parts::styles_at(heads, pool, table, tank, who, pos)
 }
 
 // The mark of a rank at a position.
@@ -91,18 +74,11 @@ pub fn style_at(s: Tanks, tank: u64, who: Party, pos: u64, rank: u64) -> Asked
     requires { ⌜ Sound s ⌝ }
     ensures { λ r. ⌜ r ≡ markAsked (meaning s) tank who pos rank ⌝ }
 {
-    if 8 <= tank {
-        return Asked::Refused(1);
-    }
-    let t = tank as usize;
     let heads = s.heads;
-    if look::length_in(heads, t) <= pos {
-        return Asked::Refused(4);
-    }
     let pool = s.pool;
     let tables = s.tables;
-    let table = tables[t];
-    questions::found(look::ranked_at(heads, pool, table, t, who, pos, rank))
+    let table = tables[tanks::place(tank)];
+    parts::style_at(heads, pool, table, tank, who, pos, rank)
 }
 
 // From where to where the marks of a position hold.
@@ -110,10 +86,11 @@ pub fn stretch_at(s: Tanks, tank: u64, who: Party, pos: u64) -> Extent
     requires { ⌜ Sound s ⌝ }
     ensures { λ r. ⌜ r ≡ stretchAsked (meaning s) tank who pos ⌝ }
 {
-    if 8 <= tank {
-        return questions::no_extent(1);
-    }
-    questions::stretch_at(shown(s, tank, who), pos)
+    let heads = s.heads;
+    let pool = s.pool;
+    let tables = s.tables;
+    let table = tables[tanks::place(tank)];
+    parts::stretch_at(heads, pool, table, tank, who, pos)
 }
 
 // The marks that an insertion would get.
@@ -121,22 +98,11 @@ pub fn get_styles_for_insert(s: Tanks, tank: u64, who: Party, pos: u64) -> SetAs
     requires { ⌜ Sound s ⌝ }
     ensures { λ r. ⌜ r ≡ inheritAsked (meaning s) tank who pos ⌝ }
 {
-    if 8 <= tank {
-        return questions::no_set(1);
-    }
-    let t = tank as usize;
     let heads = s.heads;
-    if look::length_in(heads, t) < pos {
-        return questions::no_set(4);
-    }
     let pool = s.pool;
     let tables = s.tables;
-    let table = tables[t];
-    let styles = look::styles_for_insert(heads, pool, table, t, who, pos);
-    SetAsked {
-        number: 0,
-        styles: styles,
-    }
+    let table = tables[tanks::place(tank)];
+    parts::get_styles_for_insert(heads, pool, table, tank, who, pos)
 }
 
 // The mark of a rank among those that an insertion would get.
@@ -144,18 +110,11 @@ pub fn style_for_insert(s: Tanks, tank: u64, who: Party, pos: u64, rank: u64) ->
     requires { ⌜ Sound s ⌝ }
     ensures { λ r. ⌜ r ≡ inheritedAsked (meaning s) tank who pos rank ⌝ }
 {
-    if 8 <= tank {
-        return Asked::Refused(1);
-    }
-    let t = tank as usize;
     let heads = s.heads;
-    if look::length_in(heads, t) < pos {
-        return Asked::Refused(4);
-    }
     let pool = s.pool;
     let tables = s.tables;
-    let table = tables[t];
-    questions::found(look::ranked_for_insert(heads, pool, table, t, who, pos, rank))
+    let table = tables[tanks::place(tank)];
+    parts::style_for_insert(heads, pool, table, tank, who, pos, rank)
 }
 
 // Has any position of start .. end a mark with the key?
@@ -163,10 +122,11 @@ pub fn range_contains_key(s: Tanks, tank: u64, who: Party, start: u64, end: u64,
     requires { ⌜ Sound s ⌝ }
     ensures { λ r. ⌜ r ≡ keyAsked (meaning s) tank who start end key ⌝ }
 {
-    if 8 <= tank {
-        return Told::Refused(1);
-    }
-    questions::range_contains_key(shown(s, tank, who), start, end, key)
+    let heads = s.heads;
+    let pool = s.pool;
+    let tables = s.tables;
+    let table = tables[tanks::place(tank)];
+    parts::range_contains_key(heads, pool, table, tank, who, start, end, key)
 }
 
 // Does every position of start .. end show the value for the key?
@@ -182,10 +142,11 @@ pub fn range_has_key_value(
     requires { ⌜ Sound s ⌝ }
     ensures { λ r. ⌜ r ≡ allValueAsked (meaning s) tank who start end key value ⌝ }
 {
-    if 8 <= tank {
-        return Told::Refused(1);
-    }
-    questions::range_has_key_value(shown(s, tank, who), start, end, key, value)
+    let heads = s.heads;
+    let pool = s.pool;
+    let tables = s.tables;
+    let table = tables[tanks::place(tank)];
+    parts::range_has_key_value(heads, pool, table, tank, who, start, end, key, value)
 }
 
 // The marks that all positions of start .. end share.
@@ -193,10 +154,11 @@ pub fn get_styles_of_range(s: Tanks, tank: u64, who: Party, start: u64, end: u64
     requires { ⌜ Sound s ⌝ }
     ensures { λ r. ⌜ r ≡ sameAsked (meaning s) tank who start end ⌝ }
 {
-    if 8 <= tank {
-        return questions::not_shared(1);
-    }
-    questions::get_styles_of_range(shown(s, tank, who), start, end)
+    let heads = s.heads;
+    let pool = s.pool;
+    let tables = s.tables;
+    let table = tables[tanks::place(tank)];
+    parts::get_styles_of_range(heads, pool, table, tank, who, start, end)
 }
 
 // Which of eight keys is the first that shows a value in each window of k positions from `start` on, 8 for none: every place of `out` is a window,

@@ -1,22 +1,22 @@
--- `stretch_at` meets its contract: no such tank, or the tank taken out answers for the one that it is.
-use borrow.Author.Needs.{needs}
+-- `stretch_at` meets its contract: the parts of the state that the tank stands in answer for it.
+use mathlib.Core.Path.{_∙_}
 use Rattle.questions.specs.Questions.{extentOf, stretchAt}
-use Rattle.ask.proofs.AskLaws.{past, inside}
+use borrow.Author.Needs.{needs}
+use Rattle.ask.proofs.Standing.{can-ask, asked-there}
 use Rattle.ask.proofs.stretch_at.Statement.{statement}
 use Rattle.ask.proofs.stretch_at.Tie as tie
 
+stretch-at-requires : tie.Need-stretch-at-requires
+stretch-at-requires c κs =
+    let p = c .before in
+    let s = p .before .before .before .before in
+    can-ask (s .args .s) (s .args .tank) (p .place .result) (p .place .ensures .0) (s .pre)
+
 returns : tie.Need-returns
 returns c =
-    let s = c .before .before in
-    past (s .args .s) (s .args .tank) (s .args .who) (extentOf 1 0 0) (stretchAt (s .args .pos)) (c .before .if1 .taken) (c .no-extent .ensures)
-
-returns-2 : tie.Need-returns-2
-returns-2 c =
-    let k = c .before in
-    let e = k .before in
-    let s = e .before in
-    inside (s .args .s) (s .args .tank) (s .args .who) (extentOf 1 0 0) (stretchAt (s .args .pos)) (e .if1 .left) (k .shown .ensures)
-    (c .stretch-at .ensures)
+    let p = c .before .before in
+    let a = p .before .before .before .before .args in
+    c .stretch-at .ensures ∙ asked-there (a .s) (a .tank) (p .place .result) (p .place .ensures .0) (a .who) (extentOf 1 0 0) (stretchAt (a .pos))
 
 pub stretch-at-spec : {M : Type 1} → statement M
-stretch-at-spec = tie.close (tie.spec (λ c κs. search needs) returns (λ c κs. search needs) (λ c κs. search needs) returns-2)
+stretch-at-spec = tie.close (tie.spec (λ c κs. search needs) (λ c. search needs) (λ c. search needs) stretch-at-requires returns)

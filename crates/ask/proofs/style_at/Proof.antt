@@ -1,43 +1,23 @@
--- `style_at` meets its contract: no such tank, 4, or the mark of the rank.
-use mathlib.Core.Path.{refl, ap, _∙_}
-use borrow.Author.Needs.{needs}
-use Rattle.styles.specs.Answers.{rankOf}
+-- `style_at` meets its contract: the parts of the state that the tank stands in answer for it.
+use mathlib.Core.Path.{_∙_}
 use Rattle.questions.specs.declared.Asked.{Asked}
-use Rattle.questions.specs.Questions.{askedOf, styleAt}
-use Rattle.tanks.proofs.LookLaws.{stands-in}
-use Rattle.ask.proofs.AskLaws.{past}
-use Rattle.ask.proofs.Standing.{over-at, within-at}
+use Rattle.questions.specs.Questions.{styleAt}
+use borrow.Author.Needs.{needs}
+use Rattle.ask.proofs.Standing.{can-ask, asked-there}
 use Rattle.ask.proofs.style_at.Statement.{statement}
 use Rattle.ask.proofs.style_at.Tie as tie
 
+style-at-requires : tie.Need-style-at-requires
+style-at-requires c κs =
+    let p = c .before in
+    let s = p .before .before .before .before in
+    can-ask (s .args .s) (s .args .tank) (p .place .result) (p .place .ensures .0) (s .pre)
+
 returns : tie.Need-returns
 returns c =
-    let s = c .before in
-    past (s .args .s) (s .args .tank) (s .args .who) (Asked.Refused 1) (styleAt (s .args .pos) (s .args .rank)) (c .if1 .taken) refl
-
-returns-2 : tie.Need-returns-2
-returns-2 c =
-    let n = c .before in
-    let e = n .before .before in
-    let a = e .before .args in
-    over-at (λ n ms. askedOf n (rankOf ms (a .rank))) (Asked.Refused 1) (a .s) (a .tank) (a .who) (a .pos) (e .if1 .left) (n .length-in .ensures) (c .if2 .taken) refl
-
-ranked-at-requires : tie.Need-ranked-at-requires
-ranked-at-requires c κs =
-    let e = c .before .before .before .before .before .before in
-    let s = e .before in
-    stands-in (s .args .s) (s .args .tank) (e .if1 .left) refl (s .pre)
-
-returns-3 : tie.Need-returns-3
-returns-3 c =
-    let w = c .before in
-    let k = w .before in
-    let i = k .before .before .before in
-    let n = i .before in
-    let e = n .before .before in
-    let a = e .before .args in
-    within-at (λ n ms. askedOf n (rankOf ms (a .rank))) (Asked.Refused 1) (a .s) (a .tank) (a .who) (a .pos) (e .if1 .left) (n .length-in .ensures) (i .if2 .left) refl
-    (c .found .ensures ∙ ap (askedOf 0) (w .ranked-at .ensures))
+    let p = c .before .before in
+    let a = p .before .before .before .before .args in
+    c .style-at .ensures ∙ asked-there (a .s) (a .tank) (p .place .result) (p .place .ensures .0) (a .who) (Asked.Refused 1) (styleAt (a .pos) (a .rank))
 
 pub style-at-spec : {M : Type 1} → statement M
-style-at-spec = tie.close (tie.spec returns (λ c κs. search needs) returns-2 (λ c. search needs) (λ c. search needs) ranked-at-requires (λ c κs. search needs) returns-3)
+style-at-spec = tie.close (tie.spec (λ c κs. search needs) (λ c. search needs) (λ c. search needs) style-at-requires returns)
