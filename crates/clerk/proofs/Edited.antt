@@ -10,12 +10,13 @@ use Rattle.tanks.specs.Contracts.{editOf, DoneAt}
 use Rattle.script.specs.declared.Call.{Call}
 use Rattle.script.specs.declared.Change.{Change}
 use Rattle.script.specs.declared.Op.{Op}
+use Rattle.script.specs.declared.Question.{Question}
 use Rattle.answers.specs.Waiting.{Adds}
 use Rattle.answers.specs.Replies.{orRefused, acceptedSays, stylesSay, firstSays}
 use Rattle.answers.proofs.Laws.{adds-as}
 use Rattle.clerk.specs.declared.Kind.{Kind}
 use Rattle.clerk.specs.declared.Side.{Side}
-use Rattle.clerk.specs.Calls.{tankFor, changed, changeSays, changeKind, kindOf, editSays}
+use Rattle.clerk.specs.Calls.{tankFor, changed, changeSays, questionKind, changeKind, kindOf, editSays}
 use Rattle.clerk.specs.Desk.{Settled, afterOp, sideAfter, saysOf, Performs}
 
 -- of `answered`
@@ -25,6 +26,7 @@ as-edit number styles first {d} {out} {at} {k} e p = subst (λ (x : Edit). Adds 
 -- where a call is an edit of one tank, that edit of its tank, done and answered, performs it as one of its op
 abbrev Serves : Tanks → Side → Call → List ℕ → List ℕ → ℕ → List ℕ → Op → Kind → Type 0
 Serves s side c body d at out op Kind.Asks = Unit
+Serves s side c body d at out op (Kind.Looks q) = Unit
 Serves s side c body d at out op (Kind.Edits e) =
     (r : Done) (k : ℕ) → DoneAt s (tankFor c) (editOf e) r → Adds d at (editSays e (r .number) (r .styles) (r .first)) k out → Performs op s side c body d at (record { tanks = r .tanks; side = side; at = k }) out
 Serves s side c body d at out op Kind.Other = Unit
@@ -40,11 +42,28 @@ module _ (s : Tanks) (side : Side) (c : Call) (body d : List ℕ) (at : ℕ) (ou
   change-serves Change.Remove = λ r k done says. record { sound = done .called .sound; settled = kept; is = done .called .is; keeps = refl; answer = adds-as (ap₂ firstSays (done .called .number-is) (done .first-is)) says }
   change-serves Change.Age = tt
 
+  -- no question is one of them
+  question-serves : (q : Question) → Serves s side c body d at out (Op.Question q) (questionKind q)
+  unfolding questionKind
+  question-serves Question.Length = tt
+  question-serves Question.Touched = tt
+  question-serves Question.Runs = tt
+  question-serves Question.Value = tt
+  question-serves Question.HasKey = tt
+  question-serves Question.AllValue = tt
+  question-serves Question.Same = tt
+  question-serves Question.Marks = tt
+  question-serves Question.Inherit = tt
+  question-serves Question.Mark = tt
+  question-serves Question.Inherited = tt
+  question-serves Question.Find = tt
+  question-serves Question.Propose = tt
+
   serves : (op : Op) → Serves s side c body d at out op (kindOf op (side .party) c)
   unfolding kindOf
   serves Op.Nothing = tt
   serves (Op.Change e) = change-serves e
-  serves (Op.Question q) = tt
+  serves (Op.Question q) = question-serves q
   serves (Op.Listing l) = tt
   serves (Op.Text x) = tt
   serves (Op.Desk x) = tt

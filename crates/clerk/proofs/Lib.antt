@@ -7,3 +7,4 @@ pub mod Saving
 pub mod Painting
 pub mod Performing
 pub mod Edited
+pub mod Looked

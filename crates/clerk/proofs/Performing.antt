@@ -24,21 +24,47 @@ use Rattle.clerk.specs.declared.Kind.{Kind}
 use Rattle.clerk.specs.declared.Moved.{Moved}
 use Rattle.clerk.specs.declared.Noted.{Noted}
 use Rattle.clerk.specs.declared.Side.{Side}
-use Rattle.clerk.specs.Calls.{changed, changeSays, answerSays, listingSays, changeKind, kindOf, askingSays, Changes}
+use Rattle.clerk.specs.Calls.{changed, changeSays, answerSays, listingSays, questionKind, changeKind, kindOf, askingSays, Changes}
 use Rattle.clerk.specs.Desk.{Settled, textHouse, textSide, textSays, deskSide, deskSays, bothHouse, bothSide, bothSays, afterOp, sideAfter, saysOf, Notes, Moves, Performs}
 
 -- ---- What a call is
 -- a question
 abbrev isAsks : Kind → Bool
 isAsks Kind.Asks = true
+isAsks (Kind.Looks q) = false
 isAsks (Kind.Edits x) = false
 isAsks Kind.Other = false
 
 -- an edit of one tank
 abbrev isEdits : Kind → Bool
 isEdits Kind.Asks = false
+isEdits (Kind.Looks q) = false
 isEdits (Kind.Edits x) = true
 isEdits Kind.Other = false
+
+-- a call of neither kind
+abbrev isOther : Kind → Bool
+isOther Kind.Asks = false
+isOther (Kind.Looks q) = false
+isOther (Kind.Edits x) = false
+isOther Kind.Other = true
+
+-- no question is one
+question-other-not : (q : Question) → isOther (questionKind q) ≡ false
+unfolding questionKind
+question-other-not Question.Length = refl
+question-other-not Question.Touched = refl
+question-other-not Question.Runs = refl
+question-other-not Question.Value = refl
+question-other-not Question.HasKey = refl
+question-other-not Question.AllValue = refl
+question-other-not Question.Same = refl
+question-other-not Question.Marks = refl
+question-other-not Question.Inherit = refl
+question-other-not Question.Mark = refl
+question-other-not Question.Inherited = refl
+question-other-not Question.Find = refl
+question-other-not Question.Propose = refl
 
 -- no change is a question
 change-asks-not : (e : Change) (who : Party) (c : Call) → isAsks (changeKind e who c) ≡ false
@@ -145,7 +171,7 @@ none s side c body d at e ok kept = as-op s side c body e (record { sound = ok; 
 module _ (who : Party) (c : Call) {op : Op} (other : kindOf op who c ≡ Kind.Other) where
   pub no-question : {q : Question} → op ≡ Op.Question q → {P : Type 0} → P
   unfolding kindOf
-  no-question e = absurd (true≢false (sym (ap (λ (o : Op). isAsks (kindOf o who c)) e) ∙ ap isAsks other))
+  no-question {q} e = absurd (true≢false (sym (ap isOther other) ∙ ap (λ (o : Op). isOther (kindOf o who c)) e ∙ question-other-not q))
 
   pub no-listing : {l : Listing} → op ≡ Op.Listing l → {P : Type 0} → P
   unfolding kindOf
@@ -155,6 +181,14 @@ module _ (who : Party) (c : Call) {op : Op} (other : kindOf op who c ≡ Kind.Ot
   pub other-change : {e : Change} → op ≡ Op.Change e → changeKind e who c ≡ Kind.Other
   unfolding kindOf
   other-change e = sym (ap (λ (o : Op). kindOf o who c) e) ∙ other
+
+-- a question that is asked of the state is none of those that are asked of one tank
+pub state-question : (who : Party) (c : Call) {op : Op} {q : Question} → kindOf op who c ≡ Kind.Asks → op ≡ Op.Question q → questionKind q ≡ Kind.Asks
+unfolding kindOf
+state-question who c asks e = sym (ap (λ (o : Op). kindOf o who c) e) ∙ asks
+
+pub no-look : {q p x : Question} → q ≡ p → questionKind p ≡ Kind.Looks x → questionKind q ≡ Kind.Asks → {P : Type 0} → P
+no-look e look asks = absurd (true≢false (sym (ap isAsks asks) ∙ ap isAsks (ap questionKind e ∙ look)))
 
 -- and such a change is none of the four
 pub no-edit : (who : Party) (c : Call) {e f : Change} {x : Edit} → e ≡ f → changeKind f who c ≡ Kind.Edits x → changeKind e who c ≡ Kind.Other → {P : Type 0} → P

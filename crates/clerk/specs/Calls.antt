@@ -2,15 +2,23 @@
 use mathlib.Core.Path.{_≡_}
 use mathlib.Core.List.{List, [], _∷_, _++_}
 use Prim.Native.Nat.{ℕ, _+_}
+use mathlib.Core.Bool.{false}
 use lib.ListN.{length}
 use Rattle.styles.specs.declared.Party.{Party}
 use Rattle.styles.specs.declared.Styles.{Styles}
 use Rattle.styles.specs.Answers.{stylesOf}
+use Rattle.questions.specs.declared.Asked.{Asked}
+use Rattle.questions.specs.declared.Shown.{Shown}
+use Rattle.questions.specs.declared.Told.{Told}
+use Rattle.questions.specs.Questions.{setOf, sharedOf, extentOf, valueAt, stylesAt, styleAt, stretchAt, stylesForInsert, styleForInsert, rangeContainsKey, rangeHasKeyValue, stylesOfRange}
 use Rattle.lists.specs.Lists.{rangeList, wholeList, rangeNumber, wholeNumber}
 use Rattle.lists.specs.Anchors.{anchors, anchorsNumber}
 use Rattle.tank.specs.Rules.{View, Edit, annotating, inserting, deleting, removing}
 use Rattle.tanks.specs.declared.Edit as code
+use Rattle.tanks.specs.declared.Head.{Head}
+use Rattle.tanks.specs.declared.Run.{Run}
 use Rattle.tanks.specs.declared.Setting.{Setting}
+use Rattle.tanks.specs.declared.Table.{Table}
 use Rattle.tanks.specs.declared.Tanks.{Tanks}
 use Rattle.tanks.specs.House.{House, tankAt, held, openNumber, opening, askNumber, refusalAt, afterAt, insertedSetAt, removedFirstAt}
 use Rattle.tanks.specs.Pool.{meaning, Sound}
@@ -18,6 +26,7 @@ use Rattle.tanks.specs.Contracts.{counts, says}
 use Rattle.night.specs.Ageings.{ageNumberBy, agedHouseBy, droppedBy, remainingBy}
 use Rattle.night.specs.Proposing.{proposalAt}
 use Rattle.ask.specs.Asks.{askAt, valueAsked, marksAsked, markAsked, stretchAsked, inheritAsked, inheritedAsked, keyAsked, allValueAsked, sameAsked, rangeNeededAsked, wholeNeededAsked}
+use Rattle.ask.specs.Parts.{askIn}
 use Rattle.saved.specs.Writes.{written, writeNumber}
 use Rattle.script.specs.declared.Call.{Call}
 use Rattle.script.specs.declared.Change.{Change}
@@ -128,6 +137,22 @@ answerSays Question.Inherited h who c = askedSays (inheritedAsked h (tankFor c) 
 answerSays Question.Find h who c = extentSays (stretchAsked h (tankFor c) who (numberAt c 1))
 answerSays Question.Propose h who c = proposalSays (proposalAt h (tankFor c) (keyAt c 1) (numberAt c 2))
 
+-- of one that is asked of one tank, from the parts of the state that the tank stands in: the same rows; the other questions are not among these
+unfoldable pub lookSays : Question → List Head → List Run → Table → Party → Call → Pieces
+lookSays Question.Length hs pool table who c = []
+lookSays Question.Touched hs pool table who c = []
+lookSays Question.Runs hs pool table who c = []
+lookSays Question.Value hs pool table who c = shownSays (askIn hs pool table (tankFor c) who (Shown.Refused 1) (valueAt (numberAt c 1) (keyAt c 2)))
+lookSays Question.HasKey hs pool table who c = toldSays (askIn hs pool table (tankFor c) who (Told.Refused 1) (rangeContainsKey (startIn c) (endIn c) (keyAt c 3)))
+lookSays Question.AllValue hs pool table who c = toldSays (askIn hs pool table (tankFor c) who (Told.Refused 1) (rangeHasKeyValue (startIn c) (endIn c) (keyAt c 3) (c .value)))
+lookSays Question.Same hs pool table who c = sharedSays (askIn hs pool table (tankFor c) who (sharedOf 1 false []) (stylesOfRange (startIn c) (endIn c)))
+lookSays Question.Marks hs pool table who c = setSays (askIn hs pool table (tankFor c) who (setOf 1 []) (stylesAt (numberAt c 1)))
+lookSays Question.Inherit hs pool table who c = setSays (askIn hs pool table (tankFor c) who (setOf 1 []) (stylesForInsert (numberAt c 1)))
+lookSays Question.Mark hs pool table who c = askedSays (askIn hs pool table (tankFor c) who (Asked.Refused 1) (styleAt (numberAt c 1) (numberAt c 2)))
+lookSays Question.Inherited hs pool table who c = askedSays (askIn hs pool table (tankFor c) who (Asked.Refused 1) (styleForInsert (numberAt c 1) (numberAt c 2)))
+lookSays Question.Find hs pool table who c = extentSays (askIn hs pool table (tankFor c) who (extentOf 1 0 0) (stretchAt (numberAt c 1)))
+lookSays Question.Propose hs pool table who c = []
+
 -- of one that asks for a list
 unfoldable pub listingSays : Listing → House → Party → Call → Pieces
 listingSays Listing.Stretches h who c = askAt h (tankFor c) who (refusedSays 1) (λ v. orRefused (rangeNumber (startIn c) (endIn c) (numberAt c 3) v) (listSays (tankFor c) (rangeList (startIn c) (endIn c) v)))
@@ -138,7 +163,23 @@ listingSays Listing.Anchors h who c = askAt h (tankFor c) who (refusedSays 1) (�
 listingSays Listing.Save h who c = saveSays h (numberAt c 0)
 listingSays Listing.SaveNeeded h who c = saveNeededSays h
 
--- ---- Any op, by a party: a question, an edit of one tank as the code has it, or any other call
+-- ---- Any op, by a party: a question, of one tank where it stands or of the state, an edit of one tank as the code has it, or any other call
+-- a question; the length, the touch and the runs are in the heads, and a proposal is made of a tank taken out
+unfoldable pub questionKind : Question → Kind
+questionKind Question.Length = Kind.Asks
+questionKind Question.Touched = Kind.Asks
+questionKind Question.Runs = Kind.Asks
+questionKind Question.Value = Kind.Looks Question.Value
+questionKind Question.HasKey = Kind.Looks Question.HasKey
+questionKind Question.AllValue = Kind.Looks Question.AllValue
+questionKind Question.Same = Kind.Looks Question.Same
+questionKind Question.Marks = Kind.Looks Question.Marks
+questionKind Question.Inherit = Kind.Looks Question.Inherit
+questionKind Question.Mark = Kind.Looks Question.Mark
+questionKind Question.Inherited = Kind.Looks Question.Inherited
+questionKind Question.Find = Kind.Looks Question.Find
+questionKind Question.Propose = Kind.Asks
+
 -- a change; opening and ageing are none of the four edits
 unfoldable pub changeKind : Change → Party → Call → Kind
 changeKind Change.Open who c = Kind.Other
@@ -152,7 +193,7 @@ changeKind Change.Age who c = Kind.Other
 unfoldable pub kindOf : Op → Party → Call → Kind
 kindOf Op.Nothing who c = Kind.Other
 kindOf (Op.Change e) who c = changeKind e who c
-kindOf (Op.Question q) who c = Kind.Asks
+kindOf (Op.Question q) who c = questionKind q
 kindOf (Op.Listing l) who c = Kind.Asks
 kindOf (Op.Text x) who c = Kind.Other
 kindOf (Op.Desk d) who c = Kind.Other

@@ -1,11 +1,14 @@
 // Calls that ask for a number, a yes or no, a value, a mark, a set or a stretch.
+ghost use mathlib.Core.Path.{_≡_};
 ghost use Prim.Native.Nat.{_≤_};
 ghost use lib.ListN.{length};
 ghost use Rattle.script.specs.declared.Question as questions;
 ghost use Rattle.styles.specs.declared.Party.the-variants.{Plant};
 ghost use Rattle.tanks.specs.Pool.{Sound, meaning};
 ghost use Rattle.answers.specs.Waiting.{Adds, pieceRoom};
-ghost use Rattle.clerk.specs.Calls.{answerSays};
+ghost use Rattle.ask.specs.Parts.{CanAsk};
+ghost use Rattle.clerk.specs.Calls.{tankFor, answerSays, lookSays, questionKind};
+use super::Kind;
 use answers::put_asked;
 use answers::put_count;
 use answers::put_extent;
@@ -15,9 +18,14 @@ use answers::put_shared;
 use answers::put_shown;
 use answers::put_told;
 use answers::put_touched;
+use ask::parts;
 use script::Call;
+use script::Question;
 use script::key_of;
 use styles::Party;
+use tanks::Head;
+use tanks::Run;
+use tanks::Table;
 use tanks::Tanks;
 
 // Length, touched and runs are told alike to both parties, and so is a proposal.
@@ -48,88 +56,223 @@ pub fn runs(s: Tanks, call: Call, out: &mut [u8], at: usize) -> usize
     put_count(out, at, b"runs=", s.runs(n[0]))
 }
 
-pub fn value(s: Tanks, who: Party, call: Call, out: &mut [u8], at: usize) -> usize
-    requires { ⌜ Sound s ⌝ }
+fn value(
+    heads: [Head; 8],
+    pool: [Run; 512],
+    table: Table,
+    who: Party,
+    call: Call,
+    out: &mut [u8],
+    at: usize,
+) -> usize
+    requires { ⌜ CanAsk heads pool table (tankFor call) ⌝ }
     requires { ⌜ pieceRoom ≤ length (now out) ⌝ }
-    ensures { λ r. ⌜ Adds (now (out .entry)) at (answerSays questions.Question.Value (meaning s) who call) r (now (out .exit)) ⌝ }
+    ensures { λ r. ⌜ Adds (now (out .entry)) at (lookSays questions.Question.Value heads pool table who call) r (now (out .exit)) ⌝ }
 {
     let n = call.numbers;
-    put_shown(out, at, ask::value_at(s, n[0], who, n[1], key_of(n[2])))
+    let key = key_of(n[2]);
+    let v = parts::value_at(heads, pool, table, n[0], who, n[1], key);
+    put_shown(out, at, v)
 }
 
-pub fn has_key(s: Tanks, who: Party, call: Call, out: &mut [u8], at: usize) -> usize
-    requires { ⌜ Sound s ⌝ }
+fn has_key(
+    heads: [Head; 8],
+    pool: [Run; 512],
+    table: Table,
+    who: Party,
+    call: Call,
+    out: &mut [u8],
+    at: usize,
+) -> usize
+    requires { ⌜ CanAsk heads pool table (tankFor call) ⌝ }
     requires { ⌜ pieceRoom ≤ length (now out) ⌝ }
-    ensures { λ r. ⌜ Adds (now (out .entry)) at (answerSays questions.Question.HasKey (meaning s) who call) r (now (out .exit)) ⌝ }
+    ensures { λ r. ⌜ Adds (now (out .entry)) at (lookSays questions.Question.HasKey heads pool table who call) r (now (out .exit)) ⌝ }
 {
     let n = call.numbers;
-    let t = ask::range_contains_key(s, n[0], who, n[1], n[2], key_of(n[3]));
+    let key = key_of(n[3]);
+    let t = parts::range_contains_key(heads, pool, table, n[0], who, n[1], n[2], key);
     put_told(out, at, t)
 }
 
-pub fn all_value(s: Tanks, who: Party, call: Call, out: &mut [u8], at: usize) -> usize
-    requires { ⌜ Sound s ⌝ }
+fn all_value(
+    heads: [Head; 8],
+    pool: [Run; 512],
+    table: Table,
+    who: Party,
+    call: Call,
+    out: &mut [u8],
+    at: usize,
+) -> usize
+    requires { ⌜ CanAsk heads pool table (tankFor call) ⌝ }
     requires { ⌜ pieceRoom ≤ length (now out) ⌝ }
-    ensures { λ r. ⌜ Adds (now (out .entry)) at (answerSays questions.Question.AllValue (meaning s) who call) r (now (out .exit)) ⌝ }
+    ensures { λ r. ⌜ Adds (now (out .entry)) at (lookSays questions.Question.AllValue heads pool table who call) r (now (out .exit)) ⌝ }
 {
     let n = call.numbers;
+    let key = key_of(n[3]);
     let v = call.value;
-    let t = ask::range_has_key_value(s, n[0], who, n[1], n[2], key_of(n[3]), v);
+    let t = parts::range_has_key_value(heads, pool, table, n[0], who, n[1], n[2], key, v);
     put_told(out, at, t)
 }
 
-pub fn same(s: Tanks, who: Party, call: Call, out: &mut [u8], at: usize) -> usize
-    requires { ⌜ Sound s ⌝ }
+fn same(
+    heads: [Head; 8],
+    pool: [Run; 512],
+    table: Table,
+    who: Party,
+    call: Call,
+    out: &mut [u8],
+    at: usize,
+) -> usize
+    requires { ⌜ CanAsk heads pool table (tankFor call) ⌝ }
     requires { ⌜ pieceRoom ≤ length (now out) ⌝ }
-    ensures { λ r. ⌜ Adds (now (out .entry)) at (answerSays questions.Question.Same (meaning s) who call) r (now (out .exit)) ⌝ }
+    ensures { λ r. ⌜ Adds (now (out .entry)) at (lookSays questions.Question.Same heads pool table who call) r (now (out .exit)) ⌝ }
 {
     let n = call.numbers;
-    put_shared(out, at, ask::get_styles_of_range(s, n[0], who, n[1], n[2]))
+    let m = parts::get_styles_of_range(heads, pool, table, n[0], who, n[1], n[2]);
+    put_shared(out, at, m)
 }
 
-pub fn marks(s: Tanks, who: Party, call: Call, out: &mut [u8], at: usize) -> usize
-    requires { ⌜ Sound s ⌝ }
+fn marks(
+    heads: [Head; 8],
+    pool: [Run; 512],
+    table: Table,
+    who: Party,
+    call: Call,
+    out: &mut [u8],
+    at: usize,
+) -> usize
+    requires { ⌜ CanAsk heads pool table (tankFor call) ⌝ }
     requires { ⌜ pieceRoom ≤ length (now out) ⌝ }
-    ensures { λ r. ⌜ Adds (now (out .entry)) at (answerSays questions.Question.Marks (meaning s) who call) r (now (out .exit)) ⌝ }
+    ensures { λ r. ⌜ Adds (now (out .entry)) at (lookSays questions.Question.Marks heads pool table who call) r (now (out .exit)) ⌝ }
 {
     let n = call.numbers;
-    put_set_asked(out, at, ask::styles_at(s, n[0], who, n[1]))
+    let m = parts::styles_at(heads, pool, table, n[0], who, n[1]);
+    put_set_asked(out, at, m)
 }
 
-pub fn inherit(s: Tanks, who: Party, call: Call, out: &mut [u8], at: usize) -> usize
-    requires { ⌜ Sound s ⌝ }
+fn inherit(
+    heads: [Head; 8],
+    pool: [Run; 512],
+    table: Table,
+    who: Party,
+    call: Call,
+    out: &mut [u8],
+    at: usize,
+) -> usize
+    requires { ⌜ CanAsk heads pool table (tankFor call) ⌝ }
     requires { ⌜ pieceRoom ≤ length (now out) ⌝ }
-    ensures { λ r. ⌜ Adds (now (out .entry)) at (answerSays questions.Question.Inherit (meaning s) who call) r (now (out .exit)) ⌝ }
+    ensures { λ r. ⌜ Adds (now (out .entry)) at (lookSays questions.Question.Inherit heads pool table who call) r (now (out .exit)) ⌝ }
 {
     let n = call.numbers;
-    put_set_asked(out, at, ask::get_styles_for_insert(s, n[0], who, n[1]))
+    let m = parts::get_styles_for_insert(heads, pool, table, n[0], who, n[1]);
+    put_set_asked(out, at, m)
 }
 
-pub fn mark(s: Tanks, who: Party, call: Call, out: &mut [u8], at: usize) -> usize
-    requires { ⌜ Sound s ⌝ }
+fn mark(
+    heads: [Head; 8],
+    pool: [Run; 512],
+    table: Table,
+    who: Party,
+    call: Call,
+    out: &mut [u8],
+    at: usize,
+) -> usize
+    requires { ⌜ CanAsk heads pool table (tankFor call) ⌝ }
     requires { ⌜ pieceRoom ≤ length (now out) ⌝ }
-    ensures { λ r. ⌜ Adds (now (out .entry)) at (answerSays questions.Question.Mark (meaning s) who call) r (now (out .exit)) ⌝ }
+    ensures { λ r. ⌜ Adds (now (out .entry)) at (lookSays questions.Question.Mark heads pool table who call) r (now (out .exit)) ⌝ }
 {
     let n = call.numbers;
-    put_asked(out, at, ask::style_at(s, n[0], who, n[1], n[2]))
+    let m = parts::style_at(heads, pool, table, n[0], who, n[1], n[2]);
+    put_asked(out, at, m)
 }
 
-pub fn inherited(s: Tanks, who: Party, call: Call, out: &mut [u8], at: usize) -> usize
-    requires { ⌜ Sound s ⌝ }
+fn inherited(
+    heads: [Head; 8],
+    pool: [Run; 512],
+    table: Table,
+    who: Party,
+    call: Call,
+    out: &mut [u8],
+    at: usize,
+) -> usize
+    requires { ⌜ CanAsk heads pool table (tankFor call) ⌝ }
     requires { ⌜ pieceRoom ≤ length (now out) ⌝ }
-    ensures { λ r. ⌜ Adds (now (out .entry)) at (answerSays questions.Question.Inherited (meaning s) who call) r (now (out .exit)) ⌝ }
+    ensures { λ r. ⌜ Adds (now (out .entry)) at (lookSays questions.Question.Inherited heads pool table who call) r (now (out .exit)) ⌝ }
 {
     let n = call.numbers;
-    put_asked(out, at, ask::style_for_insert(s, n[0], who, n[1], n[2]))
+    let m = parts::style_for_insert(heads, pool, table, n[0], who, n[1], n[2]);
+    put_asked(out, at, m)
 }
 
-pub fn find(s: Tanks, who: Party, call: Call, out: &mut [u8], at: usize) -> usize
-    requires { ⌜ Sound s ⌝ }
+fn find(
+    heads: [Head; 8],
+    pool: [Run; 512],
+    table: Table,
+    who: Party,
+    call: Call,
+    out: &mut [u8],
+    at: usize,
+) -> usize
+    requires { ⌜ CanAsk heads pool table (tankFor call) ⌝ }
     requires { ⌜ pieceRoom ≤ length (now out) ⌝ }
-    ensures { λ r. ⌜ Adds (now (out .entry)) at (answerSays questions.Question.Find (meaning s) who call) r (now (out .exit)) ⌝ }
+    ensures { λ r. ⌜ Adds (now (out .entry)) at (lookSays questions.Question.Find heads pool table who call) r (now (out .exit)) ⌝ }
 {
     let n = call.numbers;
-    put_extent(out, at, ask::stretch_at(s, n[0], who, n[1]))
+    let e = parts::stretch_at(heads, pool, table, n[0], who, n[1]);
+    put_extent(out, at, e)
+}
+
+// A question of one tank, asked of the parts of a state that it stands in; the others are not among these.
+pub fn looked(
+    heads: [Head; 8],
+    pool: [Run; 512],
+    table: Table,
+    q: Question,
+    who: Party,
+    call: Call,
+    out: &mut [u8],
+    at: usize,
+) -> usize
+    requires { ⌜ CanAsk heads pool table (tankFor call) ⌝ }
+    requires { ⌜ pieceRoom ≤ length (now out) ⌝ }
+    ensures { λ r. ⌜ Adds (now (out .entry)) at (lookSays q heads pool table who call) r (now (out .exit)) ⌝ }
+{
+    match q {
+        Question::Length => at,
+        Question::Touched => at,
+        Question::Runs => at,
+        Question::Value => value(heads, pool, table, who, call, out, at),
+        Question::HasKey => has_key(heads, pool, table, who, call, out, at),
+        Question::AllValue => all_value(heads, pool, table, who, call, out, at),
+        Question::Same => same(heads, pool, table, who, call, out, at),
+        Question::Marks => marks(heads, pool, table, who, call, out, at),
+        Question::Inherit => inherit(heads, pool, table, who, call, out, at),
+        Question::Mark => mark(heads, pool, table, who, call, out, at),
+        Question::Inherited => inherited(heads, pool, table, who, call, out, at),
+        Question::Find => find(heads, pool, table, who, call, out, at),
+        Question::Propose => at,
+    }
+}
+
+// What a question is: asked of one tank where it stands, or of the state.
+pub fn question_kind(q: Question) -> Kind
+    ensures { λ r. ⌜ r ≡ questionKind q ⌝ }
+{
+    match q {
+        Question::Length => Kind::Asks,
+        Question::Touched => Kind::Asks,
+        Question::Runs => Kind::Asks,
+        Question::Value => Kind::Looks(Question::Value),
+        Question::HasKey => Kind::Looks(Question::HasKey),
+        Question::AllValue => Kind::Looks(Question::AllValue),
+        Question::Same => Kind::Looks(Question::Same),
+        Question::Marks => Kind::Looks(Question::Marks),
+        Question::Inherit => Kind::Looks(Question::Inherit),
+        Question::Mark => Kind::Looks(Question::Mark),
+        Question::Inherited => Kind::Looks(Question::Inherited),
+        Question::Find => Kind::Looks(Question::Find),
+        Question::Propose => Kind::Asks,
+    }
 }
 
 // A plan that would be accepted.

@@ -17,7 +17,7 @@ ghost use Rattle.script.specs.Bodies.{Fits};
 ghost use Rattle.tanks.specs.Pool.{Sound, meaning};
 ghost use Rattle.answers.specs.Waiting.{Adds, pieceRoom};
 ghost use Rattle.clerk.specs.declared.Kind as kinds;
-ghost use Rattle.clerk.specs.Calls.{changeKind, answerSays, listingSays, kindOf, askingSays, Changes};
+ghost use Rattle.clerk.specs.Calls.{changeKind, answerSays, listingSays, questionKind, kindOf, askingSays, Changes};
 ghost use Rattle.clerk.specs.Desk.{emptySide, Settled, textHouse, textSide, textSays, deskSide, deskSays, bothHouse, bothSide, bothSays, Notes, Moves, Performs};
 ghost use Rattle.clerk.specs.Course.{malformedSays, Eats, Closes, Reads, Runs, RunsWhole};
 use answers::say;
@@ -45,10 +45,11 @@ use tanks::Edit;
 use tanks::Setting;
 use tanks::Tanks;
 
-// What the loop over calls does with one: it tells what is asked, makes an edit of one tank where the state stands, or hands
-// the state on.
+// What the loop over calls does with one: it tells what is asked of the state, or of one tank where that stands, makes an edit of one
+// tank where the state stands, or hands the state on.
 pub enum Kind {
     Asks,
+    Looks(Question),
     Edits(Edit),
     Other,
 }
@@ -174,9 +175,10 @@ fn change(s: Tanks, e: Change, who: Party, call: Call, out: &mut [u8], at: usize
     }
 }
 
-// A call that asks leaves the state as it was, and so does not hand it back: the answer is in the output.
+// A call that asks leaves the state as it was, and so does not hand it back: the answer is in the output. What is asked of one tank is not
+// answered here, but from the parts of the state.
 fn answer(s: Tanks, q: Question, who: Party, call: Call, out: &mut [u8], at: usize) -> usize
-    requires { ⌜ Sound s ⌝ }
+    requires { ⌜ Sound s × (questionKind q ≡ kinds.Kind.Asks) ⌝ }
     requires { ⌜ pieceRoom ≤ length (now out) ⌝ }
     ensures { λ r. ⌜ Adds (now (out .entry)) at (answerSays q (meaning s) who call) r (now (out .exit)) ⌝ }
 {
@@ -184,15 +186,15 @@ fn answer(s: Tanks, q: Question, who: Party, call: Call, out: &mut [u8], at: usi
         Question::Length => asking::length(s, call, out, at),
         Question::Touched => asking::touched(s, call, out, at),
         Question::Runs => asking::runs(s, call, out, at),
-        Question::Value => asking::value(s, who, call, out, at),
-        Question::HasKey => asking::has_key(s, who, call, out, at),
-        Question::AllValue => asking::all_value(s, who, call, out, at),
-        Question::Same => asking::same(s, who, call, out, at),
-        Question::Marks => asking::marks(s, who, call, out, at),
-        Question::Inherit => asking::inherit(s, who, call, out, at),
-        Question::Mark => asking::mark(s, who, call, out, at),
-        Question::Inherited => asking::inherited(s, who, call, out, at),
-        Question::Find => asking::find(s, who, call, out, at),
+        Question::Value => at,
+        Question::HasKey => at,
+        Question::AllValue => at,
+        Question::Same => at,
+        Question::Marks => at,
+        Question::Inherit => at,
+        Question::Mark => at,
+        Question::Inherited => at,
+        Question::Find => at,
         Question::Propose => asking::propose(s, call, out, at),
     }
 }
@@ -280,7 +282,7 @@ fn kind_of(who: Party, call: Call) -> Kind
     match op {
         Op::Nothing => Kind::Other,
         Op::Change(e) => editing::change_kind(e, who, call),
-        Op::Question(_) => Kind::Asks,
+        Op::Question(q) => asking::question_kind(q),
         Op::Listing(_) => Kind::Asks,
         Op::Text(_) => Kind::Other,
         Op::Desk(_) => Kind::Other,
@@ -288,9 +290,9 @@ fn kind_of(who: Party, call: Call) -> Kind
     }
 }
 
-// One that only asks, by a party: its answer, and no state is handed back.
+// One that only asks, and not of one tank where it stands, by a party: its answer, and no state is handed back.
 fn told(s: Tanks, who: Party, call: Call, out: &mut [u8], at: usize) -> usize
-    requires { ⌜ Sound s ⌝ }
+    requires { ⌜ Sound s × (kindOf (call .op) who call ≡ kinds.Kind.Asks) ⌝ }
     requires { ⌜ pieceRoom ≤ length (now out) ⌝ }
     ensures { λ k. ⌜ Adds (now (out .entry)) at (askingSays (call .op) (meaning s) who call) k (now (out .exit)) ⌝ }
 {
@@ -343,7 +345,8 @@ fn put_bad(out: &mut [u8], at: usize, r: Reader) -> usize
 
 // The bytes of one read, a line or a part of a body to a turn. The tanks go through a call once a group, and never once a
 // line. An edit of one tank is made here and not in a function of its own, for a function that takes the tanks copies them:
-// the parts that it has to do with are handed over, and what comes is put back in their place.
+// the parts that it has to do with are handed over, and what comes is put back in their place. So are those that a question of
+// one tank has to do with, for an index that is not known beforehand copies all eight tables where they are handed on.
 pub fn eat(bytes: &[u8], s: Tanks, stand: Stand, body: &mut [u8], out: &mut [u8]) -> Eaten
     requires { ⌜ (Sound s) × Settled (stand .side) × Fits (stand .inlet) (now body) × (stand .over ≡ false) ⌝ }
     requires { ⌜ (mostBody ≤ length (now body)) × (pieceRoom ≤ length (now out)) ⌝ }
@@ -373,6 +376,14 @@ pub fn eat(bytes: &[u8], s: Tanks, stand: Stand, body: &mut [u8], out: &mut [u8]
                 match kind {
                     Kind::Asks => {
                         at = told(tanks, who, call, out, at);
+                    }
+                    Kind::Looks(q) => {
+                        let n = call.numbers;
+                        let u = tanks::place(n[0]);
+                        let heads = tanks.heads;
+                        let pool = tanks.pool;
+                        let table = tanks.tables[u];
+                        at = asking::looked(heads, pool, table, q, who, call, out, at);
                     }
                     Kind::Edits(edit) => {
                         let n = call.numbers;

@@ -1,0 +1,95 @@
+-- A question of one tank that is answered from the parts of the state performs the call that asks it.
+use Prim.Native.Nat.{ℕ}
+use mathlib.Core.Bool.{false}
+use mathlib.Core.List.{List, []}
+use mathlib.Core.Path.{_≡_, refl, sym, ap, subst}
+use lib.ListN.{getD}
+use Rattle.questions.specs.declared.Asked.{Asked}
+use Rattle.questions.specs.declared.Shown.{Shown}
+use Rattle.questions.specs.declared.Told.{Told}
+use Rattle.questions.specs.Questions.{setOf, sharedOf, extentOf, valueAt, stylesAt, styleAt, stretchAt, stylesForInsert, styleForInsert, rangeContainsKey, rangeHasKeyValue, stylesOfRange}
+use Rattle.tank.specs.Rules.{View}
+use Rattle.tanks.specs.declared.Head.{Head}
+use Rattle.tanks.specs.declared.Run.{Run}
+use Rattle.tanks.specs.declared.Table.{Table}
+use Rattle.tanks.specs.declared.Tanks.{Tanks}
+use Rattle.tanks.specs.Contracts.{placeOf}
+use Rattle.tanks.specs.Pool.{noTable, meaning, Sound}
+use Rattle.ask.specs.Asks.{askAt}
+use Rattle.ask.specs.Parts.{askIn}
+use Rattle.ask.proofs.Standing.{asked-there}
+use Rattle.script.specs.declared.Call.{Call}
+use Rattle.script.specs.declared.Change.{Change}
+use Rattle.script.specs.declared.Op.{Op}
+use Rattle.script.specs.declared.Question.{Question}
+use Rattle.script.specs.Args.{numberAt, keyAt}
+use Rattle.styles.specs.declared.Party.{Party}
+use Rattle.answers.specs.Waiting.{Pieces, Adds}
+use Rattle.answers.specs.Replies.{toldSays, shownSays, askedSays, setSays, sharedSays, extentSays}
+use Rattle.answers.proofs.Laws.{adds-as}
+use Rattle.clerk.specs.declared.Kind.{Kind}
+use Rattle.clerk.specs.declared.Side.{Side}
+use Rattle.clerk.specs.Calls.{tankFor, startIn, endIn, answerSays, lookSays, questionKind, changeKind, kindOf}
+use Rattle.clerk.specs.Desk.{Settled, afterOp, sideAfter, saysOf, Performs}
+
+-- of `looked`
+pub as-look : (hs : List Head) (pool : List Run) (table : Table) (who : Party) (c : Call) {d out : List ℕ} {at k : ℕ} {q p : Question} → q ≡ p → Adds d at (lookSays p hs pool table who c) k out → Adds d at (lookSays q hs pool table who c) k out
+as-look hs pool table who c {d} {out} {at} {k} e = subst (λ (x : Question). Adds d at (lookSays x hs pool table who c) k out) (sym e)
+
+-- where a call is a question of one tank, its answer from the parts at the tank's place performs it as one of its op
+abbrev Looked : Tanks → ℕ → Side → Call → List ℕ → List ℕ → ℕ → List ℕ → Op → Kind → Type 0
+Looked s u side c body d at out op Kind.Asks = Unit
+Looked s u side c body d at out op (Kind.Looks q) =
+    (k : ℕ) → Adds d at (lookSays q (s .heads) (s .pool) (getD (s .tables) u noTable) (side .party) c) k out → Performs op s side c body d at (record { tanks = s; side = side; at = k }) out
+Looked s u side c body d at out op (Kind.Edits e) = Unit
+Looked s u side c body d at out op Kind.Other = Unit
+
+module _ (s : Tanks) (u : ℕ) (side : Side) (c : Call) (body d : List ℕ) (at : ℕ) (out : List ℕ) (place : u ≡ placeOf (tankFor c)) (ok : Sound s) (kept : Settled side) where
+  there : {R : Type 0} (refused : R) (asks : View → R)
+      → askIn (s .heads) (s .pool) (getD (s .tables) u noTable) (tankFor c) (side .party) refused asks ≡ askAt (meaning s) (tankFor c) (side .party) refused asks
+  there refused asks = asked-there s (tankFor c) u place (side .party) refused asks
+
+  answered : (q : Question) {says : Pieces} → says ≡ answerSays q (meaning s) (side .party) c → (k : ℕ) → Adds d at says k out
+      → Performs (Op.Question q) s side c body d at (record { tanks = s; side = side; at = k }) out
+  unfolding afterOp sideAfter saysOf
+  answered q e k says = record { sound = ok; settled = kept; is = refl; keeps = refl; answer = adds-as e says }
+
+  question-looks : (q : Question) → Looked s u side c body d at out (Op.Question q) (questionKind q)
+  unfolding questionKind lookSays answerSays
+  question-looks Question.Length = tt
+  question-looks Question.Touched = tt
+  question-looks Question.Runs = tt
+  question-looks Question.Value = answered Question.Value (ap shownSays (there (Shown.Refused 1) (valueAt (numberAt c 1) (keyAt c 2))))
+  question-looks Question.HasKey = answered Question.HasKey (ap toldSays (there (Told.Refused 1) (rangeContainsKey (startIn c) (endIn c) (keyAt c 3))))
+  question-looks Question.AllValue = answered Question.AllValue (ap toldSays (there (Told.Refused 1) (rangeHasKeyValue (startIn c) (endIn c) (keyAt c 3) (c .value))))
+  question-looks Question.Same = answered Question.Same (ap sharedSays (there (sharedOf 1 false []) (stylesOfRange (startIn c) (endIn c))))
+  question-looks Question.Marks = answered Question.Marks (ap setSays (there (setOf 1 []) (stylesAt (numberAt c 1))))
+  question-looks Question.Inherit = answered Question.Inherit (ap setSays (there (setOf 1 []) (stylesForInsert (numberAt c 1))))
+  question-looks Question.Mark = answered Question.Mark (ap askedSays (there (Asked.Refused 1) (styleAt (numberAt c 1) (numberAt c 2))))
+  question-looks Question.Inherited = answered Question.Inherited (ap askedSays (there (Asked.Refused 1) (styleForInsert (numberAt c 1) (numberAt c 2))))
+  question-looks Question.Find = answered Question.Find (ap extentSays (there (extentOf 1 0 0) (stretchAt (numberAt c 1))))
+  question-looks Question.Propose = tt
+
+  -- no change is one
+  change-looks : (e : Change) → Looked s u side c body d at out (Op.Change e) (changeKind e (side .party) c)
+  unfolding changeKind
+  change-looks Change.Open = tt
+  change-looks Change.Annotate = tt
+  change-looks Change.Insert = tt
+  change-looks Change.Delete = tt
+  change-looks Change.Remove = tt
+  change-looks Change.Age = tt
+
+  looks : (op : Op) → Looked s u side c body d at out op (kindOf op (side .party) c)
+  unfolding kindOf
+  looks Op.Nothing = tt
+  looks (Op.Change e) = change-looks e
+  looks (Op.Question q) = question-looks q
+  looks (Op.Listing l) = tt
+  looks (Op.Text x) = tt
+  looks (Op.Desk x) = tt
+  looks (Op.Both b) = tt
+
+  pub looked : {q : Question} → kindOf (c .op) (side .party) c ≡ Kind.Looks q → (k : ℕ) → Adds d at (lookSays q (s .heads) (s .pool) (getD (s .tables) u noTable) (side .party) c) k out
+      → Performs (c .op) s side c body d at (record { tanks = s; side = side; at = k }) out
+  looked e = subst (Looked s u side c body d at out (c .op)) e (looks (c .op))
