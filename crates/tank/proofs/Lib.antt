@@ -19,6 +19,7 @@ pub mod GrowLaws
 pub mod StripLaws
 pub mod InsertLaws
 pub mod RemoveLaws
+pub mod LentLaws
 pub mod PartyLaws
 pub mod OwnRoom
 pub mod NarrowLaws

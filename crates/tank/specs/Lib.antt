@@ -3,3 +3,4 @@ pub mod Answers
 pub mod Lengths
 pub mod State
 pub mod Steps
+pub mod Lending

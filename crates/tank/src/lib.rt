@@ -14,6 +14,7 @@ ghost use Rattle.tank.specs.State.{tableOf, view, Sound, Called};
 ghost use Rattle.tank.specs.Steps.{roomFor};
 
 mod steps; // steps.rt: what the edits are made of
+pub mod lent; // lent.rt: the edits of a tank whose runs stand in lent arrays
 
 use richtext::TextStyleInfoFlag;
 use styles::Identity;
@@ -181,13 +182,21 @@ pub fn is_lab(who: Party) -> bool
     }
 }
 
-// The marks of a set that are a party's.
+// The bits of a set whose marks are a party's.
+fn shown_bits(table: [Mark; 64], n: usize, set: u64, who: Party) -> u64
+    requires { ⌜ (n ≤ 64) × (set < 2 ^ n) ⌝ }
+    ensures { λ r. ⌜ (r < 2 ^ n) × (pick (take n table) r ≡ ofParty who (pick (take n table) set)) ⌝ }
+{
+    let gone = styles::table::party_bits(table, n, other(who));
+    set - styles::bits::both(set, gone)
+}
+
+// Those marks.
 fn shown_of(table: [Mark; 64], n: usize, set: u64, who: Party) -> Styles
     requires { ⌜ (n ≤ 64) × (set < 2 ^ n) ⌝ }
     ensures { λ r. ⌜ r ≡ stylesOf (ofParty who (pick (take n table) set)) ⌝ }
 {
-    let gone = styles::table::party_bits(table, n, other(who));
-    styles::table::styles_of(table, n, set - styles::bits::both(set, gone))
+    styles::table::styles_of(table, n, shown_bits(table, n, set, who))
 }
 
 impl Tank {
