@@ -9,11 +9,10 @@ use Rattle.tank.specs.Rules.{freshView, Edit, annotating, inserting, deleting, 
 use Rattle.tank.specs.State.{view, Sound}
 use Rattle.tank.proofs.Calls.{when-refused}
 use Rattle.tanks.specs.declared.Done.{Done}
-use Rattle.tanks.specs.declared.Performed.{Performed}
 use Rattle.tanks.specs.declared.Tanks.{Tanks}
 use Rattle.tanks.specs.House.{tankAt, ownAt, refusalAt, insertedSetAt, removedFirstAt}
 use Rattle.tanks.specs.Pool.{meaning}
-use Rattle.tanks.specs.Contracts.{CalledAt, Taken, setBeside, firstBeside, PerformedAs, DoneAt}
+use Rattle.tanks.specs.Contracts.{CalledAt, Taken, setBeside, firstBeside, Performed, PerformedAs, DoneAt}
 use Rattle.tanks.proofs.SettingLaws.{first-zero, TakenOut}
 use Rattle.tanks.proofs.MeaningLaws.{tank-at, tank-past}
 use Rattle.tanks.proofs.CallLaws.{refusal-in}

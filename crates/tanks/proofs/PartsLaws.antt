@@ -1,16 +1,23 @@
 -- An edit on the parts of a state: what it leaves, put back, is what the edit leaves of the state.
-use Prim.Native.Nat.{ℕ, _≤_, _<_}
+use Prim.Native.Nat.{ℕ, _+_, _≤_, _<_}
 use mathlib.Core.Path.{_≡_, refl, sym, ap, _∙_, subst}
+use mathlib.Core.Bool.{true, false}
 use mathlib.Core.List.{List, []}
 use native.Mathlib.Omega.{arith}
 use native.Mathlib.Decide.{ℕ-discrete, decLt}
 use borrow.Author.Tests.{lt-ltb, le-ltb}
-use lib.ListN.{length, getD, set, length-set}
+use lib.ListN.{length, getD, set, replicate, length-set}
 use lib.Seq.{getD-set-same, getD-set-other, ext-getD}
+use Rattle.laws.proofs.Lists.{stored}
 use Rattle.styles.specs.Answers.{stylesOf}
+use Rattle.styles.specs.Bits.{pick}
 use Rattle.tank.specs.declared.Tank.{Tank}
-use Rattle.tank.specs.Rules.{Edit, firstRefusal, madeBy}
-use Rattle.tank.specs.State.{Formed}
+use Rattle.tank.specs.declared.lent.Outline.{Outline}
+use Rattle.tank.specs.declared.lent.Left.{Left}
+use Rattle.tank.specs.Rules.{View, freshView, Edit, firstRefusal, madeBy}
+use Rattle.tank.specs.State.{tableOf, view, Formed, Called}
+use Rattle.tank.specs.Lending.{tankOn, tankMade, tankLeft}
+use Rattle.tank.proofs.Unique.{tank-eq}
 use Rattle.tanks.specs.declared.Setting.{Setting}
 use Rattle.tanks.specs.declared.Head.{Head}
 use Rattle.tanks.specs.declared.Run.{Run}
@@ -18,16 +25,16 @@ use Rattle.tanks.specs.declared.Spots.{Spots}
 use Rattle.tanks.specs.declared.Table.{Table}
 use Rattle.tanks.specs.declared.Tanks.{Tanks}
 use Rattle.tanks.specs.declared.Parts.{Parts}
-use Rattle.tanks.specs.declared.Performed.{Performed}
 use Rattle.tanks.specs.declared.Done.{Done}
 use Rattle.tanks.specs.Settings.{shareOf, judgement}
-use Rattle.tanks.specs.House.{shareNumber}
-use Rattle.tanks.specs.Pool.{noHead, noTable, runsIn, tankIn, tankOf, headOf, tableIn, spotsOf, Sound}
-use Rattle.tanks.specs.Contracts.{placeOf, PartsOf, PartsOfSome, withParts, doneWith, EditsParts, PerformedAs, DoneAt}
+use Rattle.tanks.specs.House.{shareNumber, withTank}
+use Rattle.tanks.specs.Pool.{noRun, noHead, noTable, runsIn, runsBelow, meaning, tankIn, tankOf, headOf, tableIn, spotsOf, Sound}
+use Rattle.tanks.specs.Contracts.{placeOf, PartsOf, PartsOfSome, withParts, doneWith, CalledAt, EditsParts, Performed, PerformedAs, PerformsOn, DoneAt}
 use Rattle.tanks.proofs.LaidLaws.{laid}
 use Rattle.tanks.proofs.Put.{runFrom, puts}
 use Rattle.tanks.proofs.SettingLaws.{TakenOut, taken}
-use Rattle.tanks.proofs.MeaningLaws.{tail-refused, tail-done}
+use Rattle.tanks.proofs.SliceLaws.{own-stored}
+use Rattle.tanks.proofs.MeaningLaws.{tank-at, tanks-length, Tail, tail-refused, tail-done}
 use Rattle.tanks.proofs.CallLaws.{ownBy, called-by, called-past}
 use Rattle.tanks.proofs.AnswerLaws.{done-refused, done-by}
 
@@ -82,6 +89,57 @@ abbrev pub Known : ℕ → Edit → Tank → ℕ → ℕ → ℕ → List Settin
 Known t e x number n v st hs pool table =
     (x ≡ tankIn hs pool table t) × (v ≡ firstRefusal (firstRefusal number (shareNumber (madeBy e) (shareOf st t) (runsIn hs t) n)) (judgement st (runsIn hs) t n))
 
+-- a tank put back as it was
+same-house : (s : Tanks) (t : ℕ) → t < 8 → withTank (meaning s) t (view (tankOf s t)) ≡ meaning s
+unfolding meaning
+same-house s t h =
+    ap (λ (vs : List View). record { settings = s .settings; tanks = vs })
+    (ap (set (meaning s .tanks) t) (sym (tank-at s t h)) ∙ set-own freshView (meaning s .tanks) t (omega (arith, tanks-length s)))
+
+tail-same : (s : Tanks) (t number : ℕ) (x : Tank) → Sound s → t < 8 → x ≡ tankOf s t → firstRefusal number (judgement (s .settings) (runsIn (s .heads)) t (x .runs)) ≡ 0 → Tail s t number x 0 s
+tail-same s t number x ok h q z = record { verdict-is = sym z; is = sym (ap (λ (y : Tank). withTank (meaning s) t (view y)) q ∙ same-house s t h); sound = ok }
+
+-- ---- the runs taken out into lent arrays
+-- a head, as the edits on lent arrays have it
+abbrev pub outlined : Head → Outline
+outlined h = record { touched = h .touched; length = h .length; runs = h .runs; marks = h .marks }
+
+pub lent-tank : (hs : List Head) (pool : List Run) (table : Table) (t : ℕ) → runsBelow hs t + runsIn hs t ≤ length pool → runsIn hs t ≤ 514 → {lens sets : List ℕ}
+    → lens ≡ stored (λ k. getD pool (runsBelow hs t + k) noRun .len) (replicate 514 0) (runsIn hs t)
+    → sets ≡ stored (λ k. getD pool (runsBelow hs t + k) noRun .set) (replicate 514 0) (runsIn hs t)
+    → tankOn (outlined (getD hs t noHead)) lens sets (table .marks) ≡ tankIn hs pool table t
+unfolding tankIn
+lent-tank hs pool table t inside few {lens} {sets} l k =
+    tank-eq (tankOn (outlined (getD hs t noHead)) lens sets (table .marks)) (tankIn hs pool table t) refl refl refl refl
+    (l ∙ own-stored hs pool t inside (λ (r : Run). r .len) few) (k ∙ own-stored hs pool t inside (λ (r : Run). r .set) few) refl
+
+-- what an edit on them comes to, and where it has changed the tank
+abbrev pub outcome : Tank → List ℕ → List ℕ → Left → Performed
+outcome x lens sets r = record { number = r .number; styles = stylesOf (pick (tableOf x) (r .shown)); first = r .first; tank = tankLeft x lens sets r }
+
+abbrev pub outcomeMade : Tank → List ℕ → List ℕ → Left → Performed
+outcomeMade x lens sets r = record { number = r .number; styles = stylesOf (pick (tableOf x) (r .shown)); first = r .first; tank = tankMade x lens sets r }
+
+left-made : (x : Tank) (lens sets : List ℕ) (r : Left) → r .changed ≡ true → tankLeft x lens sets r ≡ tankMade x lens sets r
+left-made x lens sets r c = rw c refl
+
+pub left-same : (x : Tank) (lens sets : List ℕ) (r : Left) → r .changed ≡ false → tankLeft x lens sets r ≡ x
+left-same x lens sets r c = rw c refl
+
+pub performed : {e : Edit} {x : Tank} {lens sets : List ℕ} {r : Left} → PerformsOn e x lens sets r → PerformedAs e x (outcome x lens sets r)
+performed p = record { called = p .called; styles-are = p .styles-are; first-is = p .first-is }
+
+pub performed-made : {e : Edit} {x : Tank} {lens sets : List ℕ} {r : Left} → PerformsOn e x lens sets r → r .changed ≡ true → PerformedAs e x (outcomeMade x lens sets r)
+performed-made {e} {x} {lens} {sets} {r} p c =
+    record { called = subst (λ (y : Tank). Called e x (r .number) y) (left-made x lens sets r c) (p .called); styles-are = p .styles-are; first-is = p .first-is }
+
+-- the verdict, by the runs of the tank that is left
+pub known-by : (t : ℕ) (e : Edit) (number : ℕ) (st : List Setting) (hs : List Head) (pool : List Run) (table : Table) {x : Tank} {m n v : ℕ}
+    → x ≡ tankIn hs pool table t → m ≡ n → v ≡ firstRefusal (firstRefusal number (shareNumber (madeBy e) (shareOf st t) (runsIn hs t) m)) (judgement st (runsIn hs) t m)
+    → Known t e x number n v st hs pool table
+known-by t e number st hs pool table {x} {m} {n} {v} q k w =
+    (q, subst (λ (i : ℕ). v ≡ firstRefusal (firstRefusal number (shareNumber (madeBy e) (shareOf st t) (runsIn hs t) i)) (judgement st (runsIn hs) t i)) k w)
+
 module _ (s : Tanks) (t : ℕ) (e : Edit) (ok : Sound s) where
   -- no such tank
   pub parts-past : (r : Parts) → 8 ≤ t → Unchanged 1 (s .pool) (getD (s .tables) (placeOf t) noTable) (getD (s .heads) 0 noHead) r → DoneAt s t e (doneWith s (placeOf t) r)
@@ -109,6 +167,15 @@ module _ (s : Tanks) (t : ℕ) (e : Edit) (ok : Sound s) where
         called-by s t e x (p .number) (p .tank) 0 (puts s t (p .tank)) ok h own (performed .called)
         (tail-done s t (ownBy s t e (p .number) (p .tank .runs)) (p .tank) ok h (performed .called .formed) (sym (known .1) ∙ z)) in
         rw (a, b, c, n, d, f) (done-by s t e x p (puts s t (p .tank)) h own performed k)
+
+    -- nothing has changed: the parts as they were
+    pub parts-same : (r : Parts) → v ≡ 0 → p .tank ≡ x → r .pool ≡ s .pool → r .table ≡ getD (s .tables) t noTable → r .head ≡ getD (s .heads) t noHead
+        → r .number ≡ 0 → r .styles ≡ p .styles → r .first ≡ p .first → DoneAt s t e (doneWith s t r)
+    parts-same r z q a b c n d f =
+        let k =
+        called-by s t e x (p .number) (p .tank) 0 s ok h own (performed .called)
+        (tail-same s t (ownBy s t e (p .number) (p .tank .runs)) (p .tank) ok h (q ∙ own .is) (sym (known .1) ∙ z)) in
+        rw (n, d, f) (done-by s t e x p (withParts s t r) h own performed (subst (λ (u : Tanks). CalledAt s t e 0 u) (sym (with-same s t r ok h a b c)) k))
 
 -- ---- a holder of a state: its own parts, and what comes back put where they were
 module _ (s : Tanks) (t u : ℕ) (place : u ≡ placeOf t) (ok : Sound s) where

@@ -8,8 +8,11 @@ use lib.ListN.{getD, set}
 use Rattle.styles.specs.declared.Identity.{Identity}
 use Rattle.styles.specs.declared.Mark.{Mark}
 use Rattle.styles.specs.declared.Party.{Party}
+use Rattle.styles.specs.declared.Styles.{Styles}
 use Rattle.styles.specs.Answers.{stylesOf}
 use Rattle.tank.specs.declared.Tank.{Tank}
+use Rattle.tank.specs.declared.lent.Left.{Left}
+use Rattle.tank.specs.Lending.{Leaves}
 use Rattle.tank.specs.Rules.{Edit, annotating, inserting, deleting, removing, runsHeld, insertedSet, removedFirst, whenAccepted}
 use Rattle.tank.specs.State as state
 use Rattle.tanks.specs.declared.Setting.{Setting}
@@ -20,7 +23,6 @@ use Rattle.tanks.specs.declared.Tanks.{Tanks}
 use Rattle.tanks.specs.declared.Opened.{Opened}
 use Rattle.tanks.specs.declared.Edit as code
 use Rattle.tanks.specs.declared.Parts.{Parts}
-use Rattle.tanks.specs.declared.Performed.{Performed}
 use Rattle.tanks.specs.declared.Done.{Done}
 use Rattle.tanks.specs.declared.Count.{Count}
 use Rattle.tanks.specs.declared.YesNo.{YesNo}
@@ -134,11 +136,23 @@ pub record Small (st : List Setting) (hs : List Head) (n : ℕ) : Type 0 where
   pub runs : (t : ℕ) → t < 8 → runsIn hs t ≤ 512
   pub more : n ≤ 512
 
--- what an edit of a tank taken out hands back
+-- what an edit of a tank taken out comes to: what it hands back, and the tank after it
+pub record Performed : Type 0 where
+  pub number : ℕ
+  pub styles : Styles
+  pub first : ℕ
+  pub tank : Tank
+
+-- by the tank's own rules
 pub record PerformedAs (e : Edit) (x : Tank) (r : Performed) : Type 0 where
   pub called : state.Called e x (r .number) (r .tank)
   pub styles-are : r .styles ≡ stylesOf (setBeside (λ who pos len. insertedSet who pos len (state.view x)) e)
   pub first-is : r .first ≡ firstBeside (λ id last. removedFirst id last (state.view x)) e
+
+-- the same where the tank's runs stand in lent arrays
+abbrev pub PerformsOn : Edit → Tank → List ℕ → List ℕ → Left → Type 0
+PerformsOn e x lens sets r =
+    Leaves e x lens sets (setBeside (λ who pos len. insertedSet who pos len (state.view x)) e) (firstBeside (λ id last. removedFirst id last (state.view x)) e) r
 
 -- ---- What the theorems speak of
 -- the code's own states, call after call: whatever the contracts allow from one state to the next, refused calls among them

@@ -8,12 +8,14 @@ ghost use mathlib.Core.List.{[]};
 ghost use Prim.Native.Nat.{_<_};
 ghost use Rattle.styles.specs.Answers.{stylesOf};
 ghost use Rattle.tank.specs.State as state;
+ghost use Rattle.tank.specs.Lending.{tankOn, CanLend};
 ghost use Rattle.tank.specs.Rules.{annotating, deleting, inserting, removing};
 ghost use Rattle.tanks.specs.House.{tankAt, held, insertedSetAt, removedFirstAt, askNumber};
 ghost use Rattle.tanks.specs.Pool.{freshly, meaning, Sound};
-ghost use Rattle.tanks.specs.Contracts.{Opens, CalledAt, counts, says, Taken, editOf, placeOf, PartsOfSome, EditsParts, PerformedAs, DoneAt, PutAt};
+ghost use Rattle.tanks.specs.Contracts.{Opens, CalledAt, counts, says, Taken, editOf, placeOf, PartsOfSome, EditsParts, PerformsOn, DoneAt, PutAt};
 use pool::head_of;
 use pool::spots;
+use pool::start;
 use pool::table_in;
 use pool::taken;
 use pool::turn;
@@ -25,6 +27,8 @@ use styles::Mark;
 use styles::Party;
 use styles::Styles;
 use tank::Tank;
+use tank::lent::Left;
+use tank::lent::Outline;
 
 // What a tank may count on, and what it may not pass.
 pub struct Setting {
@@ -112,22 +116,15 @@ pub struct Done {
     pub first: u64,
 }
 
-// What an edit leaves of the parts of a state that it has to do with, and what it hands back beside them.
+// What an edit leaves of the parts of a state that it has to do with, and what it hands back beside them. With the table right behind the
+// pool both would be copied once more as one piece.
 pub struct Parts {
     pub pool: [Run; 512],
-    pub table: Table,
     pub head: Head,
     pub number: u64,
-    pub styles: Styles,
     pub first: u64,
-}
-
-// The same of a tank taken out.
-struct Performed {
-    number: u64,
-    styles: Styles,
-    first: u64,
-    tank: Tank,
+    pub table: Table,
+    pub styles: Styles,
 }
 
 // A number that was asked for, or the refusal's.
@@ -186,47 +183,31 @@ pub fn open(settings: [Setting; 8]) -> Opened
     }
 }
 
-// An edit that answers its number alone.
-fn plain(e: tank::Edited) -> Performed
-    ensures { λ r. ⌜ (r .number ≡ e .number) × (r .styles ≡ stylesOf []) × (r .first ≡ 0) × (r .tank ≡ e .tank) ⌝ }
-{
-    let tank = e.tank;
-    Performed {
-        number: e.number,
-        styles: styles::table::no_marks(),
-        first: 0,
-        tank: tank,
-    }
-}
-
-// A tank's own call.
-fn perform(x: Tank, call: Edit) -> Performed
-    requires { ⌜ state.Sound x ⌝ }
-    ensures { λ r. ⌜ PerformedAs (editOf call) x r ⌝ }
+// A tank's own call, where its runs stand in lent arrays.
+fn perform(
+    olens: &mut [u64],
+    osets: &mut [u64],
+    lens: &[u64],
+    sets: &mut [u64],
+    h: Outline,
+    table: [Mark; 64],
+    call: Edit,
+) -> Left
+    requires { ⌜ CanLend (tankOn h (now lens) (now sets) table) (now olens) (now osets) ⌝ }
+    ensures { λ r. ⌜ PerformsOn (editOf call) (tankOn h (now (lens .entry)) (now (sets .entry)) table) (now (olens .exit)) (now (osets .exit)) r ⌝ }
 {
     match call {
-        Edit::Annotate(start, end, mark) => plain(x.annotate(start, end, mark)),
-        Edit::Delete(who, start, end) => plain(x.delete(who, start, end)),
+        Edit::Annotate(start, end, mark) => {
+            tank::lent::annotate(olens, osets, lens, sets, h, table, start, end, mark)
+        }
+        Edit::Delete(who, start, end) => {
+            tank::lent::delete(olens, osets, lens, sets, h, table, who, start, end)
+        }
         Edit::Insert(who, pos, len) => {
-            let e = x.insert(who, pos, len);
-            let styles = e.styles;
-            let tank = e.tank;
-            Performed {
-                number: e.number,
-                styles: styles,
-                first: 0,
-                tank: tank,
-            }
+            tank::lent::insert(olens, osets, lens, sets, h, table, who, pos, len)
         }
         Edit::Remove(id, last) => {
-            let e = x.remove_style_scanning_backward(id, last);
-            let tank = e.tank;
-            Performed {
-                number: e.number,
-                styles: styles::table::no_marks(),
-                first: e.first,
-                tank: tank,
-            }
+            tank::lent::remove(olens, osets, lens, sets, h, table, id, last)
         }
     }
 }
@@ -237,11 +218,11 @@ fn unchanged(number: u64, pool: [Run; 512], table: Table, head: Head) -> Parts
 {
     Parts {
         pool: pool,
-        table: table,
         head: head,
         number: number,
-        styles: styles::table::no_marks(),
         first: 0,
+        table: table,
+        styles: styles::table::no_marks(),
     }
 }
 
@@ -252,7 +233,7 @@ pub fn place(tank: u64) -> usize
     if tank < 8 { tank as usize } else { 0 }
 }
 
-// One edit of one tank, on the parts of a state that it has to do with: the tank is taken out, edited by its own rules, judged, and put back. The
+// One edit of one tank, on the parts of a state that it has to do with: its runs are taken out, edited by its own rules, judged, and put back. The
 // runs of the tanks behind it move, from the front or from the back, so that none is written over before it has moved. Who holds a state
 // hands over these parts and puts back what comes: the state itself, of which seven tables have no part in it, is not copied.
 pub fn edit_parts(
@@ -270,12 +251,43 @@ pub fn edit_parts(
         return unchanged(1, pool, table, heads[0]);
     }
     let t = tank as usize;
-    let done = perform(taken(heads, pool, table, t), call);
-    let x = done.tank;
-    let m = x.runs;
+    let h = heads[t];
+    let n = h.runs;
+    let marks = table.marks;
+    let at = start(heads, t);
+    let mut lens = [0u64; 514];
+    let mut sets = [0u64; 514];
+    let mut olens = [0u64; 514];
+    let mut osets = [0u64; 514];
+    let mut i = 0;
+    while i < n {
+        let r = pool[at + i];
+        lens[i] = r.len;
+        sets[i] = r.set;
+        i += 1;
+    }
+    let o = Outline {
+        touched: h.touched,
+        length: h.length,
+        runs: n,
+        marks: h.marks,
+    };
+    let done = perform(&mut olens, &mut osets, &lens, &mut sets, o, marks, call);
+    let m = done.runs;
     let number = edit_verdict(settings, heads, t, call, done.number, m as u64);
     if 0 < number {
-        return unchanged(number, pool, table, heads[t]);
+        return unchanged(number, pool, table, h);
+    }
+    let styles = styles::table::styles_of(marks, h.marks, done.shown);
+    if !done.changed {
+        return Parts {
+            pool: pool,
+            head: h,
+            number: 0,
+            first: done.first,
+            table: table,
+            styles: styles,
+        };
     }
     let s = spots(heads, t, m);
     let mut k = 0;
@@ -284,8 +296,8 @@ pub fn edit_parts(
         k += 1;
         if j < m {
             pool[s.at + j] = Run {
-                len: x.lens[j],
-                set: x.sets[j],
+                len: olens[j],
+                set: osets[j],
             };
         } else {
             if j < s.full {
@@ -295,14 +307,20 @@ pub fn edit_parts(
             }
         }
     }
-    let styles = done.styles;
+    let change = done.table;
+    let next = tank::lent::table_left(marks, h.marks, change);
     Parts {
         pool: pool,
-        table: table_in(x),
-        head: head_of(x),
+        head: Head {
+            touched: true,
+            length: done.length,
+            runs: m,
+            marks: done.marks,
+        },
         number: 0,
-        styles: styles,
         first: done.first,
+        table: Table { marks: next },
+        styles: styles,
     }
 }
 

@@ -1,173 +1,306 @@
--- The tank is put back run by run; what the loop has written so far is a part of the pool that `puts` says.
+-- The runs are taken out, and put back run by run; what the second loop has written so far is a part of the pool that `puts` says.
 use borrow.Author.Needs.{needs}
+use borrow.Author.Tests.{not-true, not-false}
 use native.Mathlib.Omega.{arith}
-use Prim.Native.Nat.{ℕ, _-_, _≤_}
+use native.Mathlib.Numerals.{add-one}
+use Prim.Native.Nat.{ℕ, _+_, _-_, _≤_, _<_}
 use mathlib.Core.Path.{_≡_, refl, sym, ap, _∙_, subst}
+use mathlib.Core.Bool.{true}
+use mathlib.Core.List.{List, []}
+use lib.ListN.{length, getD, replicate, length-set}
+use Rattle.laws.proofs.Lists.{stored}
+use Rattle.styles.specs.declared.Mark.{Mark}
+use Rattle.runs.proofs.SumLaws.{sum-next}
+use Rattle.tank.specs.declared.Tank.{Tank}
+use Rattle.tank.specs.declared.lent.Left.{Left}
+use Rattle.tank.specs.Lending.{tankOn, tankMade, tankLeft}
+use Rattle.tank.proofs.Shape.{all-spare}
+use Rattle.tanks.specs.declared.Head.{Head}
 use Rattle.tanks.specs.declared.Tanks.{Tanks}
-use lib.ListN.{getD}
+use Rattle.tanks.specs.declared.Table.{Table}
 use Rattle.tanks.specs.declared.Spots.{Spots}
 use Rattle.tanks.specs.declared.Parts.{Parts}
-use Rattle.tanks.specs.Pool.{noHead, noTable, runsBelow, tankOf, tankIn, spotsOf}
-use Rattle.tanks.specs.Contracts.{editOf, placeOf, PartsOf, DoneAt, doneWith, Judged}
+use Rattle.tanks.specs.Pool.{noRun, noHead, noTable, runsIn, runsBelow, tankOf, tankIn, spotsOf}
+use Rattle.tanks.specs.Contracts.{editOf, placeOf, PartsOf, PerformsOn, DoneAt, doneWith, Judged}
 use Rattle.tanks.proofs.LaidLaws.{laid}
 use Rattle.tanks.proofs.Put.{runFrom, poolWith, puts}
 use Rattle.tanks.proofs.SettingLaws.{sound-held, sound-judged, TakenOut, taken}
 use Rattle.tanks.proofs.CallLaws.{ownBy}
 use Rattle.tanks.proofs.WriteLaws.{part, lowest, pool-step, pool-kept, part-all, run-own, run-behind, run-blank, Inside, inside}
-use Rattle.tanks.proofs.PartsLaws.{place-in, at-place, on-parts, on-state, Unchanged, Known, parts-past, parts-refused, parts-done}
+use Rattle.tanks.proofs.PartsLaws.{
+  place-in,
+  at-place,
+  on-parts,
+  on-state,
+  outlined,
+  lent-tank,
+  outcome,
+  outcomeMade,
+  left-same,
+  performed,
+  performed-made,
+  known-by,
+  Unchanged,
+  Known,
+  parts-past,
+  parts-refused,
+  parts-same,
+  parts-done,
+}
 use Rattle.tanks.proofs.edit_parts.Statement.{statement}
 use Rattle.tanks.proofs.edit_parts.Tie as tie
 
 abbrev Inv-loop : tie.InvT-loop
-Inv-loop tank pool₀ t done x m number s k₀ pool k =
-    (k ≤ s .count)
-    × Inside x m (s .at) (s .from) (s .full) (s .count) (s .grows)
-    × (pool ≡ part pool₀ (s .at) (runFrom pool₀ x (s .from) (s .full)) (lowest (s .grows) (s .count) k) k)
+Inv-loop settings table tank call heads pool t h n marks at lens₀ sets₀ olens osets i₀ lens sets i =
+    (i ≤ n)
+    × (at + n ≤ 512)
+    × (lens ≡ stored (λ k. getD pool (at + k) noRun .len) lens₀ i)
+    × (sets ≡ stored (λ k. getD pool (at + k) noRun .set) sets₀ i)
+    × (length lens ≡ 514)
+    × (length sets ≡ 514)
 
 abbrev μ-loop : tie.MeasureT-loop
-μ-loop tank pool₀ t done x m number s k₀ pool k = s .count - k
+μ-loop settings table tank call heads pool t h n marks at lens₀ sets₀ olens osets i₀ lens sets i = n - i
+
+-- the tank that is made, by what the second loop knows of it
+abbrev made-of : Head → List Mark → List ℕ → List ℕ → Left → Tank
+made-of h marks olens osets done = tankMade (tankOn (outlined h) [] [] marks) olens osets done
+
+abbrev Inv-loop2 : tie.InvT-loop2
+Inv-loop2 tank pool₀ t h n marks at olens osets i done m number styles s k₀ pool k =
+    (k ≤ s .count)
+    × Inside (made-of h marks olens osets done) m (s .at) (s .from) (s .full) (s .count) (s .grows)
+    × (pool ≡ part pool₀ (s .at) (runFrom pool₀ (made-of h marks olens osets done) (s .from) (s .full)) (lowest (s .grows) (s .count) k) k)
+
+abbrev μ-loop2 : tie.MeasureT-loop2
+μ-loop2 tank pool₀ t h n marks at olens osets i done m number styles s k₀ pool k = s .count - k
 
 -- ---- what is known on the way
 -- the tanks of the state hold no more than the pool has
-held : (a : tie.Start Inv-loop μ-loop) → runsBelow (a .args .t2) 8 ≤ 512
+held : (a : tie.Start Inv-loop μ-loop Inv-loop2 μ-loop2) → runsBelow (a .args .t2) 8 ≤ 512
 held a = on-parts (a .pre .parts) (λ st hs pool table. runsBelow hs 8 ≤ 512) (sound-held (a .pre .state) (a .pre .sound))
 
--- the tank is taken out
-own : (c : tie.After-taken Inv-loop μ-loop) → let a = c .before .before in TakenOut (a .pre .state) (a .args .tank) (c .taken .result)
+-- the tank's runs are taken out
+abbrev tank-of : tie.After-loop Inv-loop μ-loop Inv-loop2 μ-loop2 → Tank
+tank-of c =
+    let a = c .before .before .before .before .before .before in
+    let l = c .before .loop in
+    tankOn (outlined (getD (a .args .t2) (a .args .tank) noHead)) (l .lens) (l .sets) (a .args .table .marks)
+
+taken-is : (c : tie.After-loop Inv-loop μ-loop Inv-loop2 μ-loop2) → let a = c .before .before .before .before .before .before in tank-of c ≡ tankIn (a .args .t2) (a .args .t3) (a .args .table) (a .args .tank)
+taken-is c =
+    let a = c .before .before .before .before .before .before in
+    let l = c .before .loop in
+    let hs = a .args .t2 in
+    let pool = a .args .t3 in
+    let t = a .args .tank in
+    let e : l .i ≡ runsIn hs t = omega (arith, c .loop-test .left, l .inv .0) in
+    let s = c .before .before .start .ensures in
+    let long : length pool ≡ 512 = on-parts (a .pre .parts) (λ st hs pool table. length pool ≡ 512) (a .pre .sound .pool-512) in
+    let room : runsBelow hs t + runsIn hs t ≤ length pool = omega (arith, sum-next (runsIn hs) t 8 (c .before .before .before .before .before .if1 .left), held a, long) in
+    lent-tank hs pool (a .args .table) t room (omega (arith, room, long))
+    (l .inv .2 ∙ (λ j. stored (λ k. getD pool (s j + k) noRun .len) (replicate 514 0) (e j)))
+    (l .inv .3 ∙ (λ j. stored (λ k. getD pool (s j + k) noRun .set) (replicate 514 0) (e j)))
+
+own : (c : tie.After-loop Inv-loop μ-loop Inv-loop2 μ-loop2) → let a = c .before .before .before .before .before .before in TakenOut (a .pre .state) (a .args .tank) (tank-of c)
 unfolding tankOf
 own c =
-    let a = c .before .before in
+    let a = c .before .before .before .before .before .before in
     let t = a .args .tank in
-    let h = c .before .if1 .left in
-    taken (a .pre .state) (a .pre .sound) t _ h (on-state (at-place t h (a .pre .parts)) (λ st hs pool table. c .taken .result ≡ tankIn hs pool table t) (c .taken .ensures))
+    let h = c .before .before .before .before .before .if1 .left in
+    taken (a .pre .state) (a .pre .sound) t (tank-of c) h (on-state (at-place t h (a .pre .parts)) (λ st hs pool table. tank-of c ≡ tankIn hs pool table t) (taken-is c))
 
--- and judged: what is known of the parts is known of every state that they are of
-known : (c : tie.After-edit-verdict Inv-loop μ-loop) → let a = c .before .before .before .before .before in let p = c .before .before .perform .result in
+-- and edited
+did : (c : tie.After-perform Inv-loop μ-loop Inv-loop2 μ-loop2) → PerformsOn (editOf (c .before .before .before .before .before .before .before .before .before .before .before .args .call)) (tank-of (c .before .before .before .before .before)) (c .perform .last .0) (c .perform .last .1 .0) (c .perform .result)
+did c = c .perform .ensures
+
+-- the edit is judged: what is known of the parts is known of every state that they are of
+known : (c : tie.After-edit-verdict Inv-loop μ-loop Inv-loop2 μ-loop2) (n : ℕ) → c .before .before .before .before .perform .result .runs ≡ n → let a = c .before .before .before .before .before .before .before .before .before .before .before .before .before .before .before in
     (s : Tanks) → PartsOf s (placeOf (a .args .tank)) (a .args .settings) (a .args .t2) (a .args .t3) (a .args .table)
-    → Known (a .args .tank) (editOf (a .args .call)) (c .before .before .before .taken .result) (p .number) (p .tank .runs) (c .edit-verdict .result) (s .settings) (s .heads) (s .pool) (getD (s .tables) (a .args .tank) noTable)
-known c s q =
-    let a = c .before .before .before .before .before in
-    let p = c .before .before .perform .result in
+    → Known (a .args .tank) (editOf (a .args .call)) (tank-of (c .before .before .before .before .before .before .before .before .before)) (c .before .before .before .before .perform .result .number) n (c .edit-verdict .result) (s .settings) (s .heads) (s .pool) (getD (s .tables) (a .args .tank) noTable)
+known c n g s q =
+    let a = c .before .before .before .before .before .before .before .before .before .before .before .before .before .before .before in
     let t = a .args .tank in
-    on-state (at-place t (c .before .before .before .before .if1 .left) q) (Known t (editOf (a .args .call)) (c .before .before .before .taken .result) (p .number) (p .tank .runs) (c .edit-verdict .result))
-    (c .before .before .before .taken .ensures, c .edit-verdict .ensures)
+    on-state (at-place t (c .before .before .before .before .before .before .before .before .before .before .before .before .before .before .if1 .left) q)
+    (Known t (editOf (a .args .call)) (tank-of (c .before .before .before .before .before .before .before .before .before)) (c .before .before .before .before .perform .result .number) n (c .edit-verdict .result))
+    (known-by t (editOf (a .args .call)) (c .before .before .before .before .perform .result .number) (a .args .settings) (a .args .t2) (a .args .t3) (a .args .table) (taken-is (c .before .before .before .before .before .before .before .before .before)) g (c .edit-verdict .ensures))
 
--- no refusal: the places of the loop are inside the arrays
-places : (c : tie.After-spots Inv-loop μ-loop) → let x = c .before .before .before .before .perform .result .tank in let r = c .spots .result in Inside x (x .runs) (r .at) (r .from) (r .full) (r .count) (r .grows)
+-- no refusal: the places of the second loop are inside the arrays
+places : (c : tie.After-spots Inv-loop μ-loop Inv-loop2 μ-loop2) → let a = c .before .before .before .before .before .before .before .before .before .before .before .before .before .before .before .before .before .before .before .before in let p = c .before .before .before .before .before .before .before .before .before .perform in let r = c .spots .result in
+    let x = made-of (getD (a .args .t2) (a .args .tank) noHead) (a .args .table .marks) (p .last .0) (p .last .1 .0) (p .result) in
+    Inside x (x .runs) (r .at) (r .from) (r .full) (r .count) (r .grows)
 places c =
-    let v = c .before .before in
-    let p = v .before .before .perform in
-    let a = v .before .before .before .before .before in
+    let p = c .before .before .before .before .before .before .before .before .before .perform in
+    let d = did (c .before .before .before .before .before .before .before .before .before) in
+    let a = c .before .before .before .before .before .before .before .before .before .before .before .before .before .before .before .before .before .before .before .before in
     let t = a .args .tank in
-    let h = v .before .before .before .before .if1 .left in
+    let h = c .before .before .before .before .before .before .before .before .before .before .before .before .before .before .before .before .before .before .before .if1 .left in
+    let e = editOf (a .args .call) in
+    let x = tank-of (c .before .before .before .before .before .before .before .before .before .before .before .before .before .before) in
+    let v = c .before .before .before .before .before in
     let s = a .pre .state in
-    let z : v .edit-verdict .result ≡ 0 = omega (arith, c .before .if2 .left) in
-    inside s t (ownBy s t (editOf (a .args .call)) (p .result .number) (p .result .tank .runs)) (p .result .tank) (a .pre .sound) h (p .ensures .called .formed) (sym (known v s (a .pre .parts) .1) ∙ z) _
-    (on-state (at-place t h (a .pre .parts)) (λ st hs pool table. c .spots .result ≡ spotsOf hs t (p .result .tank .runs)) (c .spots .ensures))
+    let y = tankMade x (p .last .0) (p .last .1 .0) (p .result) in
+    let z : v .edit-verdict .result ≡ 0 = omega (arith, c .before .before .before .before .if2 .left) in
+    let f = performed-made d (not-false _ (c .before .if3 .left)) .called .formed in
+    inside s t (ownBy s t e (p .result .number) (y .runs)) y (a .pre .sound) h f (sym (known v (y .runs) refl s (a .pre .parts) .1) ∙ z) _
+    (on-state (at-place t h (a .pre .parts)) (λ st hs pool table. c .spots .result ≡ spotsOf hs t (y .runs)) (c .spots .ensures))
 
 -- ---- what is asked for
-returns : tie.Need-returns Inv-loop μ-loop
+returns : tie.Need-returns Inv-loop μ-loop Inv-loop2 μ-loop2
 returns c =
     let a = c .before .before .before in
     λ s ok q. parts-past s (a .args .tank) (editOf (a .args .call)) ok _ (c .before .before .if1 .taken) (on-state q (λ st hs pool table. Unchanged 1 pool table (getD hs 0 noHead) (c .unchanged .result)) (c .unchanged .ensures))
 
-taken-requires : tie.Need-taken-requires Inv-loop μ-loop
-taken-requires c κs = (c .if1 .left, held (c .before))
+start-requires : tie.Need-start-requires Inv-loop μ-loop Inv-loop2 μ-loop2
+start-requires c κs = (omega (arith, c .before .before .if1 .left), held (c .before .before .before))
 
-perform-requires : tie.Need-perform-requires Inv-loop μ-loop
-perform-requires c κs = own c .sound
+loop-holds : tie.Need-loop-holds Inv-loop μ-loop Inv-loop2 μ-loop2
+loop-holds c =
+    let a = c .before .before .before .before in
+    (omega arith, omega (arith, c .start .ensures, sum-next (runsIn (a .args .t2)) (a .args .tank) 8 (c .before .before .before .if1 .left), held a), refl, refl, refl, refl)
 
-edit-verdict-requires : tie.Need-edit-verdict-requires Inv-loop μ-loop
+loop-again : tie.Need-loop-again Inv-loop μ-loop Inv-loop2 μ-loop2
+loop-again c =
+    let l = c .before .before .loop in
+    (omega arith, l .inv .1, rw (l .inv .2, add-one (l .i)), rw (l .inv .3, add-one (l .i)), length-set (l .lens) (l .i) _ ∙ l .inv .4, length-set (l .sets) (l .i) _ ∙ l .inv .5)
+
+perform-requires : tie.Need-perform-requires Inv-loop μ-loop Inv-loop2 μ-loop2
+perform-requires c κs = record { sound = own (c .before .before .before .before) .sound; olens-514 = refl; osets-514 = refl; blank = all-spare 514 }
+
+edit-verdict-requires : tie.Need-edit-verdict-requires Inv-loop μ-loop Inv-loop2 μ-loop2
 edit-verdict-requires c κs =
-    let e = c .before .before .before in
-    let a = e .before in
-    (e .if1 .left, on-parts (a .pre .parts) (λ st hs pool table. Judged st hs) (sound-judged (a .pre .state) (a .pre .sound)))
+    let a = c .before .before .before .before .before .before .before .before .before .before .before .before .before .before in
+    (c .before .before .before .before .before .before .before .before .before .before .before .before .before .if1 .left, on-parts (a .pre .parts) (λ st hs pool table. Judged st hs) (sound-judged (a .pre .state) (a .pre .sound)))
 
-returns-2 : tie.Need-returns-2 Inv-loop μ-loop
+returns-2 : tie.Need-returns-2 Inv-loop μ-loop Inv-loop2 μ-loop2
 returns-2 c =
-    let v = c .before .before .before in
-    let p = v .before .before .perform in
-    let a = v .before .before .before .before .before in
+    let p = c .before .before .before .before .before .before .perform in
+    let d = did (c .before .before .before .before .before .before) in
+    let a = c .before .before .before .before .before .before .before .before .before .before .before .before .before .before .before .before .before in
     let t = a .args .tank in
-    let h = v .before .before .before .before .if1 .left in
+    let h = c .before .before .before .before .before .before .before .before .before .before .before .before .before .before .before .before .if1 .left in
     let e = editOf (a .args .call) in
+    let x = tank-of (c .before .before .before .before .before .before .before .before .before .before .before) in
+    let v = c .before .before in
     let r = c .unchanged2 .result in
     λ s ok q. subst (λ (u : ℕ). DoneAt s t e (doneWith s u r)) (sym (place-in t h))
-    (parts-refused s t e ok h _ (p .result) (p .ensures) (v .edit-verdict .result) (known v s q) r (c .before .before .if2 .taken)
+    (parts-refused s t e ok h x (outcome x (p .last .0) (p .last .1 .0) (p .result)) (performed d) (v .edit-verdict .result) (known v _ (d .runs-are) s q) r (c .before .if2 .taken)
     (on-state (at-place t h q) (λ st hs pool table. Unchanged (v .edit-verdict .result) pool table (getD hs t noHead) r) (c .unchanged2 .ensures)))
 
-spots-requires : tie.Need-spots-requires Inv-loop μ-loop
-spots-requires c κs =
-    let e = c .before .before .before .before .before in
-    (e .if1 .left, c .before .before .before .perform .ensures .called .formed .laid .most, held (e .before))
+styles-of-requires : tie.Need-styles-of-requires Inv-loop μ-loop Inv-loop2 μ-loop2
+styles-of-requires c κs = (own (c .before .before .before .before .before .before .before .before .before .before) .sound .formed .laid .few, did (c .before .before .before .before .before) .shown-fits)
 
-loop-holds : tie.Need-loop-holds Inv-loop μ-loop
-unfolding laid
-loop-holds c = (omega arith, places c, refl)
-
-loop-again : tie.Need-loop-again Inv-loop μ-loop
-loop-again c =
-    let l = c .before .before .before .before .before .before .before in
-    let q = l .before .spots .result in
-    let x = l .before .before .before .before .before .perform .result .tank in
-    let pool = l .before .before .before .before .before .before .before .before .args .t3 in
-    let j = c .before .before .before .before .turn in (
-      omega arith,
-      l .loop .inv .1,
-      pool-step (l .loop .pool) pool (q .at) (runFrom pool x (q .from) (q .full)) (q .grows) (q .count) (l .loop .k) (j .result) _
-          (omega arith) (j .ensures .0) (l .loop .inv .2) (run-own pool x (q .from) (q .full) (j .result) (omega arith)),
-    )
-
-loop-again-2 : tie.Need-loop-again-2 Inv-loop μ-loop
-loop-again-2 c =
-    let l = c .before .before .before .before .before .before .before .before .before in
-    let q = l .before .spots .result in
-    let x = l .before .before .before .before .before .perform .result .tank in
-    let pool = l .before .before .before .before .before .before .before .before .args .t3 in
-    let j = c .before .before .before .before .before .before .turn in (
-      omega arith,
-      l .loop .inv .1,
-      pool-step (l .loop .pool) pool (q .at) (runFrom pool x (q .from) (q .full)) (q .grows) (q .count) (l .loop .k) (j .result) _
-          (omega arith) (j .ensures .0) (l .loop .inv .2)
-          (pool-kept (l .loop .pool) pool (q .at) (runFrom pool x (q .from) (q .full)) (q .grows) (q .from) (x .runs) (q .count) (l .loop .k) (j .result) (l .loop .inv .1 .back) (omega arith) (j .ensures .0) (omega arith) (l .loop .inv .2)
-          ∙ run-behind pool x (q .from) (q .full) (j .result) (omega arith) (omega arith)),
-    )
-
-loop-again-3 : tie.Need-loop-again-3 Inv-loop μ-loop
-loop-again-3 c =
-    let l = c .before .before .before .before .before .before .before in
-    let q = l .before .spots .result in
-    let x = l .before .before .before .before .before .perform .result .tank in
-    let pool = l .before .before .before .before .before .before .before .before .args .t3 in
-    let j = c .before .before .before .before .turn in (
-      omega arith,
-      l .loop .inv .1,
-      pool-step (l .loop .pool) pool (q .at) (runFrom pool x (q .from) (q .full)) (q .grows) (q .count) (l .loop .k) (j .result) _
-          (omega arith) (j .ensures .0) (l .loop .inv .2) (run-blank pool x (q .from) (q .full) (j .result) (omega arith) (omega arith)),
-    )
-
-returns-3 : tie.Need-returns-3 Inv-loop μ-loop
-unfolding puts
+returns-3 : tie.Need-returns-3 Inv-loop μ-loop Inv-loop2 μ-loop2
 returns-3 c =
-    let l = c .before .before .before .before .before in
-    let g = l .before in
-    let v = g .before .before in
-    let p = v .before .before .perform in
-    let a = v .before .before .before .before .before in
+    let p = c .before .before .before .before .before .before .before .before .perform in
+    let d = did (c .before .before .before .before .before .before .before .before) in
+    let a = c .before .before .before .before .before .before .before .before .before .before .before .before .before .before .before .before .before .before .before in
     let t = a .args .tank in
-    let h = v .before .before .before .before .if1 .left in
+    let h = c .before .before .before .before .before .before .before .before .before .before .before .before .before .before .before .before .before .before .if1 .left in
     let e = editOf (a .args .call) in
+    let x = tank-of (c .before .before .before .before .before .before .before .before .before .before .before .before .before) in
+    let v = c .before .before .before .before in
+    let z : v .edit-verdict .result ≡ 0 = omega (arith, c .before .before .before .if2 .left) in
+    let left : Parts = record { pool = a .args .t3; head = getD (a .args .t2) t noHead; number = 0; first = p .result .first; table = a .args .table; styles = c .before .before .styles-of .result } in
+    λ s ok r. let q = at-place t h r in
+    subst (λ (u : ℕ). DoneAt s t e (doneWith s u left)) (sym (place-in t h))
+    (parts-same s t e ok h x (outcome x (p .last .0) (p .last .1 .0) (p .result)) (performed d) (v .edit-verdict .result) (known v _ (d .runs-are) s r) left z
+    (left-same x (p .last .0) (p .last .1 .0) (p .result) (not-true _ (c .if3 .taken)))
+    (sym (q .pool-is)) (sym (q .table-is)) (ap (λ (hs : List Head). getD hs t noHead) (sym (q .heads-are))) refl (c .before .before .styles-of .ensures) refl)
+
+spots-requires : tie.Need-spots-requires Inv-loop μ-loop Inv-loop2 μ-loop2
+spots-requires c κs =
+    (c .before .before .before .before .before .before .before .before .before .before .before .before .before .before .before .before .before .before .if1 .left, performed-made (did (c .before .before .before .before .before .before .before .before)) (not-false _ (c .if3 .left)) .called .formed .laid .most, held (c .before .before .before .before .before .before .before .before .before .before .before .before .before .before .before .before .before .before .before))
+
+loop2-holds : tie.Need-loop2-holds Inv-loop μ-loop Inv-loop2 μ-loop2
+unfolding laid
+loop2-holds c = (omega arith, places c, refl)
+
+loop2-again : tie.Need-loop2-again Inv-loop μ-loop Inv-loop2 μ-loop2
+loop2-again c =
+    let l = c .before .before .before .before .before in
+    let q = c .before .before .before .before .before .before .spots .result in
+    let a = c .before .before .before .before .before .before .before .before .before .before .before .before .before .before .before .before .before .before .before .before .before .before .before .before .before .before in
+    let p = c .before .before .before .before .before .before .before .before .before .before .before .before .before .before .before .perform in
+    let x = made-of (getD (a .args .t2) (a .args .tank) noHead) (a .args .table .marks) (p .last .0) (p .last .1 .0) (p .result) in
+    let pool = a .args .t3 in
+    let j = c .before .before .turn in
+    let b : l .loop2 .k < q .count = c .before .before .before .if4 .taken in
+    let g : l .loop2 .k + 1 ≤ q .count = omega (arith, b) in
+    let o : j .result < x .runs = c .before .if5 .taken in (
+      g,
+      l .loop2 .inv .1,
+      pool-step (l .loop2 .pool) pool (q .at) (runFrom pool x (q .from) (q .full)) (q .grows) (q .count) (l .loop2 .k) (j .result) _
+          b (j .ensures .0) (l .loop2 .inv .2) (run-own pool x (q .from) (q .full) (j .result) o),
+    )
+
+loop2-again-2 : tie.Need-loop2-again-2 Inv-loop μ-loop Inv-loop2 μ-loop2
+loop2-again-2 c =
+    let l = c .before .before .before .before .before .before .before .before .before in
+    let q = c .before .before .before .before .before .before .before .before .before .before .spots .result in
+    let a = c .before .before .before .before .before .before .before .before .before .before .before .before .before .before .before .before .before .before .before .before .before .before .before .before .before .before .before .before .before .before in
+    let p = c .before .before .before .before .before .before .before .before .before .before .before .before .before .before .before .before .before .before .before .perform in
+    let x = made-of (getD (a .args .t2) (a .args .tank) noHead) (a .args .table .marks) (p .last .0) (p .last .1 .0) (p .result) in
+    let pool = a .args .t3 in
+    let j = c .before .before .before .before .before .before .turn in
+    let b : l .loop2 .k < q .count = c .before .before .before .before .before .before .before .if4 .taken in
+    let g : l .loop2 .k + 1 ≤ q .count = omega (arith, b) in
+    let o : x .runs ≤ j .result = c .before .before .before .before .before .if5 .left in
+    let f : j .result < q .full = c .before .before .before .if6 .taken in (
+      g,
+      l .loop2 .inv .1,
+      pool-step (l .loop2 .pool) pool (q .at) (runFrom pool x (q .from) (q .full)) (q .grows) (q .count) (l .loop2 .k) (j .result) _
+          b (j .ensures .0) (l .loop2 .inv .2)
+          (pool-kept (l .loop2 .pool) pool (q .at) (runFrom pool x (q .from) (q .full)) (q .grows) (q .from) (x .runs) (q .count) (l .loop2 .k) (j .result) (l .loop2 .inv .1 .back) b (j .ensures .0) o (l .loop2 .inv .2)
+          ∙ run-behind pool x (q .from) (q .full) (j .result) o f),
+    )
+
+loop2-again-3 : tie.Need-loop2-again-3 Inv-loop μ-loop Inv-loop2 μ-loop2
+loop2-again-3 c =
+    let l = c .before .before .before .before .before .before .before in
+    let q = c .before .before .before .before .before .before .before .before .spots .result in
+    let a = c .before .before .before .before .before .before .before .before .before .before .before .before .before .before .before .before .before .before .before .before .before .before .before .before .before .before .before .before in
+    let p = c .before .before .before .before .before .before .before .before .before .before .before .before .before .before .before .before .before .perform in
+    let x = made-of (getD (a .args .t2) (a .args .tank) noHead) (a .args .table .marks) (p .last .0) (p .last .1 .0) (p .result) in
+    let pool = a .args .t3 in
+    let j = c .before .before .before .before .turn in
+    let b : l .loop2 .k < q .count = c .before .before .before .before .before .if4 .taken in
+    let g : l .loop2 .k + 1 ≤ q .count = omega (arith, b) in
+    let o : x .runs ≤ j .result = c .before .before .before .if5 .left in
+    let f : q .full ≤ j .result = c .before .if6 .left in (
+      g,
+      l .loop2 .inv .1,
+      pool-step (l .loop2 .pool) pool (q .at) (runFrom pool x (q .from) (q .full)) (q .grows) (q .count) (l .loop2 .k) (j .result) _
+          b (j .ensures .0) (l .loop2 .inv .2) (run-blank pool x (q .from) (q .full) (j .result) o f),
+    )
+
+table-left-requires : tie.Need-table-left-requires Inv-loop μ-loop Inv-loop2 μ-loop2
+table-left-requires c κs = (own (c .before .before .before .before .before .before .before .before .before .before .before .before .before .before .before .before .before) .sound .formed .laid .few, did (c .before .before .before .before .before .before .before .before .before .before .before .before) .table-fits)
+
+returns-4 : tie.Need-returns-4 Inv-loop μ-loop Inv-loop2 μ-loop2
+unfolding puts
+returns-4 c =
+    let p = c .before .before .before .before .before .before .before .before .before .before .before .before .before .perform in
+    let d = did (c .before .before .before .before .before .before .before .before .before .before .before .before .before) in
+    let a = c .before .before .before .before .before .before .before .before .before .before .before .before .before .before .before .before .before .before .before .before .before .before .before .before in
+    let t = a .args .tank in
+    let h = c .before .before .before .before .before .before .before .before .before .before .before .before .before .before .before .before .before .before .before .before .before .before .before .if1 .left in
+    let e = editOf (a .args .call) in
+    let x = tank-of (c .before .before .before .before .before .before .before .before .before .before .before .before .before .before .before .before .before .before) in
+    let v = c .before .before .before .before .before .before .before .before .before in
+    let l = c .before .before .before in
+    let g = c .before .before .before .before in
     let q = g .spots .result in
-    let x = p .result .tank in
-    let z : v .edit-verdict .result ≡ 0 = omega (arith, g .before .if2 .left) in
-    let all : l .loop .k ≡ q .count = omega arith in
-    let laid-is : l .loop .pool ≡ poolWith (a .args .t3) (spotsOf (a .args .t2) t (x .runs)) x =
-    (rw all at (l .loop .inv .2)) ∙ part-all (a .args .t3) (q .at) _ (q .grows) (q .count) ∙ ap (λ (w : Spots). poolWith (a .args .t3) w x) (g .spots .ensures) in
-    let left : Parts = record { pool = l .loop .pool; table = c .before .table-in .result; head = c .head-of .result; number = 0; styles = p .result .styles; first = p .result .first } in
+    let y = tankMade x (p .last .0) (p .last .1 .0) (p .result) in
+    let z : v .edit-verdict .result ≡ 0 = omega (arith, c .before .before .before .before .before .before .before .before .if2 .left) in
+    let all : l .loop2 .k ≡ q .count = omega (arith, c .before .if4 .left, l .loop2 .inv .0) in
+    let laid-is : l .loop2 .pool ≡ poolWith (a .args .t3) (spotsOf (a .args .t2) t (y .runs)) y =
+    (rw all at (l .loop2 .inv .2)) ∙ part-all (a .args .t3) (q .at) _ (q .grows) (q .count) ∙ ap (λ (w : Spots). poolWith (a .args .t3) w y) (g .spots .ensures) in
+    let left : Parts = record { pool = l .loop2 .pool; head = record { touched = true; length = p .result .length; runs = p .result .runs; marks = p .result .marks }; number = 0; first = p .result .first; table = record { marks = c .table-left .result }; styles = c .before .before .before .before .before .before .before .styles-of .result } in
     λ s ok r. subst (λ (u : ℕ). DoneAt s t e (doneWith s u left)) (sym (place-in t h))
-    (parts-done s t e ok h _ (p .result) (p .ensures) (v .edit-verdict .result) (known v s r) left z
-    (on-state (at-place t h r) (λ st hs pool table. l .loop .pool ≡ poolWith pool (spotsOf hs t (x .runs)) x) laid-is)
-    (c .before .table-in .ensures) (c .head-of .ensures) refl refl refl)
+    (parts-done s t e ok h x (outcomeMade x (p .last .0) (p .last .1 .0) (p .result)) (performed-made d (not-false _ (c .before .before .before .before .before .if3 .left))) (v .edit-verdict .result) (known v (y .runs) refl s r) left z
+    (on-state (at-place t h r) (λ st hs pool table. l .loop2 .pool ≡ poolWith pool (spotsOf hs t (y .runs)) y) laid-is)
+    (ap (λ (ms : List Mark). record { marks = ms }) (c .table-left .ensures)) refl refl (c .before .before .before .before .before .before .before .styles-of .ensures) refl)
 
 pub edit-parts-spec : {M : Type 1} → statement M
 edit-parts-spec =
@@ -175,19 +308,15 @@ edit-parts-spec =
     (tie.spec
     Inv-loop
     μ-loop
+    Inv-loop2
+    μ-loop2
     (λ c. search needs)
     (λ c κs. search needs)
     returns
-    taken-requires
-    perform-requires
-    edit-verdict-requires
     (λ c. search needs)
     (λ c. search needs)
-    (λ c κs. search needs)
-    returns-2
-    spots-requires
+    start-requires
     loop-holds
-    (λ c κs. search needs)
     (λ c. search needs)
     (λ c. search needs)
     (λ c. search needs)
@@ -202,15 +331,37 @@ edit-parts-spec =
     (λ c. search needs)
     (λ c. search needs)
     (λ c. search needs)
-    (λ c. search needs)
-    (λ c. search needs)
-    (λ c. search needs)
-    loop-again-2
-    (λ c. search needs)
-    (λ c. search needs)
-    (λ c. search needs)
-    (λ c. search needs)
-    loop-again-3
+    perform-requires
+    edit-verdict-requires
     (λ c κs. search needs)
+    returns-2
+    styles-of-requires
+    returns-3
+    spots-requires
+    loop2-holds
     (λ c κs. search needs)
-    returns-3)
+    (λ c. search needs)
+    (λ c. search needs)
+    (λ c. search needs)
+    (λ c. search needs)
+    (λ c. search needs)
+    (λ c. search needs)
+    (λ c. search needs)
+    (λ c. search needs)
+    (λ c. search needs)
+    loop2-again
+    (λ c. search needs)
+    (λ c. search needs)
+    (λ c. search needs)
+    (λ c. search needs)
+    (λ c. search needs)
+    (λ c. search needs)
+    (λ c. search needs)
+    loop2-again-2
+    (λ c. search needs)
+    (λ c. search needs)
+    (λ c. search needs)
+    (λ c. search needs)
+    loop2-again-3
+    table-left-requires
+    returns-4)
