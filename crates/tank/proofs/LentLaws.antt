@@ -1,9 +1,8 @@
 -- The edits on lent arrays: what is left is what the edit of the tank leaves that the arrays stand for.
-use Prim.Native.Nat.{ℕ, _+_, _-_, _≤_, _<_, _^_}
+use Prim.Native.Nat.{ℕ, _<_, _^_}
 use mathlib.Core.Path.{_≡_, refl, sym, ap, _∙_, subst}
-use mathlib.Core.Bool.{Bool, true, false}
+use mathlib.Core.Bool.{Bool, true}
 use mathlib.Core.List.{List, []}
-use native.Mathlib.Omega.{arith}
 use lib.Count.{ones}
 use lib.ListN.{length}
 use lib.Pow.{pow-pos}
@@ -17,13 +16,12 @@ use Rattle.runs.specs.Gather.{gather, Renumbered}
 use Rattle.tank.specs.declared.Tank.{Tank}
 use Rattle.tank.specs.declared.lent.Outline.{Outline}
 use Rattle.tank.specs.declared.lent.Left.{Left}
-use Rattle.tank.specs.declared.lent.Tabled.{Tabled}
 use Rattle.tank.specs.declared.lent.Tabled.the-variants.{Same, Carried}
 use Rattle.tank.specs.declared.Inserted.{Inserted}
 use Rattle.tank.specs.Rules.{Edit, inserting, insertedSet}
 use Rattle.tank.specs.State.{runsOf, tableOf, view, Laid, Called}
 use Rattle.tank.specs.Steps.{Trimmed}
-use Rattle.tank.specs.Lending.{tankOn, tableLeft, Fitting, tankMade, tankLeft, keptAs, Leaves, TrimsTo}
+use Rattle.tank.specs.Lending.{tankOn, Fitting, tankMade, keptAs, Leaves, TrimsTo}
 use Rattle.tank.proofs.InsertLaws.{Gives, Kept}
 use Rattle.tank.proofs.TrimLaws.{trim-none, trim-done}
 use Rattle.tank.proofs.Unique.{inside-table}

@@ -13,11 +13,10 @@ use Rattle.styles.specs.declared.Mark.{Mark}
 use Rattle.runs.proofs.SumLaws.{sum-next}
 use Rattle.tank.specs.declared.Tank.{Tank}
 use Rattle.tank.specs.declared.lent.Left.{Left}
-use Rattle.tank.specs.Lending.{tankOn, tankMade, tankLeft}
+use Rattle.tank.specs.Lending.{tankOn, tankMade}
 use Rattle.tank.proofs.Shape.{all-spare}
 use Rattle.tanks.specs.declared.Head.{Head}
 use Rattle.tanks.specs.declared.Tanks.{Tanks}
-use Rattle.tanks.specs.declared.Table.{Table}
 use Rattle.tanks.specs.declared.Spots.{Spots}
 use Rattle.tanks.specs.declared.Parts.{Parts}
 use Rattle.tanks.specs.Pool.{noRun, noHead, noTable, runsIn, runsBelow, tankOf, tankIn, spotsOf}
@@ -111,33 +110,37 @@ own c =
     taken (a .pre .state) (a .pre .sound) t (tank-of c) h (on-state (at-place t h (a .pre .parts)) (λ st hs pool table. tank-of c ≡ tankIn hs pool table t) (taken-is c))
 
 -- and edited
-did : (c : tie.After-perform Inv-loop μ-loop Inv-loop2 μ-loop2) → PerformsOn (editOf (c .before .before .before .before .before .before .before .before .before .before .before .args .call)) (tank-of (c .before .before .before .before .before)) (c .perform .last .0) (c .perform .last .1 .0) (c .perform .result)
+did : (c : tie.After-perform Inv-loop μ-loop Inv-loop2 μ-loop2) → let l = c .before .before .before .before .before in PerformsOn (editOf (l .before .before .before .before .before .before .args .call)) (tank-of l) (c .perform .last .0) (c .perform .last .1 .0) (c .perform .result)
 did c = c .perform .ensures
 
 -- the edit is judged: what is known of the parts is known of every state that they are of
-known : (c : tie.After-edit-verdict Inv-loop μ-loop Inv-loop2 μ-loop2) (n : ℕ) → c .before .before .before .before .perform .result .runs ≡ n → let a = c .before .before .before .before .before .before .before .before .before .before .before .before .before .before .before in
-    (s : Tanks) → PartsOf s (placeOf (a .args .tank)) (a .args .settings) (a .args .t2) (a .args .t3) (a .args .table)
-    → Known (a .args .tank) (editOf (a .args .call)) (tank-of (c .before .before .before .before .before .before .before .before .before)) (c .before .before .before .before .perform .result .number) n (c .edit-verdict .result) (s .settings) (s .heads) (s .pool) (getD (s .tables) (a .args .tank) noTable)
+known : (c : tie.After-edit-verdict Inv-loop μ-loop Inv-loop2 μ-loop2) (n : ℕ) → let w = c .before .before .before .before in let l = w .before .before .before .before .before in let a = l .before .before .before .before .before .before in
+    w .perform .result .runs ≡ n → (s : Tanks) → PartsOf s (placeOf (a .args .tank)) (a .args .settings) (a .args .t2) (a .args .t3) (a .args .table)
+    → Known (a .args .tank) (editOf (a .args .call)) (tank-of l) (w .perform .result .number) n (c .edit-verdict .result) (s .settings) (s .heads) (s .pool) (getD (s .tables) (a .args .tank) noTable)
 known c n g s q =
-    let a = c .before .before .before .before .before .before .before .before .before .before .before .before .before .before .before in
+    let w = c .before .before .before .before in
+    let l = w .before .before .before .before .before in
+    let a = l .before .before .before .before .before .before in
     let t = a .args .tank in
-    on-state (at-place t (c .before .before .before .before .before .before .before .before .before .before .before .before .before .before .if1 .left) q)
-    (Known t (editOf (a .args .call)) (tank-of (c .before .before .before .before .before .before .before .before .before)) (c .before .before .before .before .perform .result .number) n (c .edit-verdict .result))
-    (known-by t (editOf (a .args .call)) (c .before .before .before .before .perform .result .number) (a .args .settings) (a .args .t2) (a .args .t3) (a .args .table) (taken-is (c .before .before .before .before .before .before .before .before .before)) g (c .edit-verdict .ensures))
+    let e = editOf (a .args .call) in
+    on-state (at-place t (l .before .before .before .before .before .if1 .left) q) (Known t e (tank-of l) (w .perform .result .number) n (c .edit-verdict .result))
+    (known-by t e (w .perform .result .number) (a .args .settings) (a .args .t2) (a .args .t3) (a .args .table) (taken-is l) g (c .edit-verdict .ensures))
 
 -- no refusal: the places of the second loop are inside the arrays
-places : (c : tie.After-spots Inv-loop μ-loop Inv-loop2 μ-loop2) → let a = c .before .before .before .before .before .before .before .before .before .before .before .before .before .before .before .before .before .before .before .before in let p = c .before .before .before .before .before .before .before .before .before .perform in let r = c .spots .result in
+places : (c : tie.After-spots Inv-loop μ-loop Inv-loop2 μ-loop2) → let w = c .before .before .before .before .before .before .before .before .before in let a = w .before .before .before .before .before .before .before .before .before .before .before in let p = w .perform in let r = c .spots .result in
     let x = made-of (getD (a .args .t2) (a .args .tank) noHead) (a .args .table .marks) (p .last .0) (p .last .1 .0) (p .result) in
     Inside x (x .runs) (r .at) (r .from) (r .full) (r .count) (r .grows)
 places c =
-    let p = c .before .before .before .before .before .before .before .before .before .perform in
-    let d = did (c .before .before .before .before .before .before .before .before .before) in
-    let a = c .before .before .before .before .before .before .before .before .before .before .before .before .before .before .before .before .before .before .before .before in
-    let t = a .args .tank in
-    let h = c .before .before .before .before .before .before .before .before .before .before .before .before .before .before .before .before .before .before .before .if1 .left in
-    let e = editOf (a .args .call) in
-    let x = tank-of (c .before .before .before .before .before .before .before .before .before .before .before .before .before .before) in
     let v = c .before .before .before .before .before in
+    let w = v .before .before .before .before in
+    let p = w .perform in
+    let d = did w in
+    let l = w .before .before .before .before .before in
+    let a = l .before .before .before .before .before .before in
+    let t = a .args .tank in
+    let h = l .before .before .before .before .before .if1 .left in
+    let e = editOf (a .args .call) in
+    let x = tank-of l in
     let s = a .pre .state in
     let y = tankMade x (p .last .0) (p .last .1 .0) (p .result) in
     let z : v .edit-verdict .result ≡ 0 = omega (arith, c .before .before .before .before .if2 .left) in
@@ -169,37 +172,43 @@ perform-requires c κs = record { sound = own (c .before .before .before .before
 
 edit-verdict-requires : tie.Need-edit-verdict-requires Inv-loop μ-loop Inv-loop2 μ-loop2
 edit-verdict-requires c κs =
-    let a = c .before .before .before .before .before .before .before .before .before .before .before .before .before .before in
-    (c .before .before .before .before .before .before .before .before .before .before .before .before .before .if1 .left, on-parts (a .pre .parts) (λ st hs pool table. Judged st hs) (sound-judged (a .pre .state) (a .pre .sound)))
+    let w = c .before .before .before in
+    let o = w .before .before .before .before .before .before .before .before .before .before in
+    let a = o .before in
+    (o .if1 .left, on-parts (a .pre .parts) (λ st hs pool table. Judged st hs) (sound-judged (a .pre .state) (a .pre .sound)))
 
 returns-2 : tie.Need-returns-2 Inv-loop μ-loop Inv-loop2 μ-loop2
 returns-2 c =
-    let p = c .before .before .before .before .before .before .perform in
-    let d = did (c .before .before .before .before .before .before) in
-    let a = c .before .before .before .before .before .before .before .before .before .before .before .before .before .before .before .before .before in
-    let t = a .args .tank in
-    let h = c .before .before .before .before .before .before .before .before .before .before .before .before .before .before .before .before .if1 .left in
-    let e = editOf (a .args .call) in
-    let x = tank-of (c .before .before .before .before .before .before .before .before .before .before .before) in
     let v = c .before .before in
+    let w = v .before .before .before .before in
+    let p = w .perform in
+    let d = did w in
+    let l = w .before .before .before .before .before in
+    let a = l .before .before .before .before .before .before in
+    let t = a .args .tank in
+    let h = l .before .before .before .before .before .if1 .left in
+    let e = editOf (a .args .call) in
+    let x = tank-of l in
     let r = c .unchanged2 .result in
     λ s ok q. subst (λ (u : ℕ). DoneAt s t e (doneWith s u r)) (sym (place-in t h))
     (parts-refused s t e ok h x (outcome x (p .last .0) (p .last .1 .0) (p .result)) (performed d) (v .edit-verdict .result) (known v _ (d .runs-are) s q) r (c .before .if2 .taken)
     (on-state (at-place t h q) (λ st hs pool table. Unchanged (v .edit-verdict .result) pool table (getD hs t noHead) r) (c .unchanged2 .ensures)))
 
 styles-of-requires : tie.Need-styles-of-requires Inv-loop μ-loop Inv-loop2 μ-loop2
-styles-of-requires c κs = (own (c .before .before .before .before .before .before .before .before .before .before) .sound .formed .laid .few, did (c .before .before .before .before .before) .shown-fits)
+styles-of-requires c κs = let w = c .before .before .before .before .before in (own (w .before .before .before .before .before) .sound .formed .laid .few, did w .shown-fits)
 
 returns-3 : tie.Need-returns-3 Inv-loop μ-loop Inv-loop2 μ-loop2
 returns-3 c =
-    let p = c .before .before .before .before .before .before .before .before .perform in
-    let d = did (c .before .before .before .before .before .before .before .before) in
-    let a = c .before .before .before .before .before .before .before .before .before .before .before .before .before .before .before .before .before .before .before in
-    let t = a .args .tank in
-    let h = c .before .before .before .before .before .before .before .before .before .before .before .before .before .before .before .before .before .before .if1 .left in
-    let e = editOf (a .args .call) in
-    let x = tank-of (c .before .before .before .before .before .before .before .before .before .before .before .before .before) in
     let v = c .before .before .before .before in
+    let w = v .before .before .before .before in
+    let p = w .perform in
+    let d = did w in
+    let l = w .before .before .before .before .before in
+    let a = l .before .before .before .before .before .before in
+    let t = a .args .tank in
+    let h = l .before .before .before .before .before .if1 .left in
+    let e = editOf (a .args .call) in
+    let x = tank-of l in
     let z : v .edit-verdict .result ≡ 0 = omega (arith, c .before .before .before .if2 .left) in
     let left : Parts = record { pool = a .args .t3; head = getD (a .args .t2) t noHead; number = 0; first = p .result .first; table = a .args .table; styles = c .before .before .styles-of .result } in
     λ s ok r. let q = at-place t h r in
@@ -210,7 +219,9 @@ returns-3 c =
 
 spots-requires : tie.Need-spots-requires Inv-loop μ-loop Inv-loop2 μ-loop2
 spots-requires c κs =
-    (c .before .before .before .before .before .before .before .before .before .before .before .before .before .before .before .before .before .before .if1 .left, performed-made (did (c .before .before .before .before .before .before .before .before)) (not-false _ (c .if3 .left)) .called .formed .laid .most, held (c .before .before .before .before .before .before .before .before .before .before .before .before .before .before .before .before .before .before .before))
+    let w = c .before .before .before .before .before .before .before .before in
+    let o = w .before .before .before .before .before .before .before .before .before .before in
+    (o .if1 .left, performed-made (did w) (not-false _ (c .if3 .left)) .called .formed .laid .most, held (o .before))
 
 loop2-holds : tie.Need-loop2-holds Inv-loop μ-loop Inv-loop2 μ-loop2
 unfolding laid
@@ -219,16 +230,18 @@ loop2-holds c = (omega arith, places c, refl)
 loop2-again : tie.Need-loop2-again Inv-loop μ-loop Inv-loop2 μ-loop2
 loop2-again c =
     let l = c .before .before .before .before .before in
-    let q = c .before .before .before .before .before .before .spots .result in
-    let a = c .before .before .before .before .before .before .before .before .before .before .before .before .before .before .before .before .before .before .before .before .before .before .before .before .before .before in
-    let p = c .before .before .before .before .before .before .before .before .before .before .before .before .before .before .before .perform in
+    let g = l .before in
+    let q = g .spots .result in
+    let w = g .before .before .before .before .before .before .before .before .before in
+    let a = w .before .before .before .before .before .before .before .before .before .before .before in
+    let p = w .perform in
     let x = made-of (getD (a .args .t2) (a .args .tank) noHead) (a .args .table .marks) (p .last .0) (p .last .1 .0) (p .result) in
     let pool = a .args .t3 in
     let j = c .before .before .turn in
     let b : l .loop2 .k < q .count = c .before .before .before .if4 .taken in
-    let g : l .loop2 .k + 1 ≤ q .count = omega (arith, b) in
+    let n : l .loop2 .k + 1 ≤ q .count = omega (arith, b) in
     let o : j .result < x .runs = c .before .if5 .taken in (
-      g,
+      n,
       l .loop2 .inv .1,
       pool-step (l .loop2 .pool) pool (q .at) (runFrom pool x (q .from) (q .full)) (q .grows) (q .count) (l .loop2 .k) (j .result) _
           b (j .ensures .0) (l .loop2 .inv .2) (run-own pool x (q .from) (q .full) (j .result) o),
@@ -237,17 +250,19 @@ loop2-again c =
 loop2-again-2 : tie.Need-loop2-again-2 Inv-loop μ-loop Inv-loop2 μ-loop2
 loop2-again-2 c =
     let l = c .before .before .before .before .before .before .before .before .before in
-    let q = c .before .before .before .before .before .before .before .before .before .before .spots .result in
-    let a = c .before .before .before .before .before .before .before .before .before .before .before .before .before .before .before .before .before .before .before .before .before .before .before .before .before .before .before .before .before .before in
-    let p = c .before .before .before .before .before .before .before .before .before .before .before .before .before .before .before .before .before .before .before .perform in
+    let g = l .before in
+    let q = g .spots .result in
+    let w = g .before .before .before .before .before .before .before .before .before in
+    let a = w .before .before .before .before .before .before .before .before .before .before .before in
+    let p = w .perform in
     let x = made-of (getD (a .args .t2) (a .args .tank) noHead) (a .args .table .marks) (p .last .0) (p .last .1 .0) (p .result) in
     let pool = a .args .t3 in
     let j = c .before .before .before .before .before .before .turn in
     let b : l .loop2 .k < q .count = c .before .before .before .before .before .before .before .if4 .taken in
-    let g : l .loop2 .k + 1 ≤ q .count = omega (arith, b) in
+    let n : l .loop2 .k + 1 ≤ q .count = omega (arith, b) in
     let o : x .runs ≤ j .result = c .before .before .before .before .before .if5 .left in
     let f : j .result < q .full = c .before .before .before .if6 .taken in (
-      g,
+      n,
       l .loop2 .inv .1,
       pool-step (l .loop2 .pool) pool (q .at) (runFrom pool x (q .from) (q .full)) (q .grows) (q .count) (l .loop2 .k) (j .result) _
           b (j .ensures .0) (l .loop2 .inv .2)
@@ -258,48 +273,52 @@ loop2-again-2 c =
 loop2-again-3 : tie.Need-loop2-again-3 Inv-loop μ-loop Inv-loop2 μ-loop2
 loop2-again-3 c =
     let l = c .before .before .before .before .before .before .before in
-    let q = c .before .before .before .before .before .before .before .before .spots .result in
-    let a = c .before .before .before .before .before .before .before .before .before .before .before .before .before .before .before .before .before .before .before .before .before .before .before .before .before .before .before .before in
-    let p = c .before .before .before .before .before .before .before .before .before .before .before .before .before .before .before .before .before .perform in
+    let g = l .before in
+    let q = g .spots .result in
+    let w = g .before .before .before .before .before .before .before .before .before in
+    let a = w .before .before .before .before .before .before .before .before .before .before .before in
+    let p = w .perform in
     let x = made-of (getD (a .args .t2) (a .args .tank) noHead) (a .args .table .marks) (p .last .0) (p .last .1 .0) (p .result) in
     let pool = a .args .t3 in
     let j = c .before .before .before .before .turn in
     let b : l .loop2 .k < q .count = c .before .before .before .before .before .if4 .taken in
-    let g : l .loop2 .k + 1 ≤ q .count = omega (arith, b) in
+    let n : l .loop2 .k + 1 ≤ q .count = omega (arith, b) in
     let o : x .runs ≤ j .result = c .before .before .before .if5 .left in
     let f : q .full ≤ j .result = c .before .if6 .left in (
-      g,
+      n,
       l .loop2 .inv .1,
       pool-step (l .loop2 .pool) pool (q .at) (runFrom pool x (q .from) (q .full)) (q .grows) (q .count) (l .loop2 .k) (j .result) _
           b (j .ensures .0) (l .loop2 .inv .2) (run-blank pool x (q .from) (q .full) (j .result) o f),
     )
 
 table-left-requires : tie.Need-table-left-requires Inv-loop μ-loop Inv-loop2 μ-loop2
-table-left-requires c κs = (own (c .before .before .before .before .before .before .before .before .before .before .before .before .before .before .before .before .before) .sound .formed .laid .few, did (c .before .before .before .before .before .before .before .before .before .before .before .before) .table-fits)
+table-left-requires c κs = let w = c .before .before .before .before .before .before .before .before .before .before .before .before in (own (w .before .before .before .before .before) .sound .formed .laid .few, did w .table-fits)
 
 returns-4 : tie.Need-returns-4 Inv-loop μ-loop Inv-loop2 μ-loop2
 unfolding puts
 returns-4 c =
-    let p = c .before .before .before .before .before .before .before .before .before .before .before .before .before .perform in
-    let d = did (c .before .before .before .before .before .before .before .before .before .before .before .before .before) in
-    let a = c .before .before .before .before .before .before .before .before .before .before .before .before .before .before .before .before .before .before .before .before .before .before .before .before in
-    let t = a .args .tank in
-    let h = c .before .before .before .before .before .before .before .before .before .before .before .before .before .before .before .before .before .before .before .before .before .before .before .if1 .left in
-    let e = editOf (a .args .call) in
-    let x = tank-of (c .before .before .before .before .before .before .before .before .before .before .before .before .before .before .before .before .before .before) in
     let v = c .before .before .before .before .before .before .before .before .before in
-    let l = c .before .before .before in
-    let g = c .before .before .before .before in
+    let w = v .before .before .before .before in
+    let p = w .perform in
+    let d = did w in
+    let l = w .before .before .before .before .before in
+    let a = l .before .before .before .before .before .before in
+    let t = a .args .tank in
+    let h = l .before .before .before .before .before .if1 .left in
+    let e = editOf (a .args .call) in
+    let x = tank-of l in
+    let o = c .before .before .before in
+    let g = o .before in
     let q = g .spots .result in
     let y = tankMade x (p .last .0) (p .last .1 .0) (p .result) in
     let z : v .edit-verdict .result ≡ 0 = omega (arith, c .before .before .before .before .before .before .before .before .if2 .left) in
-    let all : l .loop2 .k ≡ q .count = omega (arith, c .before .if4 .left, l .loop2 .inv .0) in
-    let laid-is : l .loop2 .pool ≡ poolWith (a .args .t3) (spotsOf (a .args .t2) t (y .runs)) y =
-    (rw all at (l .loop2 .inv .2)) ∙ part-all (a .args .t3) (q .at) _ (q .grows) (q .count) ∙ ap (λ (w : Spots). poolWith (a .args .t3) w y) (g .spots .ensures) in
-    let left : Parts = record { pool = l .loop2 .pool; head = record { touched = true; length = p .result .length; runs = p .result .runs; marks = p .result .marks }; number = 0; first = p .result .first; table = record { marks = c .table-left .result }; styles = c .before .before .before .before .before .before .before .styles-of .result } in
+    let all : o .loop2 .k ≡ q .count = omega (arith, c .before .if4 .left, o .loop2 .inv .0) in
+    let laid-is : o .loop2 .pool ≡ poolWith (a .args .t3) (spotsOf (a .args .t2) t (y .runs)) y =
+    (rw all at (o .loop2 .inv .2)) ∙ part-all (a .args .t3) (q .at) _ (q .grows) (q .count) ∙ ap (λ (w : Spots). poolWith (a .args .t3) w y) (g .spots .ensures) in
+    let left : Parts = record { pool = o .loop2 .pool; head = record { touched = true; length = p .result .length; runs = p .result .runs; marks = p .result .marks }; number = 0; first = p .result .first; table = record { marks = c .table-left .result }; styles = c .before .before .before .before .before .before .before .styles-of .result } in
     λ s ok r. subst (λ (u : ℕ). DoneAt s t e (doneWith s u left)) (sym (place-in t h))
     (parts-done s t e ok h x (outcomeMade x (p .last .0) (p .last .1 .0) (p .result)) (performed-made d (not-false _ (c .before .before .before .before .before .if3 .left))) (v .edit-verdict .result) (known v (y .runs) refl s r) left z
-    (on-state (at-place t h r) (λ st hs pool table. l .loop2 .pool ≡ poolWith pool (spotsOf hs t (y .runs)) y) laid-is)
+    (on-state (at-place t h r) (λ st hs pool table. o .loop2 .pool ≡ poolWith pool (spotsOf hs t (y .runs)) y) laid-is)
     (ap (λ (ms : List Mark). record { marks = ms }) (c .table-left .ensures)) refl refl (c .before .before .before .before .before .before .before .styles-of .ensures) refl)
 
 pub edit-parts-spec : {M : Type 1} → statement M

@@ -17,41 +17,61 @@ returns c =
 
 returns-2 : tie.Need-returns-2
 returns-2 c =
-    let s = c .before .before .before .before .before .before .before .before in
-    kept-leaves {h = s .args .h} (c .kept2 .ensures) (refused-3 (s .pre .sound) (s .args .who) (sym (c .before .before .before .is-lab .ensures) ∙ c .before .before .if1 .left) (s .args .start) (s .args .end) (c .before .if2 .taken)) refl refl
+    let b = c .before .before in
+    let s = b .before .before .before .before .before .before in
+    kept-leaves {h = s .args .h} (c .kept2 .ensures) (refused-3 (s .pre .sound) (s .args .who) (sym (b .before .is-lab .ensures) ∙ b .if1 .left) (s .args .start) (s .args .end) (c .before .if2 .taken)) refl refl
 
 returns-3 : tie.Need-returns-3
 returns-3 c =
-    let s = c .before .before .before .before .before .before .before .before .before .before in
-    kept-leaves {h = s .args .h} (c .kept3 .ensures) (refused-4 (s .pre .sound) (s .args .who) (sym (c .before .before .before .before .before .is-lab .ensures) ∙ c .before .before .before .before .if1 .left) (s .args .start) (s .args .end) (c .before .before .before .if2 .left) (c .before .if3 .taken)) refl refl
+    let e = c .before .before .before in
+    let b = e .before in
+    let s = b .before .before .before .before .before .before in
+    kept-leaves {h = s .args .h} (c .kept3 .ensures) (refused-4 (s .pre .sound) (s .args .who) (sym (b .before .is-lab .ensures) ∙ b .if1 .left) (s .args .start) (s .args .end) (e .if2 .left) (c .before .if3 .taken)) refl refl
 
 returns-4 : tie.Need-returns-4
 returns-4 c =
-    let s = c .before .before .before .before .before .before .before .before .before .before .before .before in
-    kept-leaves {h = s .args .h} (c .kept4 .ensures) (untouched (s .pre .sound) (s .args .who) (sym (c .before .before .before .before .before .before .before .is-lab .ensures) ∙ c .before .before .before .before .before .before .if1 .left) (s .args .start) (s .args .end) (c .before .before .before .before .before .if2 .left) (c .before .before .before .if3 .left) (not-true _ (c .before .if4 .taken))) refl refl
+    let f = c .before .before .before in
+    let e = f .before .before in
+    let b = e .before in
+    let s = b .before .before .before .before .before .before in
+    kept-leaves {h = s .args .h} (c .kept4 .ensures) (untouched (s .pre .sound) (s .args .who) (sym (b .before .is-lab .ensures) ∙ b .if1 .left) (s .args .start) (s .args .end) (e .if2 .left) (f .if3 .left) (not-true _ (c .before .if4 .taken))) refl refl
 
 delete-requires : tie.Need-delete-requires
 delete-requires c κs =
-    let s = c .before .before .before .before .before .before .before .before .before .before .before .before .before in
-    cut-can (s .args .start) (s .args .end) (can-cut (s .pre .sound) (s .args .who) (sym (c .before .before .before .before .before .before .before .before .is-lab .ensures) ∙ c .before .before .before .before .before .before .before .if1 .left) (s .args .start) (s .args .end) (c .before .before .before .before .before .before .if2 .left) (c .before .before .before .before .if3 .left) (not-false _ (c .before .before .if4 .left))) _ _ (s .pre .olens-514) (s .pre .osets-514)
+    let g = c .before .before in
+    let f = g .before .before in
+    let e = f .before .before in
+    let b = e .before in
+    let s = b .before .before .before .before .before .before in
+    cut-can (s .args .start) (s .args .end) (can-cut (s .pre .sound) (s .args .who) (sym (b .before .is-lab .ensures) ∙ b .if1 .left) (s .args .start) (s .args .end) (e .if2 .left) (f .if3 .left) (not-false _ (g .if4 .left))) _ _ (s .pre .olens-514) (s .pre .osets-514)
 
 trim-requires : tie.Need-trim-requires
 trim-requires c κs =
-    let s = c .before .before .before .before .before .before .before .before .before .before .before .before .before .before .before .before .before .before .before .before in
-    let l = c .before .before .before .before .before .before .delete in
-    let d = cut-done (s .args .start) (s .args .end) (can-cut (s .pre .sound) (s .args .who) (sym (c .before .before .before .before .before .before .before .before .before .before .before .before .before .before .before .is-lab .ensures) ∙ c .before .before .before .before .before .before .before .before .before .before .before .before .before .before .if1 .left) (s .args .start) (s .args .end) (c .before .before .before .before .before .before .before .before .before .before .before .before .before .if2 .left) (c .before .before .before .before .before .before .before .before .before .before .before .if3 .left) (not-false _ (c .before .before .before .before .before .before .before .before .before .if4 .left))) _ _ _ (l .ensures .0) (spare-behind (s .pre .blank) (l .ensures .1)) (l .kept .0 ∙ s .pre .olens-514) (l .kept .1 .0 ∙ s .pre .osets-514) in
+    let w = c .before .before .before .before .before .before in
+    let l = w .delete in
+    let g = w .before .before .before in
+    let f = g .before .before in
+    let e = f .before .before in
+    let b = e .before in
+    let s = b .before .before .before .before .before .before in
+    let d = cut-done (s .args .start) (s .args .end) (can-cut (s .pre .sound) (s .args .who) (sym (b .before .is-lab .ensures) ∙ b .if1 .left) (s .args .start) (s .args .end) (e .if2 .left) (f .if3 .left) (not-false _ (g .if4 .left))) _ _ _ (l .ensures .0) (spare-behind (s .pre .blank) (l .ensures .1)) (l .kept .0 ∙ s .pre .olens-514) (l .kept .1 .0 ∙ s .pre .osets-514) in
     let a = d .0 .most in
     let b = d .0 .sets-514 in
     omega arith
 
 returns-5 : tie.Need-returns-5
 returns-5 c =
-    let s = c .before .before .before .before .before .before .before .before .before .before .before .before .before .before .before .before .before .before .before .before .before .before .before in
-    let l = c .before .before .before .before .before .before .before .before .before .delete in
-    let d = cut-done (s .args .start) (s .args .end) (can-cut (s .pre .sound) (s .args .who) (sym (c .before .before .before .before .before .before .before .before .before .before .before .before .before .before .before .before .before .before .is-lab .ensures) ∙ c .before .before .before .before .before .before .before .before .before .before .before .before .before .before .before .before .before .if1 .left) (s .args .start) (s .args .end) (c .before .before .before .before .before .before .before .before .before .before .before .before .before .before .before .before .if2 .left) (c .before .before .before .before .before .before .before .before .before .before .before .before .before .before .if3 .left) (not-false _ (c .before .before .before .before .before .before .before .before .before .before .before .before .if4 .left))) _ _ _ (l .ensures .0) (spare-behind (s .pre .blank) (l .ensures .1)) (l .kept .0 ∙ s .pre .olens-514) (l .kept .1 .0 ∙ s .pre .osets-514) in
+    let w = c .before .before .before .before .before .before .before .before .before in
+    let l = w .delete in
+    let g = w .before .before .before in
+    let f = g .before .before in
+    let e = f .before .before in
+    let b = e .before in
+    let s = b .before .before .before .before .before .before in
+    let d = cut-done (s .args .start) (s .args .end) (can-cut (s .pre .sound) (s .args .who) (sym (b .before .is-lab .ensures) ∙ b .if1 .left) (s .args .start) (s .args .end) (e .if2 .left) (f .if3 .left) (not-false _ (g .if4 .left))) _ _ _ (l .ensures .0) (spare-behind (s .pre .blank) (l .ensures .1)) (l .kept .0 ∙ s .pre .olens-514) (l .kept .1 .0 ∙ s .pre .osets-514) in
     let q = c .before .before .trim .ensures _ _ (d .0) refl in
     plain-leaves (q .number-is) (q .changed-is)
-    (delete-done (s .pre .sound) (s .args .who) (sym (c .before .before .before .before .before .before .before .before .before .before .before .before .before .before .before .before .before .before .is-lab .ensures) ∙ c .before .before .before .before .before .before .before .before .before .before .before .before .before .before .before .before .before .if1 .left) (s .args .start) (s .args .end) (c .before .before .before .before .before .before .before .before .before .before .before .before .before .before .before .before .if2 .left) (c .before .before .before .before .before .before .before .before .before .before .before .before .before .before .if3 .left) (not-false _ (c .before .before .before .before .before .before .before .before .before .before .before .before .if4 .left)) d (q .trimmed))
+    (delete-done (s .pre .sound) (s .args .who) (sym (b .before .is-lab .ensures) ∙ b .if1 .left) (s .args .start) (s .args .end) (e .if2 .left) (f .if3 .left) (not-false _ (g .if4 .left)) d (q .trimmed))
     (q .table-fits) (q .shown-is) (q .first-is)
 
 pub delete-spec : {M : Type 1} → statement M

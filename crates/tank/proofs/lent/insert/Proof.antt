@@ -14,55 +14,83 @@ use Rattle.tank.proofs.lent.insert.Tie as tie
 returns : tie.Need-returns
 returns c =
     let s = c .before .before .before .before .before .before .before in
-    let g = insert-kept 16 (λ r. insert-16 (s .pre .sound) (s .args .who) (s .args .pos) (s .args .len) {r = r} (sym (c .before .before .is-lab .ensures) ∙ c .before .if1 .taken)) in
-    kept-leaves {h = s .args .h} (c .kept .ensures) (g .0) (g .1) refl
+    let q = insert-kept 16 (λ r. insert-16 (s .pre .sound) (s .args .who) (s .args .pos) (s .args .len) {r = r} (sym (c .before .before .is-lab .ensures) ∙ c .before .if1 .taken)) in
+    kept-leaves {h = s .args .h} (c .kept .ensures) (q .0) (q .1) refl
 
 returns-2 : tie.Need-returns-2
 returns-2 c =
-    let s = c .before .before .before .before .before .before .before .before in
-    let g = insert-kept 3 (λ r. insert-3 (s .pre .sound) (s .args .who) (sym (c .before .before .before .is-lab .ensures) ∙ c .before .before .if1 .left) (s .args .pos) (s .args .len) {r = r} (c .before .if2 .taken)) in
-    kept-leaves {h = s .args .h} (c .kept2 .ensures) (g .0) (g .1) refl
+    let b = c .before .before in
+    let s = b .before .before .before .before .before .before in
+    let q = insert-kept 3 (λ r. insert-3 (s .pre .sound) (s .args .who) (sym (b .before .is-lab .ensures) ∙ b .if1 .left) (s .args .pos) (s .args .len) {r = r} (c .before .if2 .taken)) in
+    kept-leaves {h = s .args .h} (c .kept2 .ensures) (q .0) (q .1) refl
 
 returns-3 : tie.Need-returns-3
 returns-3 c =
-    let s = c .before .before .before .before .before .before .before .before .before .before in
-    let g = insert-kept 4 (λ r. insert-4 (s .pre .sound) (s .args .who) (sym (c .before .before .before .before .before .is-lab .ensures) ∙ c .before .before .before .before .if1 .left) (s .args .pos) (s .args .len) (c .before .before .before .if2 .left) {r = r} (c .before .if3 .taken)) in
-    kept-leaves {h = s .args .h} (c .kept3 .ensures) (g .0) (g .1) refl
+    let e = c .before .before .before in
+    let b = e .before in
+    let s = b .before .before .before .before .before .before in
+    let q = insert-kept 4 (λ r. insert-4 (s .pre .sound) (s .args .who) (sym (b .before .is-lab .ensures) ∙ b .if1 .left) (s .args .pos) (s .args .len) (e .if2 .left) {r = r} (c .before .if3 .taken)) in
+    kept-leaves {h = s .args .h} (c .kept3 .ensures) (q .0) (q .1) refl
 
 returns-4 : tie.Need-returns-4
 returns-4 c =
-    let s = c .before .before .before .before .before .before .before .before .before .before .before .before in
-    let g = insert-kept 0 (λ r. insert-untouched (s .pre .sound) (s .args .who) (sym (c .before .before .before .before .before .before .before .is-lab .ensures) ∙ c .before .before .before .before .before .before .if1 .left) (s .args .pos) (s .args .len) (c .before .before .before .before .before .if2 .left) (c .before .before .before .if3 .left) (not-true _ (c .before .if4 .taken)) {r = r}) in
-    kept-leaves {h = s .args .h} (c .kept4 .ensures) (g .0) (g .1) refl
+    let f = c .before .before .before in
+    let e = f .before .before in
+    let b = e .before in
+    let s = b .before .before .before .before .before .before in
+    let q = insert-kept 0 (λ r. insert-untouched (s .pre .sound) (s .args .who) (sym (b .before .is-lab .ensures) ∙ b .if1 .left) (s .args .pos) (s .args .len) (e .if2 .left) (f .if3 .left) (not-true _ (c .before .if4 .taken)) {r = r}) in
+    kept-leaves {h = s .args .h} (c .kept4 .ensures) (q .0) (q .1) refl
 
 returns-5 : tie.Need-returns-5
 returns-5 c =
-    let s = c .before .before .before .before .before .before .before .before .before .before .before .before .before .before in
-    let g = insert-kept 5 (λ r. insert-5 (s .pre .sound) (s .args .who) (sym (c .before .before .before .before .before .before .before .before .before .is-lab .ensures) ∙ c .before .before .before .before .before .before .before .before .if1 .left) (s .args .pos) (s .args .len) (c .before .before .before .before .before .before .before .if2 .left) (c .before .before .before .before .before .if3 .left) (not-false _ (c .before .before .before .if4 .left)) {r = r} (c .before .if5 .taken)) in
-    kept-leaves {h = s .args .h} (c .kept5 .ensures) (g .0) (g .1) refl
+    let g = c .before .before .before in
+    let f = g .before .before in
+    let e = f .before .before in
+    let b = e .before in
+    let s = b .before .before .before .before .before .before in
+    let q = insert-kept 5 (λ r. insert-5 (s .pre .sound) (s .args .who) (sym (b .before .is-lab .ensures) ∙ b .if1 .left) (s .args .pos) (s .args .len) (e .if2 .left) (f .if3 .left) (not-false _ (g .if4 .left)) {r = r} (c .before .if5 .taken)) in
+    kept-leaves {h = s .args .h} (c .kept5 .ensures) (q .0) (q .1) refl
 
 common-at-requires : tie.Need-common-at-requires
 common-at-requires c κs = can-find (c .before .before .before .before .before .before .before .before .before .before .before .before .before .pre .sound .formed .laid)
 
 shown-bits-requires : tie.Need-shown-bits-requires
 shown-bits-requires c κs =
-    let s = c .before .before .before .before .before .before .before .before .before .before .before .before .before .before in
-    (s .pre .sound .formed .laid .few, set-inside (s .pre .sound) (s .args .who) (sym (c .before .before .before .before .before .before .before .before .before .is-lab .ensures) ∙ c .before .before .before .before .before .before .before .before .if1 .left) (s .args .pos) (s .args .len) (c .before .before .before .before .before .before .before .if2 .left) (c .before .before .before .before .before .if3 .left) (not-false _ (c .before .before .before .if4 .left)) (c .before .if5 .left) _ (c .common-at .ensures))
+    let k = c in
+    let h = k .before in
+    let g = h .before .before in
+    let f = g .before .before in
+    let e = f .before .before in
+    let b = e .before in
+    let s = b .before .before .before .before .before .before in
+    (s .pre .sound .formed .laid .few, set-inside (s .pre .sound) (s .args .who) (sym (b .before .is-lab .ensures) ∙ b .if1 .left) (s .args .pos) (s .args .len) (e .if2 .left) (f .if3 .left) (not-false _ (g .if4 .left)) (h .if5 .left) _ (k .common-at .ensures))
 
 insert-requires : tie.Need-insert-requires
 insert-requires c κs =
-    let s = c .before .before .before .before .before .before .before .before .before .before .before .before .before .before .before .before .before in
-    grow-can (s .args .pos) (s .args .len) _ (can-grow (s .pre .sound) (s .args .who) (sym (c .before .before .before .before .before .before .before .before .before .before .before .before .is-lab .ensures) ∙ c .before .before .before .before .before .before .before .before .before .before .before .if1 .left) (s .args .pos) (s .args .len) (c .before .before .before .before .before .before .before .before .before .before .if2 .left) (c .before .before .before .before .before .before .before .before .if3 .left) (not-false _ (c .before .before .before .before .before .before .if4 .left)) (c .before .before .before .before .if5 .left) _ (c .before .before .before .common-at .ensures)) _ _ (s .pre .olens-514) (s .pre .osets-514)
+    let k = c .before .before .before in
+    let h = k .before in
+    let g = h .before .before in
+    let f = g .before .before in
+    let e = f .before .before in
+    let b = e .before in
+    let s = b .before .before .before .before .before .before in
+    grow-can (s .args .pos) (s .args .len) _ (can-grow (s .pre .sound) (s .args .who) (sym (b .before .is-lab .ensures) ∙ b .if1 .left) (s .args .pos) (s .args .len) (e .if2 .left) (f .if3 .left) (not-false _ (g .if4 .left)) (h .if5 .left) _ (k .common-at .ensures)) _ _ (s .pre .olens-514) (s .pre .osets-514)
 
 returns-6 : tie.Need-returns-6
 returns-6 c =
-    let s = c .before .before .before .before .before .before .before .before .before .before .before .before .before .before .before .before .before .before .before .before .before .before .before in
+    let k = c .before .before .before .before .before .before .before .before .before in
+    let h = k .before in
+    let g = h .before .before in
+    let f = g .before .before in
+    let e = f .before .before in
+    let b = e .before in
+    let s = b .before .before .before .before .before .before in
     let l = c .before .before .before .before .before .insert in
-    let h = c .before .before .before .before .before .before .before .before .shown-bits .ensures in
-    let g =
-    insert-done (s .pre .sound) (s .args .who) (sym (c .before .before .before .before .before .before .before .before .before .before .before .before .before .before .before .before .before .before .is-lab .ensures) ∙ c .before .before .before .before .before .before .before .before .before .before .before .before .before .before .before .before .before .if1 .left) (s .args .pos) (s .args .len) (c .before .before .before .before .before .before .before .before .before .before .before .before .before .before .before .before .if2 .left) (c .before .before .before .before .before .before .before .before .before .before .before .before .before .before .if3 .left) (not-false _ (c .before .before .before .before .before .before .before .before .before .before .before .before .if4 .left)) (c .before .before .before .before .before .before .before .before .before .before .if5 .left) _ (c .before .before .before .before .before .before .before .before .before .common-at .ensures)
-    (ap stylesOf (h .1)) (grow-done (s .args .pos) (s .args .len) _ (can-grow (s .pre .sound) (s .args .who) (sym (c .before .before .before .before .before .before .before .before .before .before .before .before .before .before .before .before .before .before .is-lab .ensures) ∙ c .before .before .before .before .before .before .before .before .before .before .before .before .before .before .before .before .before .if1 .left) (s .args .pos) (s .args .len) (c .before .before .before .before .before .before .before .before .before .before .before .before .before .before .before .before .if2 .left) (c .before .before .before .before .before .before .before .before .before .before .before .before .before .before .if3 .left) (not-false _ (c .before .before .before .before .before .before .before .before .before .before .before .before .if4 .left)) (c .before .before .before .before .before .before .before .before .before .before .if5 .left) _ (c .before .before .before .before .before .before .before .before .before .common-at .ensures)) _ _ _ (l .ensures .0) (spare-behind (s .pre .blank) (l .ensures .1)) (l .kept .0 ∙ s .pre .olens-514) (l .kept .1 .0 ∙ s .pre .osets-514)) in
-    made-leaves refl refl (g .0) tt (h .0) (g .1) refl
+    let a = c .before .before .before .before .before .before .before .before .shown-bits .ensures in
+    let q =
+    insert-done (s .pre .sound) (s .args .who) (sym (b .before .is-lab .ensures) ∙ b .if1 .left) (s .args .pos) (s .args .len) (e .if2 .left) (f .if3 .left) (not-false _ (g .if4 .left)) (h .if5 .left) _ (k .common-at .ensures)
+    (ap stylesOf (a .1)) (grow-done (s .args .pos) (s .args .len) _ (can-grow (s .pre .sound) (s .args .who) (sym (b .before .is-lab .ensures) ∙ b .if1 .left) (s .args .pos) (s .args .len) (e .if2 .left) (f .if3 .left) (not-false _ (g .if4 .left)) (h .if5 .left) _ (k .common-at .ensures)) _ _ _ (l .ensures .0) (spare-behind (s .pre .blank) (l .ensures .1)) (l .kept .0 ∙ s .pre .olens-514) (l .kept .1 .0 ∙ s .pre .osets-514)) in
+    made-leaves refl refl (q .0) tt (a .0) (q .1) refl
 
 pub insert-spec : {M : Type 1} → statement M
 insert-spec =

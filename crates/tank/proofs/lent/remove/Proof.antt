@@ -33,53 +33,70 @@ returns c =
 
 returns-2 : tie.Need-returns-2
 returns-2 c =
-    let s = c .before .before .before .before .before .before .before .before .before .before in
-    let g = remove-none (s .pre .sound) (s .args .id) (s .args .last) (c .before .before .before .before .if1 .left) (sym (there-is (c .before .before .before)) ∙ not-true _ (c .before .if2 .taken)) in
-    kept-leaves {h = s .args .h} (c .kept2 .ensures) (g .0) refl (g .1)
+    let p = c .before .before .before in
+    let e = p .before in
+    let s = e .before .before .before .before .before .before in
+    let q = remove-none (s .pre .sound) (s .args .id) (s .args .last) (e .if1 .left) (sym (there-is p) ∙ not-true _ (c .before .if2 .taken)) in
+    kept-leaves {h = s .args .h} (c .kept2 .ensures) (q .0) refl (q .1)
 
 -- the mark is one of 64, so its bit fits
 bit-is : (c : tie.After-with-bit) → c .with-bit .result ≡ withBit (c .before .before .before .placed .result .at) 0
 bit-is c =
-    let s = c .before .before .before .before .before .before .before .before .before .before in
-    let p = c .before .before .before in
+    let g = c .before in
+    let p = g .before .before in
+    let e = p .before in
+    let s = e .before .before .before .before .before .before in
     let few = s .pre .sound .formed .laid .few in
     c .with-bit .ensures
-    ∙ with-bit-fits (p .placed .result .at) 0 (omega (arith, place-inside (s .pre .sound) (s .args .id) (s .args .last) (c .before .before .before .before .if1 .left) _ (at-is p) (sym (there-is p) ∙ not-false _ (c .before .if2 .left)))) (omega arith)
+    ∙ with-bit-fits (p .placed .result .at) 0 (omega (arith, place-inside (s .pre .sound) (s .args .id) (s .args .last) (e .if1 .left) _ (at-is p) (sym (there-is p) ∙ not-false _ (g .if2 .left)))) (omega arith)
 
 back-requires : tie.Need-back-requires
 back-requires c κs =
-    let s = c .before .before .before .before .before .before .before .before .before .before in
-    let p = c .before .before .before in
-    can-scan (s .pre .sound) (s .args .id) (s .args .last) (c .before .before .before .before .if1 .left) _ (at-is p) (sym (there-is p) ∙ not-false _ (c .before .if2 .left))
+    let g = c .before in
+    let p = g .before .before in
+    let e = p .before in
+    let s = e .before .before .before .before .before .before in
+    can-scan (s .pre .sound) (s .args .id) (s .args .last) (e .if1 .left) _ (at-is p) (sym (there-is p) ∙ not-false _ (g .if2 .left))
 
 alter-requires : tie.Need-alter-requires
 alter-requires c κs =
-    let s = c .before .before .before .before .before .before .before .before .before .before .before .before .before in
-    let p = c .before .before .before .before .before .before in
-    let w = c .before .before .before in
-    rw (bit-is w) (alter-can (can-strip (s .pre .sound) (s .args .id) (s .args .last) (c .before .before .before .before .before .before .before .if1 .left) _ (at-is p) (sym (there-is p) ∙ not-false _ (c .before .before .before .before .if2 .left)) _ (rw (bit-is w) at (c .before .before .back .ensures)) .range) (changing 0 (withBit (p .placed .result .at) 0)) _ _ (s .pre .olens-514) (s .pre .osets-514))
+    let k = c .before .before in
+    let w = k .before in
+    let g = w .before in
+    let p = g .before .before in
+    let e = p .before in
+    let s = e .before .before .before .before .before .before in
+    rw (bit-is w) (alter-can (can-strip (s .pre .sound) (s .args .id) (s .args .last) (e .if1 .left) _ (at-is p) (sym (there-is p) ∙ not-false _ (g .if2 .left)) _ (rw (bit-is w) at (k .back .ensures)) .range) (changing 0 (withBit (p .placed .result .at) 0)) _ _ (s .pre .olens-514) (s .pre .osets-514))
 
 trim-requires : tie.Need-trim-requires
 trim-requires c κs =
-    let s = c .before .before .before .before .before .before .before .before .before .before .before .before .before .before .before .before .before .before .before in
-    let p = c .before .before .before .before .before .before .before .before .before .before .before .before in
-    let w = c .before .before .before .before .before .before .before .before .before in
-    let l = c .before .before .before .before .before .alter in
-    let d = strip-done _ _ _ (can-strip (s .pre .sound) (s .args .id) (s .args .last) (c .before .before .before .before .before .before .before .before .before .before .before .before .before .if1 .left) _ (at-is p) (sym (there-is p) ∙ not-false _ (c .before .before .before .before .before .before .before .before .before .before .if2 .left)) _ (rw (bit-is w) at (c .before .before .before .before .before .before .before .before .back .ensures))) _ _ _ (rw (bit-is w) at (l .ensures .0)) (spare-behind (s .pre .blank) (l .ensures .1)) (l .kept .0 ∙ s .pre .olens-514) (l .kept .1 .0 ∙ s .pre .osets-514) in
+    let y = c .before .before .before .before .before in
+    let l = y .alter in
+    let k = y .before .before .before in
+    let w = k .before in
+    let g = w .before in
+    let p = g .before .before in
+    let e = p .before in
+    let s = e .before .before .before .before .before .before in
+    let d = strip-done _ _ _ (can-strip (s .pre .sound) (s .args .id) (s .args .last) (e .if1 .left) _ (at-is p) (sym (there-is p) ∙ not-false _ (g .if2 .left)) _ (rw (bit-is w) at (k .back .ensures))) _ _ _ (rw (bit-is w) at (l .ensures .0)) (spare-behind (s .pre .blank) (l .ensures .1)) (l .kept .0 ∙ s .pre .olens-514) (l .kept .1 .0 ∙ s .pre .osets-514) in
     let a = d .0 .most in
     let b = d .0 .sets-514 in
     omega arith
 
 returns-3 : tie.Need-returns-3
 returns-3 c =
-    let s = c .before .before .before .before .before .before .before .before .before .before .before .before .before .before .before .before .before .before .before .before .before .before in
-    let p = c .before .before .before .before .before .before .before .before .before .before .before .before .before .before .before in
-    let w = c .before .before .before .before .before .before .before .before .before .before .before .before in
-    let l = c .before .before .before .before .before .before .before .before .alter in
-    let d = strip-done _ _ _ (can-strip (s .pre .sound) (s .args .id) (s .args .last) (c .before .before .before .before .before .before .before .before .before .before .before .before .before .before .before .before .if1 .left) _ (at-is p) (sym (there-is p) ∙ not-false _ (c .before .before .before .before .before .before .before .before .before .before .before .before .before .if2 .left)) _ (rw (bit-is w) at (c .before .before .before .before .before .before .before .before .before .before .before .back .ensures))) _ _ _ (rw (bit-is w) at (l .ensures .0)) (spare-behind (s .pre .blank) (l .ensures .1)) (l .kept .0 ∙ s .pre .olens-514) (l .kept .1 .0 ∙ s .pre .osets-514) in
-    let q = c .before .before .trim .ensures _ _ (d .0) (still-touched (s .pre .sound) (s .args .id) (s .args .last) (c .before .before .before .before .before .before .before .before .before .before .before .before .before .before .before .before .if1 .left) _ (at-is p) (sym (there-is p) ∙ not-false _ (c .before .before .before .before .before .before .before .before .before .before .before .before .before .if2 .left)) _ (rw (bit-is w) at (c .before .before .before .before .before .before .before .before .before .before .before .back .ensures)) d) in
-    let g = remove-done (s .pre .sound) (s .args .id) (s .args .last) (c .before .before .before .before .before .before .before .before .before .before .before .before .before .before .before .before .if1 .left) _ (at-is p) (sym (there-is p) ∙ not-false _ (c .before .before .before .before .before .before .before .before .before .before .before .before .before .if2 .left)) _ (rw (bit-is w) at (c .before .before .before .before .before .before .before .before .before .before .before .back .ensures)) d (q .trimmed) in
-    plain-leaves (q .number-is) (q .changed-is) (g .0) (q .table-fits) (q .shown-is) (q .first-is ∙ g .1)
+    let y = c .before .before .before .before .before .before .before .before in
+    let l = y .alter in
+    let k = y .before .before .before in
+    let w = k .before in
+    let g = w .before in
+    let p = g .before .before in
+    let e = p .before in
+    let s = e .before .before .before .before .before .before in
+    let d = strip-done _ _ _ (can-strip (s .pre .sound) (s .args .id) (s .args .last) (e .if1 .left) _ (at-is p) (sym (there-is p) ∙ not-false _ (g .if2 .left)) _ (rw (bit-is w) at (k .back .ensures))) _ _ _ (rw (bit-is w) at (l .ensures .0)) (spare-behind (s .pre .blank) (l .ensures .1)) (l .kept .0 ∙ s .pre .olens-514) (l .kept .1 .0 ∙ s .pre .osets-514) in
+    let q = c .before .before .trim .ensures _ _ (d .0) (still-touched (s .pre .sound) (s .args .id) (s .args .last) (e .if1 .left) _ (at-is p) (sym (there-is p) ∙ not-false _ (g .if2 .left)) _ (rw (bit-is w) at (k .back .ensures)) d) in
+    let made = remove-done (s .pre .sound) (s .args .id) (s .args .last) (e .if1 .left) _ (at-is p) (sym (there-is p) ∙ not-false _ (g .if2 .left)) _ (rw (bit-is w) at (k .back .ensures)) d (q .trimmed) in
+    plain-leaves (q .number-is) (q .changed-is) (made .0) (q .table-fits) (q .shown-is) (q .first-is ∙ made .1)
 
 pub remove-spec : {M : Type 1} → statement M
 remove-spec =
