@@ -1,0 +1,4 @@
+pub mod Lowest
+pub mod Drawn
+pub mod Theorems
+pub mod Tests
