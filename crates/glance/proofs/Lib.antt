@@ -1,0 +1,4 @@
+pub mod Laws
+pub mod Ends
+pub mod Theorems
+pub mod Tests

@@ -1,0 +1,9 @@
+pub mod ScaleLaws
+pub mod Turns
+pub mod LaneLaws
+pub mod LaneTheorems
+pub mod HigherLaws
+pub mod Choices
+pub mod Listing
+pub mod BandLaws
+pub mod Tests
