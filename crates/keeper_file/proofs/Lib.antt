@@ -1,3 +1,5 @@
+pub mod Fields
 pub mod Filing
+pub mod Holds
 pub mod Kept
 pub mod Once

@@ -7,13 +7,18 @@ use lib.ListN.{length}
 use Rattle.text.specs.Bytes.{bytes, sameOf}
 use Rattle.text_lines.specs.Lines.{Got, bad, got, then, numberLine, numberText}
 use Rattle.script.specs.Lines.{countedOf}
-use Rattle.lists.specs.Lists.{listRefusal}
+use Rattle.runs.specs.Stretches.{inFront}
+use Rattle.lists.specs.Lists.{listRefusal, unlessRefused}
 use Rattle.tanks.specs.declared.Tanks.{Tanks}
 use Rattle.tanks.specs.House.{House}
 use Rattle.tanks.specs.Pool.{Sound, meaning}
 use Rattle.saved.specs.Saying.{Said, newest, saying, houseIn}
 use Rattle.saved.specs.Writes.{written}
+use Rattle.log.specs.declared.Took.{Took}
+use Rattle.log.specs.Groups.{TakesGroups}
 use Rattle.keeper_file.specs.declared.Back.{Back}
+use Rattle.keeper_file.specs.declared.Fed.{Fed}
+use Rattle.keeper_file.specs.declared.Renewed.{Renewed}
 
 -- how the first line begins
 abbrev pub placeName : List ℕ
@@ -97,3 +102,21 @@ furtherBy place more = min (2 ^ 64 - 1) (place + more)
 -- a file is written where its text is another than the one that is kept
 abbrev pub differs : List ℕ → List ℕ → Bool
 differs kept next = not (sameOf kept next)
+
+-- ---- What is written, and when
+-- the file of a place and a house is put to the front of a buffer, or nothing where that is too short (11), and it is to be written where it
+-- differs from the text that is kept
+pub record Renews (place : ℕ) (h : House) (kept : List ℕ) (buffer : List ℕ) (r : Renewed) (out : List ℕ) : Type 0 where
+  pub number-is : r .number ≡ fileNumber (length buffer) place h
+  pub count-is : r .count ≡ length (unlessRefused (r .number) (fileOf place h))
+  pub text : out ≡ inFront (unlessRefused (r .number) (fileOf place h)) buffer
+  pub inside : r .count ≤ length buffer
+  pub again : r .number ≡ 0 → FiledAgain place h
+  pub changed : r .number ≡ 0 → r .changed ≡ differs kept (fileOf place h)
+
+-- after a read of a log at a place: the whole groups at the front of what was read are taken, and what is to be written is the file of the place
+-- behind the last of them and of the tanks that they leave
+pub record Reads (s : Tanks) (place : ℕ) (bytes kept buffer : List ℕ) (r : Fed) (out : List ℕ) : Type 0 where
+  pub groups : TakesGroups s bytes (r .took)
+  pub place-is : r .place ≡ furtherBy place (r .took .at)
+  pub renewed : Renews (r .place) (meaning (r .took .tanks)) kept buffer (r .file) out

@@ -1,4 +1,7 @@
 // The keeper's file: up to which byte a log was read and the tanks as they were then, as one text, and back.
+mod group; // group.rt: what a group of a log says of itself
+mod holding; // holding.rt: what is held of a log as it arrives
+
 ghost use mathlib.Core.Path.{_≡_};
 ghost use mathlib.Core.List.{_++_};
 ghost use Prim.Native.Nat.{_≤_};
@@ -7,8 +10,11 @@ ghost use Rattle.script.specs.Lines.{countedOf};
 ghost use Rattle.runs.specs.Stretches.{inFront};
 ghost use Rattle.lists.specs.Lists.{filledBeside, unlessRefused};
 ghost use Rattle.tanks.specs.Pool.{Sound, meaning};
-ghost use Rattle.keeper_file.specs.File.{placeText, fileOf, roomNumber, fileNumber, furtherBy, differs, FiledAgain, ReadsBack};
+ghost use Rattle.keeper_file.specs.File.{placeText, fileOf, roomNumber, fileNumber, furtherBy, differs, FiledAgain, ReadsBack, Renews, Reads};
+pub use group::field;
+pub use holding::hold;
 use lists::Listed;
+use log::Took;
 use tanks::Tanks;
 use text_lines::Taken as Line;
 
@@ -21,6 +27,20 @@ pub struct Back {
     pub line: u64,
     pub place: u64,
     pub tanks: Tanks,
+}
+
+// What became of a file's text: 0 or 11, how many bytes it has, and whether it is another than the one that is kept.
+pub struct Renewed {
+    pub number: u64,
+    pub count: usize,
+    pub changed: bool,
+}
+
+// What came of a read: what was taken of it, up to where the log has been read then, and the file's text.
+pub struct Fed {
+    pub took: Took,
+    pub place: u64,
+    pub file: Renewed,
 }
 
 // Room for the longest saved text.
@@ -125,11 +145,41 @@ pub fn further(place: u64, more: usize) -> u64
 }
 
 // Whether the file is to be written: where its text is another than the one that is kept.
-pub fn changed(kept: &[u8], next: &[u8]) -> bool
+fn changed(kept: &[u8], next: &[u8]) -> bool
     ensures { λ r. ⌜ r ≡ differs (now (kept .entry)) (now (next .entry)) ⌝ }
 {
     if text::same(kept, next) {
         return false;
     }
     true
+}
+
+// The file of a place and some tanks in the front of `next`, and whether it is to be written, since it is another than the one that is kept.
+pub fn renew(s: Tanks, place: u64, kept: &[u8], next: &mut [u8]) -> Renewed
+    requires { ⌜ Sound s ⌝ }
+    ensures { λ r. ⌜ Renews place (meaning s) (now (kept .entry)) (now (next .entry)) r (now (next .exit)) ⌝ }
+{
+    let w = write(s, place, next);
+    let n = w.count;
+    Renewed {
+        number: w.number,
+        count: n,
+        changed: changed(kept, &next[..n]),
+    }
+}
+
+// One read of a log from the place on at which it was left: what is kept of it afterwards. The place and the tanks move together, or not at all.
+pub fn after_read(s: Tanks, place: u64, bytes: &[u8], kept: &[u8], next: &mut [u8]) -> Fed
+    requires { ⌜ Sound s ⌝ }
+    ensures { λ r. ⌜ Reads s place (now (bytes .entry)) (now (kept .entry)) (now (next .entry)) r (now (next .exit)) ⌝ }
+{
+    let t = log::take_groups(s, bytes);
+    let tanks = t.tanks;
+    let to = further(place, t.at);
+    let file = renew(tanks, to, kept, next);
+    Fed {
+        took: t,
+        place: to,
+        file: file,
+    }
 }
