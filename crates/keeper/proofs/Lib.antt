@@ -1,0 +1,2 @@
+-- The laws that the keeper's proofs share.
+pub mod Counted

@@ -1,0 +1,200 @@
+// STATE: read from its file, and written where it changed.
+ghost use mathlib.Core.Path.{_≡_};
+ghost use Prim.Native.Nat.{_≤_};
+ghost use lib.ListN.{length};
+ghost use Rattle.tanks.specs.Pool.{Sound};
+use super::files::read_whole;
+use super::files::replaced;
+use super::files::within;
+use super::words::complain_of;
+use super::words::refused_at;
+use keeper_file::Renewed;
+use log::Stop;
+use tanks::Setting;
+use tanks::Tanks;
+
+// What a file says, and how long its text is.
+pub struct Kept {
+    pub good: bool,
+    pub place: u64,
+    pub size: usize,
+    pub tanks: Tanks,
+}
+
+// Whether all went well, and how long the text is that is kept now.
+pub struct Saving {
+    pub good: bool,
+    pub size: usize,
+}
+
+// Whether all went well, and what came of a read: up to where the log has been read, how many bytes, lines and edits were taken, and where it
+// stopped.
+pub struct Feeding {
+    pub good: bool,
+    pub place: u64,
+    pub at: usize,
+    pub lines: u64,
+    pub edits: u64,
+    pub stop: Stop,
+}
+
+// Eight tanks, for where there are none yet.
+pub fn blank() -> Tanks
+    ensures { λ r. ⌜ Sound r ⌝ }
+{
+    let o = tanks::open([Setting { share: 1, limit: 1 }; 8]);
+    let t = o.tanks;
+    t
+}
+
+fn told(path: &[u8], text: &[u8]) -> Kept
+    ensures { λ r. ⌜ Sound (r .tanks) ⌝ }
+{
+    let b = keeper_file::read_back(blank(), text);
+    let t = b.tanks;
+    if 0 < b.number {
+        refused_at(path, b.line, b.number);
+    }
+    Kept {
+        good: b.number == 0,
+        place: b.place,
+        size: text.len(),
+        tanks: t,
+    }
+}
+
+fn untold() -> Kept
+    ensures { λ r. ⌜ Sound (r .tanks) ⌝ }
+{
+    let t = blank();
+    Kept {
+        good: false,
+        place: 0,
+        size: 0,
+        tanks: t,
+    }
+}
+
+// Reads STATE whole; what is wrong with it is said.
+pub fn load(path: &[u8], text: &mut [u8]) -> Kept
+    ensures { λ r. ⌜ Sound (r .tanks) ⌝ }
+{
+    let w = read_whole(path, text);
+    let n = within(w.size, text);
+    if w.good {
+        return told(path, &text[..n]);
+    }
+    untold()
+}
+
+// What is kept with other tanks.
+pub fn keeping(k: Kept, tanks: Tanks) -> Kept
+    ensures { λ r. ⌜ r .tanks ≡ tanks ⌝ }
+{
+    Kept {
+        good: k.good,
+        place: k.place,
+        size: k.size,
+        tanks: tanks,
+    }
+}
+
+// What is kept, as it is read on from: from the start of a new log.
+pub fn from_place(k: Kept, afresh: bool) -> Kept
+    ensures { λ r. ⌜ r .tanks ≡ k .tanks ⌝ }
+{
+    let tanks = k.tanks;
+    if afresh {
+        return Kept {
+            good: k.good,
+            place: 0,
+            size: k.size,
+            tanks: tanks,
+        };
+    }
+    k
+}
+
+// And with a text of another length.
+pub fn sized(k: Kept, size: usize) -> Kept
+    ensures { λ r. ⌜ r .tanks ≡ k .tanks ⌝ }
+{
+    let tanks = k.tanks;
+    Kept {
+        good: k.good,
+        place: k.place,
+        size: size,
+        tanks: tanks,
+    }
+}
+
+fn not_saved() -> Saving {
+    Saving {
+        good: false,
+        size: 0,
+    }
+}
+
+// Writes the text that STATE is to have, where it is another than the one that is kept, which it then replaces in `kept` too.
+pub fn written(
+    path: &[u8],
+    r: Renewed,
+    next: &[u8],
+    kept: &mut [u8],
+    size: usize,
+    sync: bool,
+) -> Saving
+    requires { ⌜ length (now next) ≤ length (now kept) ⌝ }
+{
+    if 0 < r.number {
+        complain_of(path, b" would be longer than any");
+        return not_saved();
+    }
+    if r.changed {
+        let n = within(r.count, next);
+        if replaced(path, &next[..n], sync) {
+            text::put(kept, 0, &next[..n]);
+            return Saving {
+                good: true,
+                size: n,
+            };
+        }
+        return not_saved();
+    }
+    Saving {
+        good: true,
+        size: size,
+    }
+}
+
+// Writes STATE, where what it is to say is something else than it says.
+pub fn save(path: &[u8], s: Tanks, place: u64, kept: &mut [u8], size: usize, sync: bool) -> Saving
+    requires { ⌜ (Sound s) × (131072 ≤ length (now kept)) ⌝ }
+{
+    let mut next = clerk::body_room();
+    let k = within(size, kept);
+    let r = keeper_file::renew(s, place, &kept[..k], &mut next);
+    written(path, r, &next, kept, size, sync)
+}
+
+// Takes the whole groups of one read of the log, and writes STATE as they leave it. Nothing is said of them before that.
+pub fn fed(path: &[u8], k: Kept, bytes: &[u8], kept: &mut [u8], sync: bool) -> Feeding
+    requires { ⌜ (Sound (k .tanks)) × (131072 ≤ length (now kept)) ⌝ }
+{
+    let mut next = clerk::body_room();
+    let s = k.tanks;
+    let n = within(k.size, kept);
+    let f = keeper_file::after_read(s, k.place, bytes, &kept[..n], &mut next);
+    let file = f.file;
+    let w = written(path, file, &next, kept, k.size, sync);
+    let t = f.took;
+    let stop = t.stop;
+    Feeding {
+        good: w.good,
+        place: f.place,
+        at: t.at,
+        lines: t.lines,
+        edits: t.edits,
+        stop: stop,
+    }
+}
