@@ -8,3 +8,5 @@ pub mod Painting
 pub mod Performing
 pub mod Edited
 pub mod Looked
+pub mod Full
+pub mod Answered
