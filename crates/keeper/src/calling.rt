@@ -1,12 +1,15 @@
 // A script of calls on the kept tanks: what a call changed is on disk before its answer is written.
 ghost use mathlib.Core.Path.{_≡_};
+ghost use mathlib.Core.Bool.{true, false};
 ghost use Prim.Native.Nat.{_≤_, _<_};
 ghost use lib.ListN.{length};
-ghost use Rattle.tanks.specs.Pool.{Sound};
+ghost use Rattle.tanks.specs.Pool.{Sound, meaning};
 ghost use Rattle.script.specs.Grammar.{mostBody};
 ghost use Rattle.script.specs.Bodies.{Fits};
 ghost use Rattle.answers.specs.Waiting.{pieceRoom};
 ghost use Rattle.clerk.specs.Desk.{Settled};
+ghost use Rattle.keeper_file.specs.Keeping.{Holds};
+ghost use Rattle.keeper.specs.Steps.{InStep, Saves};
 use super::files::within;
 use super::kept::Kept;
 use super::kept::Saving;
@@ -47,7 +50,8 @@ fn handed(out: &[u8], at: usize, over: bool) -> bool {
     false
 }
 
-// The answers of a line, where there are any: they are written when what it changed is kept.
+// The answers of a line, where there are any: they are written when what it changed is kept. A line without one has changed nothing, so that
+// what is kept says the tanks in hand either way.
 fn answers(
     state: &[u8],
     k: Kept,
@@ -58,6 +62,7 @@ fn answers(
     sync: bool,
 ) -> Saving
     requires { ⌜ (Sound (k .tanks)) × (131072 ≤ length (now text)) ⌝ }
+    ensures { λ r. ⌜ ((at ≡ 0 → Holds (k .place) (meaning (k .tanks)) (k .size) (now (text .entry))) → Saves (k .place) (meaning (k .tanks)) r (now (text .exit))) ⌝ }
 {
     if at == 0 {
         return Saving {
@@ -77,7 +82,7 @@ fn answers(
     w
 }
 
-// One line of a script.
+// One line of a script: afterwards what is kept is in step, or the script is over.
 fn line(
     state: &[u8],
     k: Kept,
@@ -88,9 +93,9 @@ fn line(
     out: &mut [u8],
     sync: bool,
 ) -> Lined
-    requires { ⌜ (Sound (k .tanks)) × Settled (stand .side) × Fits (stand .inlet) (now body) ⌝ }
+    requires { ⌜ (InStep k (now text)) × Settled (stand .side) × Fits (stand .inlet) (now body) ⌝ }
     requires { ⌜ (mostBody ≤ length (now body)) × (pieceRoom ≤ length (now out)) × (131072 ≤ length (now text)) ⌝ }
-    ensures { λ r. ⌜ (Sound (r .kept .tanks)) × Settled (r .stand .side) × Fits (r .stand .inlet) (now (body .exit)) ⌝ }
+    ensures { λ r. ⌜ (r .over ≡ false → InStep (r .kept) (now (text .exit))) × Settled (r .stand .side) × Fits (r .stand .inlet) (now (body .exit)) ⌝ }
 {
     let inlet = stand.inlet;
     let side = stand.side;
@@ -118,7 +123,7 @@ fn lines(
     out: &mut [u8],
     sync: bool,
 ) -> Stand
-    requires { ⌜ (Sound (kept .tanks)) × Settled (begun .side) × Fits (begun .inlet) (now body) ⌝ }
+    requires { ⌜ (InStep kept (now text)) × Settled (begun .side) × Fits (begun .inlet) (now body) ⌝ }
     requires { ⌜ (mostBody ≤ length (now body)) × (pieceRoom ≤ length (now out)) × (131072 ≤ length (now text)) ⌝ }
     ensures { λ r. ⌜ Settled (r .side) × Fits (r .inlet) (now (body .exit)) ⌝ }
 {

@@ -1,5 +1,5 @@
 // Files: read whole, and replaced whole.
-ghost use Prim.Native.Nat.{_≤_};
+ghost use Prim.Native.Nat.{_≤_, min};
 ghost use mathlib.Core.Path.{_≡_};
 ghost use lib.ListN.{length};
 ghost use Rattle.io.specs.Counts.{Counts};
@@ -22,6 +22,7 @@ pub fn path_room() -> [u8; 4224]
 // So many bytes, and no more than there are.
 pub fn within(n: usize, bytes: &[u8]) -> usize
     ensures { λ r. ⌜ Counts r (now (bytes .entry)) ⌝ }
+    ensures { λ r. ⌜ r ≡ min n (length (now (bytes .entry))) ⌝ }
 {
     if n < bytes.len() {
         return n;
@@ -191,7 +192,7 @@ fn renamed(name: &[u8], path: &[u8], sync: bool) -> bool {
     true
 }
 
-// A file that was made beside is filled, and takes its place; where that fails it goes, and the old one is as it was.
+// A new file that was made beside is filled, and takes its name; where that fails it goes.
 pub fn finished(fd: i32, name: &[u8], path: &[u8], text: &[u8], sync: bool) -> bool {
     if filled(fd, name, text, sync) {
         return renamed(name, path, sync);
@@ -200,14 +201,69 @@ pub fn finished(fd: i32, name: &[u8], path: &[u8], text: &[u8], sync: bool) -> b
     false
 }
 
-// Replaces a file whole: it is written beside, with .new behind its name, and takes the old one's place when it has reached its device.
-pub fn replaced(path: &[u8], text: &[u8], sync: bool) -> bool {
+// Whether a file still has the bytes that were read of it: another keeper may have replaced it since.
+fn still(path: &[u8], old: &[u8]) -> bool {
+    let mut room = clerk::body_room();
+    let w = read_whole(path, &mut room);
+    let n = within(w.size, &room);
+    if !w.good {
+        return false;
+    }
+    if text::same(&room[..n], old) {
+        return true;
+    }
+    complain_of(
+        path,
+        b" was changed by another keeper while this one worked: it is left so, and nothing of this is kept",
+    );
+    false
+}
+
+// A file that was made beside takes the place of the old one, where that is still the one that was read; else it goes.
+fn exchanged(fd: i32, name: &[u8], path: &[u8], old: &[u8], text: &[u8], sync: bool) -> bool {
+    if filled(fd, name, text, sync) {
+        if still(path, old) {
+            return renamed(name, path, sync);
+        }
+    }
+    os::unlink(name);
+    false
+}
+
+// One of sixteen letters.
+fn letter(b: u8) -> u8 {
+    b % 16 + b'a'
+}
+
+// Sixteen letters by chance, behind the first five of a word. No two runs have the same, so neither writes the file that the other has made.
+fn draw(word: &mut [u8]) -> bool
+    requires { ⌜ length (now word) ≡ 21 ⌝ }
+{
+    let mut chance = [0u8; 16];
+    let drawn = libc::getentropy(&mut chance);
+    let mut i = 0;
+    while i < 16 {
+        word[5 + i] = letter(chance[i]);
+        i += 1;
+    }
+    drawn >= 0
+}
+
+// Replaces a file whole, if it still is what was read of it: the next one is written beside, under a name of its own, and takes the old one's
+// place when it has reached its device.
+pub fn replaced(path: &[u8], old: &[u8], text: &[u8], sync: bool) -> bool {
+    let mut word = [0u8; 21];
+    text::put(&mut word, 0, b".new-");
+    if !draw(&mut word) {
+        failed(path, b": no name can be drawn for the file beside it");
+        return false;
+    }
     let mut name = path_room();
-    let k = put_path(&mut name, path, b".new");
-    let fd = os::open_overwrite(&name[..k]);
+    let k = put_path(&mut name, path, &word);
+    let fd = os::create(&name[..k]);
     if fd < 0 {
         failed(&name[..k], b" can't be made");
         return false;
     }
-    finished(fd, &name[..k], path, text, sync)
+    exchanged(fd, &name[..k], path, old, text, sync)
 }

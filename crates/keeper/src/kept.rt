@@ -1,8 +1,11 @@
 // STATE: read from its file, and written where it changed.
 ghost use mathlib.Core.Path.{_≡_};
+ghost use mathlib.Core.Bool.{true, false};
 ghost use Prim.Native.Nat.{_≤_};
 ghost use lib.ListN.{length};
-ghost use Rattle.tanks.specs.Pool.{Sound};
+ghost use Rattle.tanks.specs.Pool.{Sound, meaning};
+ghost use Rattle.keeper_file.specs.Keeping.{Tells};
+ghost use Rattle.keeper.specs.Steps.{InStep, Saves, Writes, Feeds};
 use super::files::read_whole;
 use super::files::replaced;
 use super::files::within;
@@ -49,6 +52,8 @@ pub fn blank() -> Tanks
 
 fn told(path: &[u8], text: &[u8]) -> Kept
     ensures { λ r. ⌜ Sound (r .tanks) ⌝ }
+    ensures { λ r. ⌜ (r .good ≡ true → Tells (r .place) (meaning (r .tanks)) (now (text .entry))) ⌝ }
+    ensures { λ r. ⌜ r .size ≡ length (now (text .entry)) ⌝ }
 {
     let b = keeper_file::read_back(blank(), text);
     let t = b.tanks;
@@ -64,7 +69,7 @@ fn told(path: &[u8], text: &[u8]) -> Kept
 }
 
 fn untold() -> Kept
-    ensures { λ r. ⌜ Sound (r .tanks) ⌝ }
+    ensures { λ r. ⌜ (Sound (r .tanks)) × (r .good ≡ false) ⌝ }
 {
     let t = blank();
     Kept {
@@ -78,6 +83,7 @@ fn untold() -> Kept
 // Reads STATE whole; what is wrong with it is said.
 pub fn load(path: &[u8], text: &mut [u8]) -> Kept
     ensures { λ r. ⌜ Sound (r .tanks) ⌝ }
+    ensures { λ r. ⌜ (r .good ≡ true → InStep r (now (text .exit))) ⌝ }
 {
     let w = read_whole(path, text);
     let n = within(w.size, text);
@@ -89,12 +95,25 @@ pub fn load(path: &[u8], text: &mut [u8]) -> Kept
 
 // What is kept with other tanks.
 pub fn keeping(k: Kept, tanks: Tanks) -> Kept
-    ensures { λ r. ⌜ r .tanks ≡ tanks ⌝ }
+    ensures { λ r. ⌜ r ≡ record { good = k .good; place = k .place; size = k .size; tanks = tanks } ⌝ }
 {
     Kept {
         good: k.good,
         place: k.place,
         size: k.size,
+        tanks: tanks,
+    }
+}
+
+// What is kept with a text of another length.
+pub fn sized(k: Kept, size: usize) -> Kept
+    ensures { λ r. ⌜ r ≡ record { good = k .good; place = k .place; size = size; tanks = k .tanks } ⌝ }
+{
+    let tanks = k.tanks;
+    Kept {
+        good: k.good,
+        place: k.place,
+        size: size,
         tanks: tanks,
     }
 }
@@ -115,20 +134,9 @@ pub fn from_place(k: Kept, afresh: bool) -> Kept
     k
 }
 
-// And with a text of another length.
-pub fn sized(k: Kept, size: usize) -> Kept
-    ensures { λ r. ⌜ r .tanks ≡ k .tanks ⌝ }
+fn not_saved() -> Saving
+    ensures { λ r. ⌜ r .good ≡ false ⌝ }
 {
-    let tanks = k.tanks;
-    Kept {
-        good: k.good,
-        place: k.place,
-        size: size,
-        tanks: tanks,
-    }
-}
-
-fn not_saved() -> Saving {
     Saving {
         good: false,
         size: 0,
@@ -145,6 +153,7 @@ pub fn written(
     sync: bool,
 ) -> Saving
     requires { ⌜ length (now next) ≤ length (now kept) ⌝ }
+    ensures { λ w. ⌜ Writes r (now (next .entry)) size (now (kept .entry)) w (now (kept .exit)) ⌝ }
 {
     if 0 < r.number {
         complain_of(path, b" would be longer than any");
@@ -152,7 +161,8 @@ pub fn written(
     }
     if r.changed {
         let n = within(r.count, next);
-        if replaced(path, &next[..n], sync) {
+        let k = within(size, kept);
+        if replaced(path, &kept[..k], &next[..n], sync) {
             text::put(kept, 0, &next[..n]);
             return Saving {
                 good: true,
@@ -170,23 +180,25 @@ pub fn written(
 // Writes STATE, where what it is to say is something else than it says.
 pub fn save(path: &[u8], s: Tanks, place: u64, kept: &mut [u8], size: usize, sync: bool) -> Saving
     requires { ⌜ (Sound s) × (131072 ≤ length (now kept)) ⌝ }
+    ensures { λ w. ⌜ Saves place (meaning s) w (now (kept .exit)) ⌝ }
 {
     let mut next = clerk::body_room();
     let k = within(size, kept);
     let r = keeper_file::renew(s, place, &kept[..k], &mut next);
-    written(path, r, &next, kept, size, sync)
+    written(path, r, &next, kept, k, sync)
 }
 
 // Takes the whole groups of one read of the log, and writes STATE as they leave it. Nothing is said of them before that.
 pub fn fed(path: &[u8], k: Kept, bytes: &[u8], kept: &mut [u8], sync: bool) -> Feeding
     requires { ⌜ (Sound (k .tanks)) × (131072 ≤ length (now kept)) ⌝ }
+    ensures { λ r. ⌜ (r .good ≡ true → Feeds k (now (bytes .entry)) r (now (kept .exit))) ⌝ }
 {
     let mut next = clerk::body_room();
     let s = k.tanks;
     let n = within(k.size, kept);
     let f = keeper_file::after_read(s, k.place, bytes, &kept[..n], &mut next);
     let file = f.file;
-    let w = written(path, file, &next, kept, k.size, sync);
+    let w = written(path, file, &next, kept, n, sync);
     let t = f.took;
     let stop = t.stop;
     Feeding {

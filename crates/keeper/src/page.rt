@@ -44,7 +44,7 @@ fn files() {
         b"STATE is one file: the line read=N, up to which byte the log has been read, and the saved text of the tanks. It is replaced\n",
     );
     note(
-        b"whole, by way of STATE.new beside it, so a run that is cut off anywhere leaves the old one or the new one. The place and the\n",
+        b"whole, by way of a file STATE.new-.. beside it, so a run that is cut off anywhere leaves the old one or the new one. The place and the\n",
     );
     note(
         b"tanks are in one file, so every group of the log is applied once. One keeper at a time may change a STATE.\n",

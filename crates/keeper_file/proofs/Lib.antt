@@ -3,3 +3,4 @@ pub mod Filing
 pub mod Holds
 pub mod Kept
 pub mod Once
+pub mod Telling

@@ -1,3 +1,4 @@
 pub mod File
 pub mod Group
 pub mod Holding
+pub mod Keeping

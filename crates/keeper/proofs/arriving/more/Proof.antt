@@ -8,7 +8,7 @@ use Rattle.keeper.proofs.arriving.more.Tie as tie
 
 taken-requires : tie.Need-taken-requires
 taken-requires c κs = (
-  subst (λ (t : Tanks). Sound t) (sym (c .before .before .from-place .ensures)) (c .before .before .before .before .before .load .ensures),
+  subst (λ (t : Tanks). Sound t) (sym (c .before .before .from-place .ensures)) (c .before .before .before .before .before .load .ensures .0),
   search needs,
   search needs,
 )

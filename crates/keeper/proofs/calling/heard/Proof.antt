@@ -6,7 +6,7 @@ use Rattle.keeper.proofs.calling.heard.Tie as tie
 lines-requires : tie.Need-lines-requires
 lines-requires c κs =
     let s = c .before .before .before .before .before .before .before .before .before .before .before .before .pre in
-    ((c .before .before .before .before .before .load .ensures, s .0 .0, s .0 .1), (s .1 .0, s .1 .1, search needs))
+    ((c .before .before .before .before .before .load .ensures .1 (c .before .before .before .if1 .taken), s .0 .0, s .0 .1), (s .1 .0, s .1 .1, search needs))
 
 returns-2 : tie.Need-returns-2
 returns-2 c =

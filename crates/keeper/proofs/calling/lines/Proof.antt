@@ -1,12 +1,12 @@
--- Every line ends behind its start, and each leaves the tanks and what is kept beside them in form.
+-- Every line ends behind its start, and each leaves what is kept in step with the tanks, and what is kept beside them in form.
 use Prim.Native.Nat.{_-_, _≤_}
 use native.Mathlib.Omega.{arith}
 use mathlib.Core.Path.{_≡_, _∙_}
 use lib.ListN.{length}
 use borrow.Author.Needs.{needs}
-use Rattle.tanks.specs.Pool.{Sound}
 use Rattle.script.specs.Bodies.{Fits}
 use Rattle.clerk.specs.Desk.{Settled}
+use Rattle.keeper.specs.Steps.{InStep}
 use Rattle.keeper.proofs.calling.lines.Statement.{statement}
 use Rattle.keeper.proofs.calling.lines.Tie as tie
 
@@ -15,7 +15,7 @@ Inv-loop state bytes text₀ body₀ out₀ sync k₀ stand₀ from₀ text body
     (length text ≡ length text₀)
     × (length body ≡ length body₀)
     × (length out ≡ length out₀)
-    × Sound (k .tanks)
+    × InStep k text
     × Settled (stand .side)
     × Fits (stand .inlet) body
 
@@ -62,7 +62,7 @@ loop-less c = omega (arith, c .before .before .before .before .before .before .b
 loop-again : tie.Need-loop-again Inv-loop μ-loop
 loop-again c =
     let l = c .before .before .before .before .before .before .before .before .before in
-    (text-kept l, body-kept l, out-kept l, l .line .ensures .0, l .line .ensures .1, l .line .ensures .2)
+    (text-kept l, body-kept l, out-kept l, l .line .ensures .0 (c .if1 .left), l .line .ensures .1, l .line .ensures .2)
 
 pub lines-spec : {M : Type 1} → statement M
 lines-spec =

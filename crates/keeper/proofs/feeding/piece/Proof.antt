@@ -8,7 +8,7 @@ use Rattle.keeper.proofs.feeding.piece.Tie as tie
 
 piece-at-requires : tie.Need-piece-at-requires
 piece-at-requires c κs = (
-  subst (λ (t : Tanks). Sound t) (sym (c .before .from-place .ensures)) (c .before .before .before .before .load .ensures),
+  subst (λ (t : Tanks). Sound t) (sym (c .before .from-place .ensures)) (c .before .before .before .before .load .ensures .0),
   search needs,
 )
 
