@@ -1,9 +1,9 @@
 -- The keeper's file: a line that says up to which byte a log has been read, and behind it the saved text of the tanks as they were then.
 use mathlib.Core.Path.{_≡_}
-use mathlib.Core.Bool.{Bool, not}
+use mathlib.Core.Bool.{Bool, not, cond}
 use mathlib.Core.List.{List, [], _∷_, _++_}
 use Prim.Native.Nat.{ℕ, _+_, _-_, _^_, _≤_, min}
-use lib.ListN.{length}
+use lib.ListN.{length, take}
 use Rattle.text.specs.Bytes.{bytes, sameOf}
 use Rattle.text_lines.specs.Lines.{Got, bad, got, then, numberLine, numberText}
 use Rattle.script.specs.Lines.{countedOf}
@@ -120,3 +120,7 @@ pub record Reads (s : Tanks) (place : ℕ) (bytes kept buffer : List ℕ) (r : F
   pub groups : TakesGroups s bytes (r .took)
   pub place-is : r .place ≡ furtherBy place (r .took .at)
   pub renewed : Renews (r .place) (meaning (r .took .tanks)) kept buffer (r .file) out
+
+-- the text that is kept then: the new one where it is to be written, else the one that is kept
+abbrev pub keptThen : Renewed → List ℕ → List ℕ → List ℕ
+keptThen r out kept = cond (r .changed) (take (r .count) out) kept

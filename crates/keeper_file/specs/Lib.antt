@@ -2,3 +2,4 @@ pub mod File
 pub mod Group
 pub mod Holding
 pub mod Keeping
+pub mod Merging

@@ -1,6 +1,7 @@
 // The keeper's file: up to which byte a log was read and the tanks as they were then, as one text, and back.
 mod group; // group.rt: what a group of a log says of itself
 mod holding; // holding.rt: what is held of a log as it arrives
+mod merging; // merging.rt: logs one after another, all or nothing
 
 ghost use mathlib.Core.Path.{_≡_};
 ghost use mathlib.Core.List.{_++_};
@@ -13,7 +14,12 @@ ghost use Rattle.tanks.specs.Pool.{Sound, meaning};
 ghost use Rattle.keeper_file.specs.File.{placeText, fileOf, roomNumber, fileNumber, furtherBy, differs, FiledAgain, ReadsBack, Renews, Reads};
 pub use group::field;
 pub use holding::hold;
+pub use merging::begin_merge;
+pub use merging::next_log;
+pub use merging::pour;
+pub use merging::settle;
 use lists::Listed;
+use log::Log;
 use log::Took;
 use tanks::Tanks;
 use text_lines::Taken as Line;
@@ -41,6 +47,15 @@ pub struct Fed {
     pub took: Took,
     pub place: u64,
     pub file: Renewed,
+}
+
+// Logs one after another as far as they have come: the tanks, the log that is being read, how many logs ended well before it, and how many edits
+// those applied. Where that log stopped, the merge stopped.
+pub struct Merge {
+    pub tanks: Tanks,
+    pub log: Log,
+    pub logs: u64,
+    pub edits: u64,
 }
 
 // Room for the longest saved text.
