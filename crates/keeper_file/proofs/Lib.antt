@@ -1,3 +1,4 @@
+pub mod AllOrNothing
 pub mod Fields
 pub mod Filing
 pub mod Holds
@@ -5,3 +6,5 @@ pub mod Kept
 pub mod Merged
 pub mod Once
 pub mod Telling
+pub mod OnceMore
+pub mod Renewal

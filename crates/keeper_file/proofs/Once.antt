@@ -42,17 +42,17 @@ pub record Once (first second whole : Took) : Type 0 where
   pub stop : SameStop (first .lines) (whole .stop) (second .stop)
 
 -- ---- Two logs that differ in what they have counted
-abbrev Along : ℕ → ℕ → ℕ → Stop → Stop → Type 0
+abbrev pub Along : ℕ → ℕ → ℕ → Stop → Stop → Type 0
 Along k n m Stop.Going Stop.Going = n ≡ furtherBy m k
 Along k n m Stop.Going (Stop.Refused o b) = ⊥
 Along k n m (Stop.Refused l a) Stop.Going = ⊥
 Along k n m (Stop.Refused l a) (Stop.Refused o b) = (l ≡ furtherBy o k) × (a ≡ b)
 
-record Like (k : ℕ) (x y : Course) : Type 0 where
-  house : x .house ≡ y .house
-  held : x .reader .held ≡ y .reader .held
-  call : x .reader .call ≡ y .reader .call
-  along : Along k (x .reader .newlines) (y .reader .newlines) (x .stop) (y .stop)
+pub record Like (k : ℕ) (x y : Course) : Type 0 where
+  pub house : x .house ≡ y .house
+  pub held : x .reader .held ≡ y .reader .held
+  pub call : x .reader .call ≡ y .reader .call
+  pub along : Along k (x .reader .newlines) (y .reader .newlines) (x .stop) (y .stop)
 
 module _ (k : ℕ) where
   counted-further : (n m : ℕ) → n ≡ furtherBy m k → countedOf n ≡ furtherBy (countedOf m) k
@@ -132,7 +132,7 @@ module _ (k : ℕ) where
       let e : z ≡ y = λ i. record { house = l .house i; reader = record { held = l .held i; call = l .call i; newlines = y .reader .newlines }; edits = y .edits; stop = y .stop } in
       subst (λ (w : Course). Like k (afterByte x byte) (afterByte w byte)) e (same-byte (x .house) (x .reader .held) (x .reader .call) (x .reader .newlines) (y .reader .newlines) (x .edits) (y .edits) (x .stop) (y .stop) byte (l .along))
 
-  like-bytes : (x y : Course) (bytes : List ℕ) → Like k x y → Like k (afterBytes x bytes) (afterBytes y bytes)
+  pub like-bytes : (x y : Course) (bytes : List ℕ) → Like k x y → Like k (afterBytes x bytes) (afterBytes y bytes)
   unfolding afterBytes
   like-bytes x y [] l = l
   like-bytes x y (c ∷ cs) l = like-bytes (afterByte x c) (afterByte y c) cs (like-byte x y c l)
@@ -148,13 +148,13 @@ module _ (k : ℕ) where
   on-right n m Stop.Going (Stop.Refused o b) e g = absurd e
   on-right n m (Stop.Refused l a) t e g = let z : _≡_ {A = ℕ} 0 1 = cc g in absurd (omega arith)
 
-  between-left : (x y : Course) → Like k x y → Between y → Between x
+  pub between-left : (x y : Course) → Like k x y → Between y → Between x
   between-left x y l b =
       let e : x .reader .held ≡ [] = l .held ∙ ap (λ (q : State). q .held) (b .reader) in
       let f : x .reader .call ≡ betweenAt 0 .call = l .call ∙ ap (λ (q : State). q .call) (b .reader) in
       record { on = on-left (x .reader .newlines) (y .reader .newlines) (x .stop) (y .stop) (l .along) (b .on); reader = λ i. record { held = e i; call = f i; newlines = x .reader .newlines } }
 
-  between-right : (x y : Course) → Like k x y → Between x → Between y
+  pub between-right : (x y : Course) → Like k x y → Between x → Between y
   between-right x y l b =
       let e : y .reader .held ≡ [] = sym (l .held) ∙ ap (λ (q : State). q .held) (b .reader) in
       let f : y .reader .call ≡ betweenAt 0 .call = sym (l .call) ∙ ap (λ (q : State). q .call) (b .reader) in
@@ -167,7 +167,7 @@ module _ (k : ℕ) where
   same-stop n m (Stop.Refused l a) (Stop.Refused o b) e = e
 
 -- a log that stands between two groups is like one that begins there
-begins : (x : Course) (h : House) → x .house ≡ h → x .reader .newlines < 2 ^ 64 → Between x → Like (x .reader .newlines) x (begun h)
+pub begins : (x : Course) (h : House) → x .house ≡ h → x .reader .newlines < 2 ^ 64 → Between x → Like (x .reader .newlines) x (begun h)
 begins x h e w b =
     record {
       house = e;
