@@ -1,4 +1,5 @@
 pub mod AllOrNothing
+pub mod AnyRuns
 pub mod Fields
 pub mod Filing
 pub mod Holds

@@ -14,13 +14,13 @@ ghost use Rattle.tanks.specs.Pool.{Sound, meaning};
 ghost use Rattle.keeper_file.specs.File.{placeText, fileOf, roomNumber, fileNumber, furtherBy, differs, FiledAgain, ReadsBack, Renews, Reads};
 pub use group::field;
 pub use holding::hold;
+use lists::Listed;
+use log::Log;
+use log::Took;
 pub use merging::begin_merge;
 pub use merging::next_log;
 pub use merging::pour;
 pub use merging::settle;
-use lists::Listed;
-use log::Log;
-use log::Took;
 use tanks::Tanks;
 use text_lines::Taken as Line;
 
