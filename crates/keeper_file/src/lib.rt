@@ -149,7 +149,7 @@ pub fn read_back(s: Tanks, bytes: &[u8]) -> Back
 }
 
 // The place so many bytes further on.
-pub fn further(place: u64, more: usize) -> u64
+fn further(place: u64, more: usize) -> u64
     ensures { λ r. ⌜ r ≡ furtherBy place more ⌝ }
 {
     let n = text::wide(more);
