@@ -1,8 +1,10 @@
 // A log as it arrives on standard input: what is not a whole group yet is held until more comes.
 ghost use mathlib.Core.Path.{_≡_};
-ghost use Prim.Native.Nat.{_≤_};
+ghost use mathlib.Core.Bool.{true, false};
+ghost use Prim.Native.Nat.{_-_, _≤_, min};
 ghost use lib.ListN.{length};
 ghost use Rattle.tanks.specs.Pool.{Sound};
+ghost use Rattle.keeper_file.specs.Holding.{movedToFront};
 use super::feeding::Arrived;
 use super::feeding::endless;
 use super::feeding::less;
@@ -24,6 +26,7 @@ use log::Stop;
 
 fn gone() -> Arrived
     ensures { λ r. ⌜ r .held ≤ 65536 ⌝ }
+    ensures { λ r. ⌜ r .over ≡ true ⌝ }
 {
     Arrived {
         over: true,
@@ -34,6 +37,7 @@ fn gone() -> Arrived
 
 fn least(a: usize, b: usize) -> usize
     ensures { λ r. ⌜ r ≤ b ⌝ }
+    ensures { λ r. ⌜ r ≡ min a b ⌝ }
 {
     if a < b {
         return a;
@@ -41,10 +45,11 @@ fn least(a: usize, b: usize) -> usize
     b
 }
 
-// What is behind the last whole group is held.
+// What is behind the last whole group is held: where reading goes on, it stands in front, whole and in order.
 fn holding(bytes: &mut [u8], at: usize, end: usize, lines: u64) -> Arrived
     requires { ⌜ (at ≤ end) × (end ≤ length (now bytes)) ⌝ }
     ensures { λ r. ⌜ r .held ≤ 65536 ⌝ }
+    ensures { λ r. ⌜ (r .over ≡ false → (r .held ≡ end - at) × (now (bytes .exit) ≡ movedToFront at end (now (bytes .entry)))) ⌝ }
 {
     let held = end - at;
     if held > 65536 {
@@ -59,10 +64,11 @@ fn holding(bytes: &mut [u8], at: usize, end: usize, lines: u64) -> Arrived
     }
 }
 
-// What is said of a read that has been kept.
+// What is said of a read that has been kept; what it did not take is held.
 fn told(state: &[u8], bytes: &mut [u8], end: usize, lines: u64, f: Feeding) -> Arrived
     requires { ⌜ end ≤ length (now bytes) ⌝ }
     ensures { λ r. ⌜ r .held ≤ 65536 ⌝ }
+    ensures { λ r. ⌜ (r .over ≡ false → (r .held ≡ end - min (f .at) end) × (now (bytes .exit) ≡ movedToFront (min (f .at) end) end (now (bytes .entry)))) ⌝ }
 {
     if f.edits > 0 {
         note_read(f.edits, f.place);

@@ -1,111 +1,101 @@
-// Logs one after another from their starts, all or nothing.
+// Logs one after another from their starts, all or nothing: what STATE is to hold after them is the library's to say.
 ghost use mathlib.Core.Path.{_≡_};
 ghost use Prim.Native.Nat.{_≤_};
 ghost use lib.ListN.{length};
-ghost use Rattle.tanks.specs.Pool.{Sound};
-ghost use Rattle.log.specs.Log as logs;
+ghost use Rattle.keeper_file.specs.Merging.{Sound};
 use super::feeding::note_edits;
-use super::feeding::plus;
+use super::files::within;
 use super::kept::load;
-use super::kept::save;
+use super::kept::written;
 use super::words::failed;
 use super::words::note;
 use super::words::refused_at;
 use super::words::tell;
-use log::Log;
+use keeper_file::Merge;
 use log::Stop;
-use tanks::Tanks;
 
-// The tanks and the log after a read: whether reading ends with it, and whether that is since it failed.
+// A merge after a read: whether the log is read to its end with it, and whether it could be.
 struct Poured {
     over: bool,
     good: bool,
-    tanks: Tanks,
-    log: Log,
+    merge: Merge,
 }
 
-// The tanks after a log, how many edits were applied so far, and whether all were.
+// A merge after a log, and whether that was read and accepted.
 struct Merged {
     good: bool,
-    edits: u64,
-    tanks: Tanks,
+    merge: Merge,
 }
 
-fn after(over: bool, good: bool, tanks: Tanks, log: Log) -> Poured
-    requires { ⌜ (Sound tanks) × logs.Sound log ⌝ }
-    ensures { λ r. ⌜ (Sound (r .tanks)) × logs.Sound (r .log) ⌝ }
+fn after(over: bool, good: bool, m: Merge) -> Poured
+    requires { ⌜ Sound m ⌝ }
+    ensures { λ r. ⌜ Sound (r .merge) ⌝ }
 {
     Poured {
         over: over,
         good: good,
-        tanks: tanks,
-        log: log,
+        merge: m,
     }
 }
 
-fn so_far(good: bool, edits: u64, tanks: Tanks) -> Merged
-    requires { ⌜ Sound tanks ⌝ }
-    ensures { λ r. ⌜ Sound (r .tanks) ⌝ }
+fn so_far(good: bool, m: Merge) -> Merged
+    requires { ⌜ Sound m ⌝ }
+    ensures { λ r. ⌜ Sound (r .merge) ⌝ }
 {
     Merged {
         good: good,
-        edits: edits,
-        tanks: tanks,
+        merge: m,
     }
 }
 
-fn taken(s: Tanks, log: Log, bytes: &[u8]) -> Poured
-    requires { ⌜ (Sound s) × logs.Sound log ⌝ }
-    ensures { λ r. ⌜ (Sound (r .tanks)) × logs.Sound (r .log) ⌝ }
+fn taken(m: Merge, bytes: &[u8]) -> Poured
+    requires { ⌜ Sound m ⌝ }
+    ensures { λ r. ⌜ Sound (r .merge) ⌝ }
 {
-    let t = log::take(s, log, bytes);
-    let tanks = t.tanks;
-    let next = t.log;
-    after(false, true, tanks, next)
+    let next = keeper_file::pour(m, bytes);
+    after(false, true, next)
 }
 
 // One read of a log.
-fn pour(fd: i32, path: &[u8], s: Tanks, log: Log) -> Poured
-    requires { ⌜ (Sound s) × logs.Sound log ⌝ }
-    ensures { λ r. ⌜ (Sound (r .tanks)) × logs.Sound (r .log) ⌝ }
+fn pour(fd: i32, path: &[u8], m: Merge) -> Poured
+    requires { ⌜ Sound m ⌝ }
+    ensures { λ r. ⌜ Sound (r .merge) ⌝ }
 {
     let mut buf = io::large_buffer();
     let got = libc::read(fd, &mut buf);
     if got < 0 {
         failed(path, b" can't be read");
-        return after(true, false, s, log);
+        return after(true, false, m);
     }
     let n = io::count(got, &buf);
     if n == 0 {
-        return after(true, true, s, log);
+        return after(true, true, m);
     }
-    taken(s, log, &buf[..n])
+    taken(m, &buf[..n])
 }
 
 // A log to its end: the count of turns is one that no run uses up.
-fn all_of(fd: i32, path: &[u8], s: Tanks) -> Poured
-    requires { ⌜ Sound s ⌝ }
-    ensures { λ r. ⌜ (Sound (r .tanks)) × logs.Sound (r .log) ⌝ }
+fn all_of(fd: i32, path: &[u8], m: Merge) -> Poured
+    requires { ⌜ Sound m ⌝ }
+    ensures { λ r. ⌜ Sound (r .merge) ⌝ }
 {
-    let mut tanks = s;
-    let mut log = log::begin();
+    let mut merge = m;
     let mut turns: u64 = 18446744073709551615;
     while turns > 0 {
-        let p = pour(fd, path, tanks, log);
-        let t = p.tanks;
-        tanks = t;
-        let l = p.log;
-        log = l;
+        let p = pour(fd, path, merge);
+        let next = p.merge;
+        merge = next;
         if p.over {
-            return after(true, p.good, tanks, log);
+            return after(true, p.good, merge);
         }
         turns -= 1;
     }
-    after(true, false, tanks, log)
+    after(true, false, merge)
 }
 
 // Whether a log ended well; where it did not, at which line and why.
-fn accepted(path: &[u8], log: Log) -> bool {
+fn accepted(path: &[u8], m: Merge) -> bool {
+    let log = m.log;
     let stop = log.stop;
     match stop {
         Stop::Going => true,
@@ -116,68 +106,65 @@ fn accepted(path: &[u8], log: Log) -> bool {
     }
 }
 
-fn ended(path: &[u8], edits: u64, p: Poured) -> Merged
-    requires { ⌜ (Sound (p .tanks)) × logs.Sound (p .log) ⌝ }
-    ensures { λ r. ⌜ Sound (r .tanks) ⌝ }
+fn ended(path: &[u8], p: Poured) -> Merged
+    requires { ⌜ Sound (p .merge) ⌝ }
+    ensures { λ r. ⌜ Sound (r .merge) ⌝ }
 {
-    let tanks = p.tanks;
+    let merge = p.merge;
     if p.good {
-        let log = p.log;
-        let last = log::end(log);
-        let good = accepted(path, last);
-        return so_far(good, plus(edits, last.edits), tanks);
+        let next = keeper_file::next_log(merge);
+        let good = accepted(path, next);
+        return so_far(good, next);
     }
-    so_far(false, edits, tanks)
+    so_far(false, merge)
 }
 
 // One log behind those before it.
-fn one_log(path: &[u8], edits: u64, s: Tanks) -> Merged
-    requires { ⌜ Sound s ⌝ }
-    ensures { λ r. ⌜ Sound (r .tanks) ⌝ }
+fn one_log(path: &[u8], m: Merge) -> Merged
+    requires { ⌜ Sound m ⌝ }
+    ensures { λ r. ⌜ Sound (r .merge) ⌝ }
 {
     let fd = os::open_read(path);
     if fd < 0 {
         failed(path, b" can't be opened");
-        return so_far(false, edits, s);
+        return so_far(false, m);
     }
-    let p = all_of(fd, path, s);
+    let p = all_of(fd, path, m);
     libc::close(fd);
-    ended(path, edits, p)
+    ended(path, p)
 }
 
-fn log_of(i: usize, edits: u64, s: Tanks) -> Merged
-    requires { ⌜ Sound s ⌝ }
-    ensures { λ r. ⌜ Sound (r .tanks) ⌝ }
+fn log_of(i: usize, m: Merge) -> Merged
+    requires { ⌜ Sound m ⌝ }
+    ensures { λ r. ⌜ Sound (r .merge) ⌝ }
 {
     let mut path = io::buffer();
     let n = os::arg(i, &mut path);
     if os::errno() != 0 {
         failed(b"the name of a log", b" can't be taken");
-        return so_far(false, edits, s);
+        return so_far(false, m);
     }
-    one_log(&path[..n], edits, s)
+    one_log(&path[..n], m)
 }
 
-// The logs that the arguments from one on name.
-fn all_logs(first: usize, count: usize, s: Tanks) -> Merged
-    requires { ⌜ Sound s ⌝ }
-    ensures { λ r. ⌜ Sound (r .tanks) ⌝ }
+// The logs that the arguments from one on name, up to the first that is refused or can't be read.
+fn all_logs(first: usize, count: usize, m: Merge) -> Merged
+    requires { ⌜ Sound m ⌝ }
+    ensures { λ r. ⌜ Sound (r .merge) ⌝ }
 {
-    let mut tanks = s;
-    let mut edits: u64 = 0;
+    let mut merge = m;
     let mut i = first;
     while i < count {
-        let m = log_of(i, edits, tanks);
-        let t = m.tanks;
-        tanks = t;
-        edits = m.edits;
-        if m.good {
+        let l = log_of(i, merge);
+        let next = l.merge;
+        merge = next;
+        if l.good {
             i += 1;
         } else {
-            return so_far(false, edits, tanks);
+            return so_far(false, merge);
         }
     }
-    so_far(true, edits, tanks)
+    so_far(true, merge)
 }
 
 fn said(edits: u64, trying: bool) {
@@ -189,22 +176,33 @@ fn said(edits: u64, trying: bool) {
     note(b" applied\n");
 }
 
-// The logs, and then STATE once, its place as it was; where anything is refused STATE is as it was.
+// STATE as the logs leave it: written where that is something else than it holds.
+fn settled(state: &[u8], m: Merge, place: u64, kept: &mut [u8], size: usize, sync: bool) -> bool
+    requires { ⌜ (Sound m) × (131072 ≤ length (now kept)) ⌝ }
+{
+    let mut next = clerk::body_room();
+    let n = within(size, kept);
+    let r = keeper_file::settle(m, place, &kept[..n], &mut next);
+    let w = written(state, r, &next, kept, size, sync);
+    w.good
+}
+
+// The logs, and then STATE once, its place as it was; where anything is refused or can't be read STATE is as it was.
 pub fn merge(state: &[u8], first: usize, trying: bool, sync: bool) {
     let mut text = clerk::body_room();
     let k = load(state, &mut text);
     if k.good {
         let s = k.tanks;
-        let m = all_logs(first, os::arg_count(), s);
+        let begun = keeper_file::begin_merge(s);
+        let m = all_logs(first, os::arg_count(), begun);
+        let all = m.merge;
         if m.good {
             if trying {
-                said(m.edits, true);
+                said(all.edits, true);
                 return;
             }
-            let t = m.tanks;
-            let w = save(state, t, k.place, &mut text, k.size, sync);
-            if w.good {
-                said(m.edits, false);
+            if settled(state, all, k.place, &mut text, k.size, sync) {
+                said(all.edits, false);
             }
             return;
         }

@@ -1,15 +1,15 @@
--- `merging::all_logs` meets its contract and ends: it counts the arguments, and the tanks stay in form.
+-- It counts the arguments, and the merge stays in form.
 use Prim.Native.Nat.{_-_}
 use borrow.Author.Needs.{needs}
-use Rattle.tanks.specs.Pool.{Sound}
+use Rattle.keeper_file.specs.Merging.{Sound}
 use Rattle.keeper.proofs.merging.all_logs.Statement.{statement}
 use Rattle.keeper.proofs.merging.all_logs.Tie as tie
 
 abbrev Inv-loop : tie.InvT-loop
-Inv-loop first count tanks₀ edits₀ i₀ tanks edits i = Sound tanks
+Inv-loop first count merge₀ i₀ merge i = Sound merge
 
 abbrev μ-loop : tie.MeasureT-loop
-μ-loop first count tanks₀ edits₀ i₀ tanks edits i = count - i
+μ-loop first count merge₀ i₀ merge i = count - i
 
 log-of-requires : tie.Need-log-of-requires Inv-loop μ-loop
 log-of-requires c κs = c .before .loop .inv
