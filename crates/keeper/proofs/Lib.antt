@@ -1,2 +1,3 @@
 -- The laws that the keeper's proofs share.
 pub mod Counted
+pub mod Over

@@ -4,7 +4,7 @@ ghost use mathlib.Core.Bool.{true, false};
 ghost use Prim.Native.Nat.{_-_, _≤_, min};
 ghost use lib.ListN.{length};
 ghost use Rattle.tanks.specs.Pool.{Sound};
-ghost use Rattle.keeper_file.specs.Holding.{movedToFront};
+ghost use Rattle.keeper_file.specs.Holding.{movedToFront, HeldOf};
 use super::feeding::Arrived;
 use super::feeding::endless;
 use super::feeding::less;
@@ -93,7 +93,7 @@ fn told(state: &[u8], bytes: &mut [u8], end: usize, lines: u64, f: Feeding) -> A
     }
 }
 
-// The groups that have come are kept, and then said.
+// The groups that have come are kept, and then said; where reading goes on, what is behind them stands in front.
 fn taken(
     state: &[u8],
     k: Kept,
@@ -105,6 +105,7 @@ fn taken(
 ) -> Arrived
     requires { ⌜ (Sound (k .tanks)) × (131072 ≤ length (now text)) × (end ≤ length (now bytes)) ⌝ }
     ensures { λ r. ⌜ r .held ≤ 65536 ⌝ }
+    ensures { λ r. ⌜ (r .over ≡ false → HeldOf end (now (bytes .entry)) (r .held) (now (bytes .exit))) ⌝ }
 {
     let n = within(end, bytes);
     let f = fed(state, k, &bytes[..n], text, sync);
@@ -117,6 +118,7 @@ fn taken(
 fn more(state: &[u8], bytes: &mut [u8], end: usize, lines: u64, afresh: bool, sync: bool) -> Arrived
     requires { ⌜ end ≤ length (now bytes) ⌝ }
     ensures { λ r. ⌜ r .held ≤ 65536 ⌝ }
+    ensures { λ r. ⌜ (r .over ≡ false → HeldOf end (now (bytes .entry)) (r .held) (now (bytes .exit))) ⌝ }
 {
     let mut text = clerk::body_room();
     let k = load(state, &mut text);

@@ -1,17 +1,11 @@
 -- What is held was moved by the library; where it is too much for a group, reading is over.
-use mathlib.Core.Path.{_≡_, sym, _∙_}
-use mathlib.Core.Bool.{true, false}
-use Prim.Native.Nat.{ℕ}
-use native.Mathlib.Omega.{arith}
 use borrow.Author.Needs.{needs}
+use Rattle.keeper.proofs.Over.{over-not}
 use Rattle.keeper.proofs.arriving.holding.Statement.{statement}
 use Rattle.keeper.proofs.arriving.holding.Tie as tie
 
 returns : tie.Need-returns
-returns c = (
-  c .gone .ensures .0,
-  λ e. let z : true ≡ false = sym (c .gone .ensures .1) ∙ e in let y : _≡_ {A = ℕ} 0 1 = cc z in absurd (omega arith),
-)
+returns c = (c .gone .ensures .0, over-not (c .gone .result .over) (c .gone .ensures .1))
 
 pub holding-spec : {M : Type 1} → statement M
 holding-spec =

@@ -3,6 +3,7 @@ use mathlib.Core.Path.{sym, subst}
 use borrow.Author.Needs.{needs}
 use Rattle.tanks.specs.declared.Tanks.{Tanks}
 use Rattle.tanks.specs.Pool.{Sound}
+use Rattle.keeper.proofs.Over.{over-not}
 use Rattle.keeper.proofs.arriving.more.Statement.{statement}
 use Rattle.keeper.proofs.arriving.more.Tie as tie
 
@@ -13,6 +14,9 @@ taken-requires c κs = (
   search needs,
 )
 
+returns-2 : tie.Need-returns-2
+returns-2 c = (c .gone .ensures .0, over-not (c .gone .result .over) (c .gone .ensures .1))
+
 pub more-spec : {M : Type 1} → statement M
 more-spec =
     tie.close
@@ -20,10 +24,10 @@ more-spec =
     (λ c κs. search needs)
     (λ c. search needs)
     (λ c κs. search needs)
-    (λ c. search needs)
+    (λ c κs. search needs)
     (λ c. search needs)
     taken-requires
     (λ c. search needs)
     (λ c. search needs)
     (λ c κs. search needs)
-    (λ c. search needs))
+    returns-2)

@@ -1,10 +1,9 @@
 -- What a read did not take is held, from the place on at which it left the log; where the log stopped, reading is over.
-use mathlib.Core.Path.{_≡_, sym, ap, _∙_}
-use mathlib.Core.Bool.{true, false}
+use mathlib.Core.Path.{_≡_, ap, _∙_}
 use Prim.Native.Nat.{ℕ, _-_}
-use native.Mathlib.Omega.{arith}
 use borrow.Author.Needs.{needs}
 use Rattle.keeper_file.specs.Holding.{movedToFront}
+use Rattle.keeper.proofs.Over.{over-not}
 use Rattle.keeper.proofs.arriving.told.Statement.{statement}
 use Rattle.keeper.proofs.arriving.told.Tie as tie
 
@@ -21,10 +20,7 @@ returns c =
     )
 
 returns-2 : tie.Need-returns-2
-returns-2 c = (
-  c .gone .ensures .0,
-  λ e. let z : true ≡ false = sym (c .gone .ensures .1) ∙ e in let y : _≡_ {A = ℕ} 0 1 = cc z in absurd (omega arith),
-)
+returns-2 c = (c .gone .ensures .0, over-not (c .gone .result .over) (c .gone .ensures .1))
 
 pub told-spec : {M : Type 1} → statement M
 told-spec =
