@@ -1,5 +1,4 @@
 // Logs one after another from their starts, all or nothing: what STATE is to hold after them is the library's to say.
-ghost use mathlib.Core.Path.{_≡_};
 ghost use Prim.Native.Nat.{_≤_};
 ghost use lib.ListN.{length};
 ghost use Rattle.keeper_file.specs.Merging.{Sound};

@@ -1,24 +1,24 @@
 -- All or nothing: for any logs, each cut into reads anywhere, a merge keeps the file of the tanks after all of them, or where one stops the file
 -- that there was. Nothing behind a log that stops changes anything.
-use mathlib.Core.Path.{_≡_, refl, sym, ap, subst, _∙_}
+use mathlib.Core.Path.{_≡_, refl, sym, ap, _∙_}
 use mathlib.Core.Bool.{Bool, true, false, cond}
-use mathlib.Core.List.{List, [], _∷_, _++_, foldl, foldl-append, flatten, map}
+use mathlib.Core.List.{List, [], _∷_, _++_, foldl-append, flatten, map}
 use Prim.Native.Nat.{ℕ, _^_, _≤_, _<_}
 use lib.ListN.{length}
 use Rattle.text.specs.Bytes.{bytes, startsOf}
-use Rattle.script.specs.Lines.{emptyLine, countedOf, afterOf, bringsOf, endingOf}
+use Rattle.script.specs.Lines.{emptyLine, afterOf, bringsOf, endingOf}
 use Rattle.script.proofs.CutLaws.{held-holding}
 use Rattle.tanks.specs.declared.Tanks.{Tanks}
 use Rattle.tanks.specs.House.{House}
 use Rattle.tanks.specs.Pool as pool
 use Rattle.log.specs.declared.Log.{Log}
 use Rattle.log.specs.declared.Stop.{Stop}
-use Rattle.log.specs.Log.{Course, going, afterBytes, atEnd, endedAs, courseAt, logAt}
+use Rattle.log.specs.Log.{Course, going, afterBytes, atEnd, courseAt, logAt}
 use Rattle.log.proofs.Bytes.{cut-anywhere, stopped-stays}
 use Rattle.keeper_file.specs.declared.Merge.{Merge}
 use Rattle.keeper_file.specs.declared.Renewed.{Renewed}
-use Rattle.keeper_file.specs.File.{fileOf, mostBytes, keptThen, Renews}
-use Rattle.keeper_file.specs.Merging.{Standing, setOut, pouredOn, endedWith, logOver, afterLog, afterLogs, mergedHouse, mergedStop, mergedAfter, standingOf, Sound, Stands, Settles, Pours, noRead, read, Merges, noLog, log}
+use Rattle.keeper_file.specs.File.{fileOf, mostBytes, keptThen}
+use Rattle.keeper_file.specs.Merging.{Standing, setOut, pouredOn, endedWith, logOver, afterLog, afterLogs, mergedHouse, mergedLogs, mergedStop, mergedEdits, mergedAfter, standingOf, Sound, Stands, Settles, Pours, noRead, read, Merges, noLog, log}
 use Rattle.keeper_file.proofs.Renewal.{file-fits, renewed-kept}
 
 -- ---- What the theorem speaks of
@@ -27,6 +27,12 @@ pub record AllOrNothing (place : ℕ) (h : House) (all : List (List ℕ)) (kept 
   pub every : going (mergedStop h all) ≡ true → then ≡ fileOf place (mergedHouse h all)
   pub none : going (mergedStop h all) ≡ false → then ≡ kept
   pub file : kept ≡ fileOf place h → then ≡ fileOf place (mergedAfter h all)
+
+-- and what may be said of them: how many ended well, where the next one stopped, and how many edits those applied
+pub record Told (h : House) (all : List (List ℕ)) (last : Merge) : Type 0 where
+  pub logs : last .logs ≡ mergedLogs h all
+  pub stop : last .log .stop ≡ mergedStop h all
+  pub edits : last .edits ≡ mergedEdits h all
 
 -- ---- Of the rules
 -- logs in two lots
@@ -57,6 +63,13 @@ unfolding afterLogs
 stopped-merge x [] g = refl
 stopped-merge x (a ∷ more) g = ap (λ (y : Standing). afterLogs y more) (log-stays x a g) ∙ stopped-merge x more g
 
+-- where the last of some logs did not stop, none before it did
+pub none-before : (x : Standing) (a b : List (List ℕ)) → going (afterLogs x (a ++ b) .course .stop) ≡ true → going (afterLogs x a .course .stop) ≡ true
+none-before x a b h = by (going (afterLogs x a .course .stop)) refl where
+  by : (t : Bool) → going (afterLogs x a .course .stop) ≡ t → t ≡ true
+  by true e = refl
+  by false e = sym e ∙ sym (ap (λ (y : Standing). going (y .course .stop)) (logs-append x a b ∙ stopped-merge (afterLogs x a) b e)) ∙ h
+
 -- ---- Of the code's own merges
 -- reads of one log are that log
 poured-all : {m last : Merge} {reads : List (List ℕ)} → Sound m → Pours m reads last → Stands last (pouredOn (standingOf m) (flatten reads))
@@ -83,19 +96,32 @@ merged-all {m} {last} h (log {reads = reads} {more = more} p s rest) =
       is = k .is ∙ ap (λ (x : Standing). afterLogs x (map flatten more)) (s .is ∙ ap logOver (poured-all h p .is));
     }
 
--- ---- All or nothing
-module _ (s : Tanks) (place : ℕ) (all : List (List (List ℕ))) (first last : Merge) (kept buffer out : List ℕ) (r : Renewed) (small : place < 2 ^ 64) (room : mostBytes ≤ length buffer) (b : Stands first (setOut (pool.meaning s))) (m : Merges first all last) (w : Settles (standingOf last) place kept buffer r out) where
+-- ---- What is told of them
+module _ (s : Tanks) (all : List (List (List ℕ))) (first last : Merge) (b : Stands first (setOut (pool.meaning s))) (m : Merges first all last) where
   stands : Stands last (afterLogs (setOut (pool.meaning s)) (map flatten all))
   stands = let k = merged-all (b .sound) m in record { sound = k .sound; is = k .is ∙ ap (λ (x : Standing). afterLogs x (map flatten all)) (b .is) }
 
+  pub merge-told : Told (pool.meaning s) (map flatten all) last
+  merge-told =
+      record {
+        logs = ap (λ (x : Standing). x .logs) (stands .is);
+        stop = ap (λ (x : Standing). x .course .stop) (stands .is);
+        edits = ap (λ (x : Standing). x .edits) (stands .is);
+      }
+
+-- ---- All or nothing
+module _ (s : Tanks) (place : ℕ) (all : List (List (List ℕ))) (first last : Merge) (kept buffer out : List ℕ) (r : Renewed) (small : place < 2 ^ 64) (room : mostBytes ≤ length buffer) (b : Stands first (setOut (pool.meaning s))) (m : Merges first all last) (w : Settles (standingOf last) place kept buffer r out) where
+  abbrev ends : Stands last (afterLogs (setOut (pool.meaning s)) (map flatten all))
+  ends = stands s all first last b m
+
   stop-is : going (last .log .stop) ≡ going (mergedStop (pool.meaning s) (map flatten all))
-  stop-is = ap (λ (x : Standing). going (x .course .stop)) (stands .is)
+  stop-is = ap (λ (x : Standing). going (x .course .stop)) (ends .is)
 
   all-kept : going (mergedStop (pool.meaning s) (map flatten all)) ≡ true → keptThen r out kept ≡ fileOf place (mergedHouse (pool.meaning s) (map flatten all))
   all-kept g =
       let e = w .all (stop-is ∙ g) in
-      renewed-kept place (pool.meaning (last .tanks)) kept buffer out r e (e .number-is ∙ file-fits (last .tanks) place (length buffer) (stands .sound .tanks) small room)
-      ∙ ap (λ (x : Standing). fileOf place (x .course .house)) (stands .is)
+      renewed-kept place (pool.meaning (last .tanks)) kept buffer out r e (e .number-is ∙ file-fits (last .tanks) place (length buffer) (ends .sound .tanks) small room)
+      ∙ ap (λ (x : Standing). fileOf place (x .course .house)) (ends .is)
 
   none-kept : going (mergedStop (pool.meaning s) (map flatten all)) ≡ false → keptThen r out kept ≡ kept
   none-kept g = ap (λ (x : Renewed). keptThen x out kept) (w .none (stop-is ∙ g) .0)

@@ -3,12 +3,12 @@
 -- that a run saw which was done.
 use mathlib.Core.Path.{_≡_, refl, sym, ap, subst, _∙_}
 use mathlib.Core.Bool.{Bool, true, false, cond}
-use mathlib.Core.List.{List, [], _∷_, _++_}
-use Prim.Native.Nat.{ℕ, zero, suc, _+_, _-_, _^_, _≤_, _<_, min, max}
+use mathlib.Core.List.{List, [], _∷_}
+use Prim.Native.Nat.{ℕ, _+_, _-_, _^_, _≤_, _<_, min, max}
 use native.Mathlib.Decide.{decLt}
 use native.Mathlib.Omega.{arith}
 use lib.Dec.{eqb}
-use lib.ListN.{length, take, drop, length-take, length-drop, take-append-drop, drop-of-length-le}
+use lib.ListN.{length, take, drop, length-take, length-drop, take-append-drop}
 use lib.Seq.{take-append-le, drop-append-le, drop-drop}
 use Rattle.tanks.specs.declared.Tanks.{Tanks}
 use Rattle.tanks.specs.House.{House, refusalAt, afterAt}
@@ -25,7 +25,7 @@ use Rattle.log.specs.Groups.{Between, begun, afterFirst, TakesGroups}
 use Rattle.log.proofs.Grouping.{first-more}
 use Rattle.keeper_file.specs.declared.Back.{Back}
 use Rattle.keeper_file.specs.declared.Fed.{Fed}
-use Rattle.keeper_file.specs.File.{fileOf, furtherBy, mostBytes, keptThen, FiledAgain, ReadsBack, Renews, Reads}
+use Rattle.keeper_file.specs.File.{fileOf, furtherBy, mostBytes, keptThen, FiledAgain, ReadsBack, Reads}
 use Rattle.keeper_file.proofs.Kept.{read-written}
 use Rattle.keeper_file.proofs.Once.{Like, begins, like-bytes, between-left, between-right}
 use Rattle.keeper_file.proofs.Renewal.{file-fits, renewed-kept}
@@ -112,7 +112,6 @@ bytes-few x (b ∷ more) h = bytes-few (afterByte x b) more (byte-few x b h)
 go-on : (h g : House) (bytes : List ℕ) (p : ℕ) → Between (afterFirst h p bytes) → g ≡ afterFirst h p bytes .house
     → (k : ℕ) → Like (afterFirst h p bytes .reader .newlines) (afterFirst h (p + k) bytes) (afterFirst g k (drop p bytes))
 go-on h g bytes p b e k =
-    let x : Course = afterFirst h p bytes in
     subst (λ (y : Course). Like (afterFirst h p bytes .reader .newlines) y (afterFirst g k (drop p bytes))) (sym (first-more h bytes p k))
     (like-bytes (afterFirst h p bytes .reader .newlines) (afterFirst h p bytes) (begun g) (take k (drop p bytes)) (begins (afterFirst h p bytes) g (sym e) (bytes-few (begun h) (take p bytes) (omega arith)) b))
 

@@ -1,28 +1,24 @@
 -- Logs one after another: what each step of a merge hands back; and that a merge, however its logs were cut into reads, keeps all of them or
 -- nothing.
-use mathlib.Core.Path.{_≡_, refl, sym, ap, subst, _∙_}
-use mathlib.Core.Bool.{Bool, true, false, cond}
-use mathlib.Core.List.{List, [], _∷_, _++_, foldl, flatten, map}
-use Prim.Native.Nat.{ℕ, _^_, _≤_, _<_}
+use mathlib.Core.Path.{_≡_, sym, ap, _∙_}
+use mathlib.Core.Bool.{true, false}
+use mathlib.Core.List.{List}
+use Prim.Native.Nat.{ℕ}
 use native.Mathlib.Omega.{arith}
-use lib.ListN.{length}
 use Rattle.script.specs.Lines.{countedOf}
 use Rattle.tanks.specs.declared.Tanks.{Tanks}
-use Rattle.tanks.specs.House.{House}
 use Rattle.tanks.specs.Pool as pool
 use Rattle.log.specs.declared.Log.{Log}
 use Rattle.log.specs.declared.Stop.{Stop}
 use Rattle.log.specs.declared.Taken.{Taken}
 use Rattle.log.specs.Log as logs
-use Rattle.log.specs.Log.{Course, going, fresh, afterBytes, endedAs, atEnd, courseAt, courseOf, logAt, Takes}
-use Rattle.log.specs.Groups.{begun}
-use Rattle.log.proofs.Bytes.{cut-anywhere, stopped-stays}
+use Rattle.log.specs.Log.{Course, going, fresh, atEnd, courseOf, Takes}
 use Rattle.log.proofs.Cuts.{taken-course}
 use Rattle.log.proofs.Tidy.{log-of}
 use Rattle.keeper_file.specs.declared.Merge.{Merge}
 use Rattle.keeper_file.specs.declared.Renewed.{Renewed}
-use Rattle.keeper_file.specs.File.{fileOf, furtherBy, mostBytes, keptThen, Renews}
-use Rattle.keeper_file.specs.Merging.{Standing, setOut, pouredOn, endedWith, logOver, afterLog, afterLogs, mergedHouse, mergedStop, mergedAfter, standingOf, Sound, Stands, nothingNew, Settles, Pours, noRead, read, Merges, noLog, log}
+use Rattle.keeper_file.specs.File.{furtherBy, Renews}
+use Rattle.keeper_file.specs.Merging.{setOut, pouredOn, endedWith, logOver, standingOf, Sound, Stands, nothingNew, Settles}
 
 -- ---- One step
 pub begun-stands : (s : Tanks) (l : Log) → pool.Sound s → (l ≡ fresh) × logs.Sound l → Stands (record { tanks = s; log = l; logs = 0; edits = 0 }) (setOut (pool.meaning s))

@@ -1,5 +1,5 @@
 -- What is held is what the read did not take, from the place on at which it left the log.
-use Prim.Native.Nat.{_≤_, min}
+use Prim.Native.Nat.{min}
 use native.Mathlib.Omega.{arith}
 use borrow.Author.Needs.{needs}
 use Rattle.keeper.proofs.Over.{over-not}

@@ -1,5 +1,5 @@
 -- What a read did not take is held, from the place on at which it left the log; where the log stopped, reading is over.
-use mathlib.Core.Path.{_≡_, ap, _∙_}
+use mathlib.Core.Path.{ap, _∙_}
 use Prim.Native.Nat.{ℕ, _-_}
 use borrow.Author.Needs.{needs}
 use Rattle.keeper_file.specs.Holding.{movedToFront}

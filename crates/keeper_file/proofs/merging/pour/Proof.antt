@@ -1,5 +1,4 @@
 -- The bytes are taken by the log that is being read.
-use borrow.Author.Needs.{needs}
 use Rattle.keeper_file.proofs.Merged.{poured-stands}
 use Rattle.keeper_file.proofs.merging.pour.Statement.{statement}
 use Rattle.keeper_file.proofs.merging.pour.Tie as tie
