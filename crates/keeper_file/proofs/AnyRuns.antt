@@ -3,13 +3,13 @@
 -- that a run saw which was done.
 use mathlib.Core.Path.{_≡_, refl, sym, ap, subst, _∙_}
 use mathlib.Core.Bool.{Bool, true, false, cond}
-use mathlib.Core.List.{List, [], _∷_}
+use mathlib.Core.List.{List, [], _∷_, _++_}
 use Prim.Native.Nat.{ℕ, _+_, _-_, _^_, _≤_, _<_, min, max}
 use native.Mathlib.Decide.{decLt}
 use native.Mathlib.Omega.{arith}
 use lib.Dec.{eqb}
-use lib.ListN.{length, take, drop, length-take, length-drop, take-append-drop}
-use lib.Seq.{take-append-le, drop-append-le, drop-drop}
+use lib.ListN.{length, take, drop, length-take, length-drop, take-append-drop, drop-of-length-le}
+use lib.Seq.{take-append-le, take-add, drop-append-le, drop-drop}
 use Rattle.tanks.specs.declared.Tanks.{Tanks}
 use Rattle.tanks.specs.House.{House, refusalAt, afterAt}
 use Rattle.tanks.specs.Pool.{Sound, meaning}
@@ -27,7 +27,7 @@ use Rattle.keeper_file.specs.declared.Back.{Back}
 use Rattle.keeper_file.specs.declared.Fed.{Fed}
 use Rattle.keeper_file.specs.File.{fileOf, furtherBy, mostBytes, keptThen, FiledAgain, ReadsBack, Reads}
 use Rattle.keeper_file.proofs.Kept.{read-written}
-use Rattle.keeper_file.proofs.Once.{Like, begins, like-bytes, between-left, between-right}
+use Rattle.keeper_file.proofs.Once.{Like, Once, once, begins, like-bytes, between-left, between-right}
 use Rattle.keeper_file.proofs.Renewal.{file-fits, renewed-kept}
 
 -- ---- What the theorem speaks of
@@ -132,6 +132,19 @@ module _ (log : List ℕ) (seen q k : ℕ) where
         | yes h ↦ let z : k ≡ 0 = omega (arith, length-drop q (take seen log)) in ap (λ (n : ℕ). take n (drop q (take seen log))) z ∙ ap (λ (n : ℕ). take n (drop q log)) (sym z)
         | no h ↦ seen-here (omega arith) l
       ]
+
+-- a longer front of the log is a shorter one and what came behind it
+record Longer (log : List ℕ) (n m place : ℕ) : Type 0 where
+  behind : List ℕ
+  is : drop place (take m log) ≡ drop place (take n log) ++ behind
+
+longer : (log : List ℕ) (n m place : ℕ) → n ≤ m → Longer log n m place
+longer log n m place h =
+    let e : m ≡ n + (m - n) = omega arith in
+    elim (decLt (length (take n log)) place) [
+      | yes l ↦ record { behind = drop place (take m log); is = ap (λ (a : List ℕ). a ++ drop place (take m log)) (sym (drop-of-length-le (take n log) {i = place} (omega arith))) }
+      | no l ↦ record { behind = take (m - n) (drop n log); is = ap (λ (k : ℕ). drop place (take k log)) e ∙ ap (drop place) (take-add n (m - n) log) ∙ drop-append-le place (take n log) (take (m - n) (drop n log)) (omega arith) }
+    ]
 
 -- ---- Where runs have left the file
 module _ (h : House) (place : ℕ) (log : List ℕ) where
@@ -318,6 +331,20 @@ module _ (s : Tanks) (place : ℕ) (log : List ℕ) (runs : List Run) (first las
     -- and reading it back gives both
     pub last-says : (t : Tanks) (b : Back) → ReadsBack t last b → (b .number ≡ 0) × (b .place ≡ place + whole .at) × (b .tanks ≡ whole .tanks)
     last-says t b k = read-written (whole .tanks) t (place + whole .at) b (w .sound) (any-runs .again) (subst (λ (x : List ℕ). ReadsBack t x b) (any-runs .is) k)
+
+    -- one run more, which sees at least as much: it comes to what one run over all of it comes to, and stops where that does
+    pub once-more : (seen : ℕ) (text : List ℕ) (d : Done log seen last text) (all : Took) → longest runs ≤ seen → TakesGroups s (drop place (take seen log)) all → Once whole (d .fed .took) all
+    once-more seen text d all h v =
+        let b = last-says (d .tanks) (d .back) (d .says) in
+        let x = longer log (longest runs) seen place h in
+        let g : TakesGroups (whole .tanks) (drop (place + whole .at) (take seen log)) (d .fed .took) =
+        subst (λ (t : Tanks). TakesGroups t (drop (place + whole .at) (take seen log)) (d .fed .took)) (b .2) (subst (λ (q : ℕ). TakesGroups (d .back .tanks) (drop q (take seen log)) (d .fed .took)) (b .1) (d .reads .groups))
+        in
+        once s (drop place (take (longest runs) log)) (x .behind) whole (d .fed .took) all
+        (omega (arith, w .lines, bytes-few (begun (meaning s)) (take (whole .at) (drop place (take (longest runs) log))) (omega arith)))
+        w
+        (subst (λ (l : List ℕ). TakesGroups (whole .tanks) (drop (whole .at) l) (d .fed .took)) (x .is) (subst (λ (l : List ℕ). TakesGroups (whole .tanks) l (d .fed .took)) (sym (drop-drop (whole .at) place (take seen log))) g))
+        (subst (λ (l : List ℕ). TakesGroups s l all) (x .is) v)
 
 -- ---- An example
 -- of three runs the second is cut off, and the third sees less than the first
