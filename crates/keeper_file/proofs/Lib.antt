@@ -6,6 +6,5 @@ pub mod Holds
 pub mod Kept
 pub mod Merged
 pub mod Once
-pub mod Telling
-pub mod OnceMore
 pub mod Renewal
+pub mod Telling

@@ -1,25 +1,23 @@
 -- What is read back is what the text says, and what is kept after a renewal says its place and its tanks, whether it was written or stood there already.
 use mathlib.Core.Path.{_≡_, refl, sym, ap, ap₂, subst, _∙_}
-use mathlib.Core.Bool.{Bool, true, false, not}
+use mathlib.Core.Bool.{Bool, false, cond}
 use mathlib.Core.List.{List, [], _++_}
 use Prim.Native.Nat.{ℕ, _+_, _≤_, min}
 use native.Mathlib.Omega.{arith}
 use lib.ListN.{length, take, drop, length-append}
-use lib.Seq.{take-at, length-take-le}
-use Rattle.text.specs.Bytes.{sameOf}
+use lib.Seq.{length-take-le}
 use Rattle.text.specs.Number.{put}
-use Rattle.text.proofs.Prefix.{same-true}
 use Rattle.text.proofs.Putting.{take-put, put-room}
 use Rattle.text_lines.specs.Lines.{Got, bad, got}
-use Rattle.runs.specs.Stretches.{inFront}
 use Rattle.lists.specs.Lists.{unlessRefused}
 use Rattle.tanks.specs.declared.Tanks.{Tanks}
 use Rattle.tanks.specs.House.{House}
 use Rattle.tanks.specs.Pool.{meaning}
 use Rattle.keeper_file.specs.declared.Back.{Back}
 use Rattle.keeper_file.specs.declared.Renewed.{Renewed}
-use Rattle.keeper_file.specs.File.{fileOf, Filed, fileSays, FiledAgain, backNumber, backPlace, backHouse, ReadsBack, differs, Renews}
+use Rattle.keeper_file.specs.File.{fileOf, Filed, fileSays, FiledAgain, backNumber, backPlace, backHouse, ReadsBack, Renews}
 use Rattle.keeper_file.specs.Keeping.{Tells, Holds}
+use Rattle.keeper_file.proofs.Renewal.{new-text, renewed-kept}
 
 -- ---- Read back
 pub back-tells : (s : Tanks) (text : List ℕ) (r : Back) → ReadsBack s text r → r .number ≡ 0 → Tells (r .place) (meaning (r .tanks)) text
@@ -35,24 +33,12 @@ back-tells s text r b z = by (fileSays text) refl where
 again-tells : (place : ℕ) (h : House) → FiledAgain place h → Tells place h (fileOf place h)
 again-tells place h f = record { lines = f .lines; left = []; is = f .is }
 
-not-differs : (kept next : List ℕ) → differs kept next ≡ false → kept ≡ next
-not-differs kept next = by (sameOf kept next) refl where
-  by : (b : Bool) → sameOf kept next ≡ b → not b ≡ false → kept ≡ next
-  by true e f = same-true kept next e
-  by false e f = cc
-
 -- it stood there already
 pub same-tells : (place : ℕ) (h : House) (kept buffer : List ℕ) (r : Renewed) (out : List ℕ) → Renews place h kept buffer r out → r .number ≡ 0 → r .changed ≡ false → Tells place h kept
-same-tells place h kept buffer r out n z c = subst (Tells place h) (sym (not-differs kept (fileOf place h) (sym (n .changed z) ∙ c))) (again-tells place h (n .again z))
+same-tells place h kept buffer r out n z c =
+    subst (Tells place h) (sym (renewed-kept place h kept buffer out r n z) ∙ ap (λ (b : Bool). cond b (take (r .count) out) kept) c) (again-tells place h (n .again z))
 
--- it is in front of the other buffer
-next-text : (place : ℕ) (h : House) (kept buffer : List ℕ) (r : Renewed) (out : List ℕ) → Renews place h kept buffer r out → r .number ≡ 0 → take (r .count) out ≡ fileOf place h
-next-text place h kept buffer r out n z =
-    let t = fileOf place h in
-    let f : unlessRefused (r .number) t ≡ t = ap (λ (k : ℕ). unlessRefused k t) z in
-    ap₂ take (n .count-is ∙ ap length f) (n .text ∙ ap (λ (l : List ℕ). inFront l buffer) f) ∙ take-at t (drop (length t) buffer) (length t) refl
-
--- all of it
+-- the other buffer has all of it in front
 count-inside : (place : ℕ) (h : House) (kept buffer : List ℕ) (r : Renewed) (out : List ℕ) → Renews place h kept buffer r out → r .count ≤ length out
 count-inside place h kept buffer r out n =
     let xs = unlessRefused (r .number) (fileOf place h) in
@@ -62,7 +48,7 @@ count-inside place h kept buffer r out n =
 pub put-holds : (place : ℕ) (h : House) (kept before buffer : List ℕ) (r : Renewed) (out : List ℕ) (n : ℕ) → Renews place h before buffer r out → r .number ≡ 0 → n ≡ min (r .count) (length out) → n ≤ length kept → Holds place h n (put kept 0 (take n out))
 put-holds place h kept before buffer r out n k z e room =
     let all : n ≡ r .count = omega (arith, e, count-inside place h before buffer r out k) in
-    let text : take n out ≡ fileOf place h = ap (λ (m : ℕ). take m out) all ∙ next-text place h before buffer r out k z in
+    let text : take n out ≡ fileOf place h = ap (λ (m : ℕ). take m out) all ∙ new-text place h before buffer out r k z in
     let long : length (take n out) ≡ n = length-take-le n out (omega (arith, e)) in
     let from : n ≡ 0 + length (take n out) = omega (arith, long) in
     let whole : take n (put kept 0 (take n out)) ≡ take n out = ap (λ (m : ℕ). take m (put kept 0 (take n out))) from ∙ take-put kept 0 (take n out) (omega (arith, room, long)) in
