@@ -2,7 +2,7 @@
 
 ghost use mathlib.Core.Path.{_≡_};
 ghost use mathlib.Core.List.{_++_};
-ghost use Prim.Native.Nat.{_+_, _≤_};
+ghost use Prim.Native.Nat.{_+_, _≤_, min, max};
 ghost use lib.Count.{ones};
 ghost use lib.ListN.{length, take, drop};
 ghost use Rattle.runs.specs.Runs.{runs, total, Canon};
@@ -43,6 +43,33 @@ fn write(out: &mut [u64], at: usize, start: u64, end: u64, marks: u64, least: u6
     out[at + 1] = end;
     out[at + 2] = marks;
     at + 3
+}
+
+// How many numbers the part of a stretch takes that lies in from .. to.
+pub fn part_width(from: u64, to: u64, start: u64, end: u64, set: u64, least: u64) -> usize
+    ensures { λ r. ⌜ r ≡ length (entry least (max from start) (min to end) (ones set)) ⌝ }
+{
+    width(later(from, start), sooner(to, end), marks_of(set), least)
+}
+
+// Writes the part of a stretch that lies in from .. to, from place `at` on. Returns the place after it.
+pub fn write_part(
+    out: &mut [u64],
+    at: usize,
+    from: u64,
+    to: u64,
+    start: u64,
+    end: u64,
+    set: u64,
+    least: u64,
+) -> usize
+    requires { ⌜ at + length (entry least (max from start) (min to end) (ones set)) ≤ length (now out) ⌝ }
+    ensures { λ r. ⌜ now (out .exit) ≡ take at (now (out .entry)) ++ entry least (max from start) (min to end) (ones set) ++ drop (at + length (entry least (max from start) (min to end) (ones set))) (now (out .entry)) ⌝ }
+    ensures { λ r. ⌜ r ≡ at + length (entry least (max from start) (min to end) (ones set)) ⌝ }
+{
+    let lo = later(from, start);
+    let hi = sooner(to, end);
+    write(out, at, lo, hi, marks_of(set), least)
 }
 
 // The stretches of from .. to, clipped to it, that have at least `least` marks. Returns how many numbers they are.
