@@ -7,6 +7,8 @@ pub mod MeaningLaws
 pub mod LookLaws
 pub mod RangeLaws
 pub mod ReachLaws
+pub mod Stretched
+pub mod Closing
 pub mod WriteLaws
 pub mod CallLaws
 pub mod AnswerLaws

@@ -2,6 +2,7 @@
 mod settings; // settings.rt: shares and limits
 mod pool; // pool.rt: the tanks' runs and marks in one state
 pub mod look; // look.rt: one tank read where it stands
+pub mod stretches; // stretches.rt: its stretches, likewise
 
 ghost use mathlib.Core.Path.{_≡_};
 ghost use mathlib.Core.List.{[]};

@@ -176,7 +176,7 @@ fn reach_in(heads: [Head; 8], pool: [Run; 512], t: usize, own: u64, pos: u64) ->
 }
 
 // The bits of a party's marks in tank t's table.
-fn own_bits(heads: [Head; 8], table: Table, t: usize, who: Party) -> u64
+pub fn own_bits(heads: [Head; 8], table: Table, t: usize, who: Party) -> u64
     requires { ⌜ (t < 8) × (getD heads t noHead .marks ≤ 64) ⌝ }
     ensures { λ r. ⌜ MaskOf (isOf who) (take (getD heads t noHead .marks) (table .marks)) r ⌝ }
 {
