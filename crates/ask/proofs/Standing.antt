@@ -23,8 +23,13 @@ use Rattle.tanks.specs.Pool.{noHead, noTable, tankIn, meaning, Sound}
 use Rattle.tanks.specs.Looks.{shownIn}
 use Rattle.tanks.proofs.LookLaws.{stands-in, shown-there, shown-length}
 use Rattle.tanks.proofs.PartsLaws.{place-in}
-use Rattle.ask.specs.Asks.{askAt}
+use Rattle.lists.specs.declared.Listed.{Listed}
+use Rattle.lists.specs.Lists.{unlessRefused, filledBeside}
+use Rattle.lists.proofs.ListLaws.{Handed}
+use Rattle.runs.specs.Stretches.{inFront}
+use Rattle.ask.specs.Asks.{askAt, noList}
 use Rattle.ask.specs.Parts.{CanAsk, askIn}
+use Rattle.ask.proofs.AskLaws.{Listed-at}
 
 -- ---- the parts of a state
 module _ (s : Tanks) (t u : ℕ) (place : u ≡ placeOf t) where
@@ -43,6 +48,17 @@ module _ (s : Tanks) (t u : ℕ) (place : u ≡ placeOf t) where
         | no h ↦ rw (le-leb 8 t (omega arith))
       ]
 
+-- a list's call on the parts: the answer, and what is left of the list lent to it
+abbrev pub ListedIn : List Head → List Run → Table → ℕ → Party → (View → ℕ) → (View → List ℕ) → List ℕ → Listed → List ℕ → Type 0
+ListedIn hs pool table t who number xs out r last =
+    (r ≡ askIn hs pool table t who noList (λ v. filledBeside (number v) (xs v))) × (last ≡ askIn hs pool table t who out (λ v. inFront (unlessRefused (number v) (xs v)) out))
+
+-- what they list is what the state does
+pub listed-there : (s : Tanks) (t u : ℕ) → u ≡ placeOf t → (who : Party) (number : View → ℕ) (xs : View → List ℕ) (out : List ℕ) {r : Listed} {last : List ℕ}
+    → ListedIn (s .heads) (s .pool) (getD (s .tables) u noTable) t who number xs out r last → Listed-at (meaning s) t who number xs out r last
+listed-there s t u place who number xs out said =
+    (said .0 ∙ asked-there s t u place who noList (λ v. filledBeside (number v) (xs v)), said .1 ∙ asked-there s t u place who out (λ v. inFront (unlessRefused (number v) (xs v)) out))
+
 module _ (hs : List Head) (pool : List Run) (table : Table) (t : ℕ) (who : Party) where
   -- ---- a question by its cases
   module _ {A : Type 0} (refused : A) (asks : View → A) where
@@ -51,6 +67,14 @@ module _ (hs : List Head) (pool : List Run) (table : Table) (t : ℕ) (who : Par
 
     pub one-there : {r : A} → t < 8 → r ≡ asks (shownIn hs pool table t who) → r ≡ askIn hs pool table t who refused asks
     one-there h e = rw (lt-leb 8 t h) e
+
+  -- ---- a list by its cases
+  module _ (number : View → ℕ) (xs : View → List ℕ) (out : List ℕ) {r : Listed} {last : List ℕ} where
+    pub list-none-there : 8 ≤ t → r ≡ noList → last ≡ out → ListedIn hs pool table t who number xs out r last
+    list-none-there h e g = rw (le-leb 8 t h) (e, g)
+
+    pub list-one-there : t < 8 → Handed (number (shownIn hs pool table t who)) (xs (shownIn hs pool table t who)) out r last → ListedIn hs pool table t who number xs out r last
+    list-one-there h a = rw (lt-leb 8 t h) a
 
   -- the length that the party is shown
   pub long-there : {l : ℕ} → l ≡ getD hs t noHead .length → shownIn hs pool table t who .length ≡ l

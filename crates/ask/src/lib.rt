@@ -1,5 +1,6 @@
 // The questions and lists of eight tanks, with the tank's number in front.
 pub mod parts; // parts.rt: questions of one tank, on the parts of a state that it stands in
+pub mod listed; // listed.rt: lists of one tank, likewise
 
 ghost use mathlib.Core.Path.{_≡_};
 ghost use mathlib.Core.List.{[]};
@@ -208,10 +209,11 @@ pub fn stretches_needed(s: Tanks, tank: u64, who: Party, start: u64, end: u64) -
     requires { ⌜ Sound s ⌝ }
     ensures { λ r. ⌜ r ≡ rangeNeededAsked (meaning s) tank who start end ⌝ }
 {
-    if 8 <= tank {
-        return no_list();
-    }
-    lists::stretches_needed(shown(s, tank, who), start, end)
+    let heads = s.heads;
+    let pool = s.pool;
+    let tables = s.tables;
+    let table = tables[tanks::place(tank)];
+    listed::stretches_needed(heads, pool, table, tank, who, start, end)
 }
 
 // How many u64 the list of the whole tank takes.
@@ -219,10 +221,11 @@ pub fn whole_needed(s: Tanks, tank: u64, who: Party) -> Listed
     requires { ⌜ Sound s ⌝ }
     ensures { λ r. ⌜ r ≡ wholeNeededAsked (meaning s) tank who ⌝ }
 {
-    if 8 <= tank {
-        return no_list();
-    }
-    counted(lists::whole_needed(shown(s, tank, who)))
+    let heads = s.heads;
+    let pool = s.pool;
+    let tables = s.tables;
+    let table = tables[tanks::place(tank)];
+    listed::whole_needed(heads, pool, table, tank, who)
 }
 
 // How many anchors the tank has.
@@ -242,10 +245,11 @@ pub fn list_range(s: Tanks, tank: u64, who: Party, start: u64, end: u64, out: &m
     ensures { λ r. ⌜ r ≡ askAt (meaning s) tank who noList (λ v. filledBeside (rangeNumber start end (length (now (out .entry))) v) (rangeList start end v)) ⌝ }
     ensures { λ r. ⌜ now (out .exit) ≡ askAt (meaning s) tank who (now (out .entry)) (λ v. inFront (unlessRefused (rangeNumber start end (length (now (out .entry))) v) (rangeList start end v)) (now (out .entry))) ⌝ }
 {
-    if 8 <= tank {
-        return no_list();
-    }
-    lists::list_range(shown(s, tank, who), start, end, out)
+    let heads = s.heads;
+    let pool = s.pool;
+    let tables = s.tables;
+    let table = tables[tanks::place(tank)];
+    listed::list_range(heads, pool, table, tank, who, start, end, out)
 }
 
 // The marked stretches of the whole tank, at the front of a lent buffer.
@@ -254,10 +258,11 @@ pub fn list_whole(s: Tanks, tank: u64, who: Party, out: &mut [u64]) -> Listed
     ensures { λ r. ⌜ r ≡ askAt (meaning s) tank who noList (λ v. filledBeside (wholeNumber (length (now (out .entry))) v) (wholeList v)) ⌝ }
     ensures { λ r. ⌜ now (out .exit) ≡ askAt (meaning s) tank who (now (out .entry)) (λ v. inFront (unlessRefused (wholeNumber (length (now (out .entry))) v) (wholeList v)) (now (out .entry))) ⌝ }
 {
-    if 8 <= tank {
-        return no_list();
-    }
-    lists::list_whole(shown(s, tank, who), out)
+    let heads = s.heads;
+    let pool = s.pool;
+    let tables = s.tables;
+    let table = tables[tanks::place(tank)];
+    listed::list_whole(heads, pool, table, tank, who, out)
 }
 
 // The stretches over start .. end: the front part of `out` that they fill, and the empty part where `list_range` refuses.
