@@ -9,6 +9,7 @@ use Rattle.tanks.specs.declared.Tanks.{Tanks}
 use Rattle.tanks.specs.Contracts.{editOf, DoneAt}
 use Rattle.script.specs.declared.Call.{Call}
 use Rattle.script.specs.declared.Change.{Change}
+use Rattle.script.specs.declared.Listing.{Listing}
 use Rattle.script.specs.declared.Op.{Op}
 use Rattle.script.specs.declared.Question.{Question}
 use Rattle.answers.specs.Waiting.{Adds}
@@ -16,7 +17,7 @@ use Rattle.answers.specs.Replies.{orRefused, acceptedSays, stylesSay, firstSays
 use Rattle.answers.proofs.Laws.{adds-as}
 use Rattle.clerk.specs.declared.Kind.{Kind}
 use Rattle.clerk.specs.declared.Side.{Side}
-use Rattle.clerk.specs.Calls.{tankFor, changed, changeSays, questionKind, changeKind, kindOf, editSays}
+use Rattle.clerk.specs.Calls.{tankFor, changed, changeSays, questionKind, listingKind, changeKind, kindOf, editSays}
 use Rattle.clerk.specs.Desk.{Settled, afterOp, sideAfter, saysOf, Performs}
 
 -- of `answered`
@@ -42,7 +43,7 @@ module _ (s : Tanks) (side : Side) (c : Call) (body d : List ℕ) (at : ℕ) (ou
   change-serves Change.Remove = λ r k done says. record { sound = done .called .sound; settled = kept; is = done .called .is; keeps = refl; answer = adds-as (ap₂ firstSays (done .called .number-is) (done .first-is)) says }
   change-serves Change.Age = tt
 
-  -- no question is one of them
+  -- no question is one of them, and no list
   question-serves : (q : Question) → Serves s side c body d at out (Op.Question q) (questionKind q)
   unfolding questionKind
   question-serves Question.Length = tt
@@ -59,12 +60,22 @@ module _ (s : Tanks) (side : Side) (c : Call) (body d : List ℕ) (at : ℕ) (ou
   question-serves Question.Find = tt
   question-serves Question.Propose = tt
 
+  listing-serves : (l : Listing) → Serves s side c body d at out (Op.Listing l) (listingKind l)
+  unfolding listingKind
+  listing-serves Listing.Stretches = tt
+  listing-serves Listing.StretchesNeeded = tt
+  listing-serves Listing.Whole = tt
+  listing-serves Listing.WholeNeeded = tt
+  listing-serves Listing.Anchors = tt
+  listing-serves Listing.Save = tt
+  listing-serves Listing.SaveNeeded = tt
+
   serves : (op : Op) → Serves s side c body d at out op (kindOf op (side .party) c)
   unfolding kindOf
   serves Op.Nothing = tt
   serves (Op.Change e) = change-serves e
   serves (Op.Question q) = question-serves q
-  serves (Op.Listing l) = tt
+  serves (Op.Listing l) = listing-serves l
   serves (Op.Text x) = tt
   serves (Op.Desk x) = tt
   serves (Op.Both b) = tt

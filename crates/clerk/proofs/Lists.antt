@@ -14,15 +14,23 @@ use Rattle.lists.specs.declared.Listed.{Listed}
 use Rattle.lists.specs.declared.anchors.Anchor.{Anchor}
 use Rattle.lists.specs.Lists.{rangeList, wholeList, rangeRefusal, listRefusal, rangeNumber, wholeNumber, unlessRefused, filledBeside}
 use Rattle.lists.specs.Anchors.{anchors, anchorsNeeded, anchorsNumber}
-use Rattle.lists.proofs.ListLaws.{empty-list}
-use Rattle.tank.specs.Rules.{View, shownTo}
+use Rattle.lists.proofs.ListLaws.{empty-list, handed-part, handed-count}
+use Rattle.runs.proofs.SumLaws.{sum-next}
+use Rattle.tank.specs.Rules.{View, runsHeld}
+use Rattle.tank.specs.State.{view}
 use Rattle.tank.proofs.Calls.{asked-over}
-use Rattle.tanks.specs.declared.Tanks.{Tanks}
+use Rattle.tank.proofs.NarrowLaws.{shown-fewer}
+use Rattle.tank.proofs.Unique.{runs-held}
+use Rattle.tanks.specs.declared.Head.{Head}
+use Rattle.tanks.specs.declared.Run.{Run}
+use Rattle.tanks.specs.declared.Table.{Table}
 use Rattle.tanks.specs.House.{House, noTank, shownAt}
-use Rattle.tanks.specs.Pool.{meaning, Sound}
+use Rattle.tanks.specs.Looks.{Stands, shownIn}
+use Rattle.tanks.specs.Pool.{runsIn, tankIn}
 use Rattle.ask.specs.Asks.{askAt, noList}
-use Rattle.ask.proofs.AskLaws.{asked-part, asked-count}
-use Rattle.ask.proofs.Most.{most-range, most-whole}
+use Rattle.ask.specs.Parts.{askIn}
+use Rattle.ask.proofs.Most.{list-few}
+use Rattle.ask.proofs.Standing.{ListedIn}
 use Rattle.answers.specs.Replies.{refusedSays, orRefused, listSays, anchorSays, anchorsSay}
 use Rattle.clerk.specs.Calls.{allAnchorsSay}
 
@@ -36,54 +44,65 @@ least-room most lower room n h =
       | no k ↦ ap (λ (b : Bool). cond (eqb lower 0) (cond b 11 0) lower) (le-ltb (min room most) n (omega arith) ∙ sym (le-ltb room n (omega arith)))
     ]
 
--- `lent` places are lent where a call names `room`
-module _ (who : Party) (s : Tanks) (ok : Sound s) (t room lent : ℕ) (least : lent ≡ min room 1536) (h : t < 8) where
-  -- a range past the end is refused by 4 before any room is asked for
-  pub range-room : (a b : ℕ) → rangeNumber a b lent (shownAt (meaning s) who t) ≡ rangeNumber a b room (shownAt (meaning s) who t)
-  unfolding rangeRefusal listRefusal shownTo
-  range-room a b =
-      let v = shownAt (meaning s) who t in
-      ap (λ (n : ℕ). rangeNumber a b n v) least
-      ∙ elim (decLt (v .length) b) [
-        | yes k ↦
-            elim (decLt a b) [
-              | yes l ↦ rw (asked-over a b 0 v l k)
-              | no l ↦ least-room 1536 (rangeRefusal a b v) room (length (rangeList a b v)) (omega (arith, ap length (empty-list a b v (omega arith))))
-            ]
-        | no k ↦ least-room 1536 (rangeRefusal a b v) room (length (rangeList a b v)) (omega (arith, most-range s ok t h who a b (omega arith)))
-      ]
+-- a tank that stands in a pool of 512 runs has no list of more than 1,536 numbers
+module _ {hs : List Head} {pool : List Run} {table : Table} {t : ℕ} (ok : Stands hs pool table t) (who : Party) where
+  shown-few : runsHeld (shownIn hs pool table t who) ≤ 512
+  unfolding tankIn
+  shown-few = omega (arith, shown-fewer who (view (tankIn hs pool table t)), runs-held (ok .formed .laid), sum-next (runsIn hs) t 8 (ok .inside), ok .room)
 
-  pub whole-room : wholeNumber lent (shownAt (meaning s) who t) ≡ wholeNumber room (shownAt (meaning s) who t)
-  whole-room =
-      ap (λ (n : ℕ). wholeNumber n (shownAt (meaning s) who t)) least
-      ∙ least-room 1536 0 room (length (wholeList (shownAt (meaning s) who t))) (omega (arith, most-whole s ok t h who))
+  -- `lent` places are lent where a call names `room`
+  module _ (room lent : ℕ) (least : lent ≡ min room 1536) where
+    -- a range past the end is refused by 4 before any room is asked for
+    pub range-room : (a b : ℕ) → rangeNumber a b lent (shownIn hs pool table t who) ≡ rangeNumber a b room (shownIn hs pool table t who)
+    unfolding rangeRefusal listRefusal
+    range-room a b =
+        let v = shownIn hs pool table t who in
+        ap (λ (n : ℕ). rangeNumber a b n v) least
+        ∙ elim (decLt (v .length) b) [
+          | yes k ↦
+              elim (decLt a b) [
+                | yes l ↦ rw (asked-over a b 0 v l k)
+                | no l ↦ least-room 1536 (rangeRefusal a b v) room (length (rangeList a b v)) (omega (arith, ap length (empty-list a b v (omega arith))))
+              ]
+          | no k ↦ least-room 1536 (rangeRefusal a b v) room (length (rangeList a b v)) (omega (arith, list-few 0 a b v (omega arith), shown-few))
+        ]
+
+    pub whole-room : wholeNumber lent (shownIn hs pool table t who) ≡ wholeNumber room (shownIn hs pool table t who)
+    whole-room =
+        let v = shownIn hs pool table t who in
+        ap (λ (n : ℕ). wholeNumber n v) least ∙ least-room 1536 0 room (length (wholeList v)) (omega (arith, list-few 1 0 (v .length) v (omega arith), shown-few))
 
 -- ---- what a list of stretches says
-said-by : (b : Bool) (n t : ℕ) (ys part : List ℕ) (l : Listed) → l ≡ cond b noList (filledBeside n ys) → part ≡ cond b [] (unlessRefused n ys) → orRefused (l .number) (listSays t part) ≡ cond b (refusedSays 1) (orRefused n (listSays t ys))
-said-by true n t ys part l e g = ap (λ (x : Listed). orRefused (x .number) (listSays t part)) e
-said-by false n t ys part l e g =
-    ap₂ (λ (x : Listed) (zs : List ℕ). orRefused (x .number) (listSays t zs)) e g ∙ only-given (eqb n 0)
+said-by : (b : Bool) (n t : ℕ) (ys out last : List ℕ) (l : Listed) → l ≡ cond b noList (filledBeside n ys) → last ≡ cond b out (inFront (unlessRefused n ys) out)
+    → orRefused (l .number) (listSays t (take (l .count) last)) ≡ cond b (refusedSays 1) (orRefused n (listSays t ys))
+said-by true n t ys out last l e g = ap (λ (x : Listed). orRefused (x .number) (listSays t (take (l .count) last))) e
+said-by false n t ys out last l e g =
+    ap₂ (λ (x : Listed) (zs : List ℕ). orRefused (x .number) (listSays t zs)) e (handed-part n ys out l last (e, g)) ∙ only-given (eqb n 0)
   where
     only-given : (z : Bool) → cond z (listSays t (cond z ys [])) (refusedSays n) ≡ cond z (listSays t ys) (refusedSays n)
     only-given true = refl
     only-given false = refl
 
+inside-by : (b : Bool) (n : ℕ) (ys out last : List ℕ) (l : Listed) → l ≡ cond b noList (filledBeside n ys) → last ≡ cond b out (inFront (unlessRefused n ys) out) → l .count ≤ length last
+inside-by true n ys out last l e g = omega (arith, ap (λ (x : Listed). x .count) e)
+inside-by false n ys out last l e g = omega (arith, handed-count n ys out l last (e, g), length-take (l .count) last)
+
 -- `near` judges by the room that is lent, `far` by the room that the call names
-module _ (h : House) (t : ℕ) (who : Party) (near far : View → ℕ) (xs : View → List ℕ) (same : t < 8 → near (shownAt h who t) ≡ far (shownAt h who t)) (out : List ℕ) (l : Listed) (last : List ℕ)
-    (said : (l ≡ askAt h t who noList (λ v. filledBeside (near v) (xs v))) × (last ≡ askAt h t who out (λ v. inFront (unlessRefused (near v) (xs v)) out))) where
-  far-says : askAt h t who (refusedSays 1) (λ v. orRefused (near v) (listSays t (xs v))) ≡ askAt h t who (refusedSays 1) (λ v. orRefused (far v) (listSays t (xs v)))
+module _ (hs : List Head) (pool : List Run) (table : Table) (t : ℕ) (who : Party) (near far : View → ℕ) (xs : View → List ℕ)
+    (same : t < 8 → near (shownIn hs pool table t who) ≡ far (shownIn hs pool table t who)) (out : List ℕ) (l : Listed) (last : List ℕ) (said : ListedIn hs pool table t who near xs out l last) where
+  far-says : askIn hs pool table t who (refusedSays 1) (λ v. orRefused (near v) (listSays t (xs v))) ≡ askIn hs pool table t who (refusedSays 1) (λ v. orRefused (far v) (listSays t (xs v)))
   far-says =
       elim (decLt t 8) [
-        | yes k ↦ ap (λ (n : ℕ). cond (noTank t) (refusedSays 1) (orRefused n (listSays t (xs (shownAt h who t))))) (same k)
+        | yes k ↦ ap (λ (n : ℕ). cond (noTank t) (refusedSays 1) (orRefused n (listSays t (xs (shownIn hs pool table t who))))) (same k)
         | no k ↦ rw (le-leb 8 t (omega arith))
       ]
 
-  pub list-said : orRefused (l .number) (listSays t (take (l .count) last)) ≡ askAt h t who (refusedSays 1) (λ v. orRefused (far v) (listSays t (xs v)))
-  list-said = said-by (noTank t) (near (shownAt h who t)) t (xs (shownAt h who t)) (take (l .count) last) l (said .0) (asked-part h t who near xs out l last said) ∙ far-says
+  pub list-said : orRefused (l .number) (listSays t (take (l .count) last)) ≡ askIn hs pool table t who (refusedSays 1) (λ v. orRefused (far v) (listSays t (xs v)))
+  list-said = said-by (noTank t) (near (shownIn hs pool table t who)) t (xs (shownIn hs pool table t who)) out last l (said .0) (said .1) ∙ far-says
 
   -- the list is within what was lent
   pub list-inside : l .count ≤ length last
-  list-inside = omega (arith, asked-count h t who near xs out l last said, length-take (l .count) last)
+  list-inside = inside-by (noTank t) (near (shownIn hs pool table t who)) (xs (shownIn hs pool table t who)) out last l (said .0) (said .1)
 
 -- ---- anchors
 -- one anchor more is said

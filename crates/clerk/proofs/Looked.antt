@@ -1,4 +1,4 @@
--- A question of one tank that is answered from the parts of the state performs the call that asks it.
+-- A question or a list of one tank that is answered from the parts of the state performs the call that asks for it.
 use Prim.Native.Nat.{ℕ}
 use mathlib.Core.Bool.{false}
 use mathlib.Core.List.{List, []}
@@ -8,6 +8,7 @@ use Rattle.questions.specs.declared.Asked.{Asked}
 use Rattle.questions.specs.declared.Shown.{Shown}
 use Rattle.questions.specs.declared.Told.{Told}
 use Rattle.questions.specs.Questions.{setOf, sharedOf, extentOf, valueAt, stylesAt, styleAt, stretchAt, stylesForInsert, styleForInsert, rangeContainsKey, rangeHasKeyValue, stylesOfRange}
+use Rattle.lists.specs.Lists.{rangeList, wholeList, rangeNeeded, wholeNeeded, rangeNumber, wholeNumber}
 use Rattle.tank.specs.Rules.{View}
 use Rattle.tanks.specs.declared.Head.{Head}
 use Rattle.tanks.specs.declared.Run.{Run}
@@ -15,32 +16,40 @@ use Rattle.tanks.specs.declared.Table.{Table}
 use Rattle.tanks.specs.declared.Tanks.{Tanks}
 use Rattle.tanks.specs.Contracts.{placeOf}
 use Rattle.tanks.specs.Pool.{noTable, meaning, Sound}
-use Rattle.ask.specs.Asks.{askAt}
+use Rattle.ask.specs.Asks.{askAt, noList}
 use Rattle.ask.specs.Parts.{askIn}
 use Rattle.ask.proofs.Standing.{asked-there}
 use Rattle.script.specs.declared.Call.{Call}
 use Rattle.script.specs.declared.Change.{Change}
+use Rattle.script.specs.declared.Listing.{Listing}
 use Rattle.script.specs.declared.Op.{Op}
 use Rattle.script.specs.declared.Question.{Question}
 use Rattle.script.specs.Args.{numberAt, keyAt}
 use Rattle.styles.specs.declared.Party.{Party}
 use Rattle.answers.specs.Waiting.{Pieces, Adds}
-use Rattle.answers.specs.Replies.{toldSays, shownSays, askedSays, setSays, sharedSays, extentSays}
+use Rattle.answers.specs.Replies.{refusedSays, orRefused, toldSays, shownSays, askedSays, setSays, sharedSays, extentSays, neededSays, listSays}
 use Rattle.answers.proofs.Laws.{adds-as}
 use Rattle.clerk.specs.declared.Kind.{Kind}
+use Rattle.clerk.specs.declared.Look.{Look}
 use Rattle.clerk.specs.declared.Side.{Side}
-use Rattle.clerk.specs.Calls.{tankFor, startIn, endIn, answerSays, lookSays, questionKind, changeKind, kindOf}
+use Rattle.clerk.specs.Calls.{tankFor, startIn, endIn, answerSays, listingSays, wholeSays, lookSays, wholeLook, listLookSays, looksSay, questionKind, listingKind, changeKind, kindOf}
 use Rattle.clerk.specs.Desk.{Settled, afterOp, sideAfter, saysOf, Performs}
 
 -- of `looked`
 pub as-look : (hs : List Head) (pool : List Run) (table : Table) (who : Party) (c : Call) {d out : List ℕ} {at k : ℕ} {q p : Question} → q ≡ p → Adds d at (lookSays p hs pool table who c) k out → Adds d at (lookSays q hs pool table who c) k out
 as-look hs pool table who c {d} {out} {at} {k} e = subst (λ (x : Question). Adds d at (lookSays x hs pool table who c) k out) (sym e)
 
--- where a call is a question of one tank, its answer from the parts at the tank's place performs it as one of its op
+pub as-list-look : (hs : List Head) (pool : List Run) (table : Table) (who : Party) (c : Call) {d out : List ℕ} {at k : ℕ} {l m : Listing} → l ≡ m → Adds d at (listLookSays m hs pool table who c) k out → Adds d at (listLookSays l hs pool table who c) k out
+as-list-look hs pool table who c {d} {out} {at} {k} e = subst (λ (x : Listing). Adds d at (listLookSays x hs pool table who c) k out) (sym e)
+
+pub as-looks : (hs : List Head) (pool : List Run) (table : Table) (who : Party) (c : Call) {d out : List ℕ} {at k : ℕ} {l m : Look} → l ≡ m → Adds d at (looksSay m hs pool table who c) k out → Adds d at (looksSay l hs pool table who c) k out
+as-looks hs pool table who c {d} {out} {at} {k} e = subst (λ (x : Look). Adds d at (looksSay x hs pool table who c) k out) (sym e)
+
+-- where a call is a question or a list of one tank, its answer from the parts at the tank's place performs it as one of its op
 abbrev Looked : Tanks → ℕ → Side → Call → List ℕ → List ℕ → ℕ → List ℕ → Op → Kind → Type 0
 Looked s u side c body d at out op Kind.Asks = Unit
 Looked s u side c body d at out op (Kind.Looks q) =
-    (k : ℕ) → Adds d at (lookSays q (s .heads) (s .pool) (getD (s .tables) u noTable) (side .party) c) k out → Performs op s side c body d at (record { tanks = s; side = side; at = k }) out
+    (k : ℕ) → Adds d at (looksSay q (s .heads) (s .pool) (getD (s .tables) u noTable) (side .party) c) k out → Performs op s side c body d at (record { tanks = s; side = side; at = k }) out
 Looked s u side c body d at out op (Kind.Edits e) = Unit
 Looked s u side c body d at out op Kind.Other = Unit
 
@@ -55,7 +64,7 @@ module _ (s : Tanks) (u : ℕ) (side : Side) (c : Call) (body d : List ℕ) (at 
   answered q e k says = record { sound = ok; settled = kept; is = refl; keeps = refl; answer = adds-as e says }
 
   question-looks : (q : Question) → Looked s u side c body d at out (Op.Question q) (questionKind q)
-  unfolding questionKind lookSays answerSays
+  unfolding questionKind looksSay lookSays answerSays
   question-looks Question.Length = tt
   question-looks Question.Touched = tt
   question-looks Question.Runs = tt
@@ -69,6 +78,21 @@ module _ (s : Tanks) (u : ℕ) (side : Side) (c : Call) (body d : List ℕ) (at 
   question-looks Question.Inherited = answered Question.Inherited (ap askedSays (there (Asked.Refused 1) (styleForInsert (numberAt c 1) (numberAt c 2))))
   question-looks Question.Find = answered Question.Find (ap extentSays (there (extentOf 1 0 0) (stretchAt (numberAt c 1))))
   question-looks Question.Propose = tt
+
+  listed : (l : Listing) {says : Pieces} → says ≡ listingSays l (meaning s) (side .party) c → (k : ℕ) → Adds d at says k out
+      → Performs (Op.Listing l) s side c body d at (record { tanks = s; side = side; at = k }) out
+  unfolding afterOp sideAfter saysOf
+  listed l e k says = record { sound = ok; settled = kept; is = refl; keeps = refl; answer = adds-as e says }
+
+  listing-looks : (l : Listing) → Looked s u side c body d at out (Op.Listing l) (listingKind l)
+  unfolding listingKind looksSay listLookSays listingSays wholeLook wholeSays
+  listing-looks Listing.Stretches = listed Listing.Stretches (there (refusedSays 1) (λ v. orRefused (rangeNumber (startIn c) (endIn c) (numberAt c 3) v) (listSays (tankFor c) (rangeList (startIn c) (endIn c) v))))
+  listing-looks Listing.StretchesNeeded = listed Listing.StretchesNeeded (ap neededSays (there noList (rangeNeeded (startIn c) (endIn c))))
+  listing-looks Listing.Whole = listed Listing.Whole (there (refusedSays 1) (λ v. orRefused (wholeNumber (numberAt c 1) v) (listSays (tankFor c) (wholeList v))))
+  listing-looks Listing.WholeNeeded = listed Listing.WholeNeeded (ap neededSays (there noList wholeNeeded))
+  listing-looks Listing.Anchors = tt
+  listing-looks Listing.Save = tt
+  listing-looks Listing.SaveNeeded = tt
 
   -- no change is one
   change-looks : (e : Change) → Looked s u side c body d at out (Op.Change e) (changeKind e (side .party) c)
@@ -85,11 +109,11 @@ module _ (s : Tanks) (u : ℕ) (side : Side) (c : Call) (body d : List ℕ) (at 
   looks Op.Nothing = tt
   looks (Op.Change e) = change-looks e
   looks (Op.Question q) = question-looks q
-  looks (Op.Listing l) = tt
+  looks (Op.Listing l) = listing-looks l
   looks (Op.Text x) = tt
   looks (Op.Desk x) = tt
   looks (Op.Both b) = tt
 
-  pub looked : {q : Question} → kindOf (c .op) (side .party) c ≡ Kind.Looks q → (k : ℕ) → Adds d at (lookSays q (s .heads) (s .pool) (getD (s .tables) u noTable) (side .party) c) k out
+  pub looked : {q : Look} → kindOf (c .op) (side .party) c ≡ Kind.Looks q → (k : ℕ) → Adds d at (looksSay q (s .heads) (s .pool) (getD (s .tables) u noTable) (side .party) c) k out
       → Performs (c .op) s side c body d at (record { tanks = s; side = side; at = k }) out
   looked e = subst (Looked s u side c body d at out (c .op)) e (looks (c .op))

@@ -21,10 +21,11 @@ use Rattle.answers.specs.Waiting.{Pieces, Adds}
 use Rattle.answers.proofs.Laws.{no-piece}
 use Rattle.clerk.specs.declared.Done.{Done}
 use Rattle.clerk.specs.declared.Kind.{Kind}
+use Rattle.clerk.specs.declared.Look.{Look}
 use Rattle.clerk.specs.declared.Moved.{Moved}
 use Rattle.clerk.specs.declared.Noted.{Noted}
 use Rattle.clerk.specs.declared.Side.{Side}
-use Rattle.clerk.specs.Calls.{changed, changeSays, answerSays, listingSays, questionKind, changeKind, kindOf, askingSays, Changes}
+use Rattle.clerk.specs.Calls.{changed, changeSays, answerSays, listingSays, questionKind, listingKind, changeKind, kindOf, askingSays, Changes}
 use Rattle.clerk.specs.Desk.{Settled, textHouse, textSide, textSays, deskSide, deskSays, bothHouse, bothSide, bothSays, afterOp, sideAfter, saysOf, Notes, Moves, Performs}
 
 -- ---- What a call is
@@ -65,6 +66,17 @@ question-other-not Question.Mark = refl
 question-other-not Question.Inherited = refl
 question-other-not Question.Find = refl
 question-other-not Question.Propose = refl
+
+-- nor is a list
+listing-other-not : (l : Listing) → isOther (listingKind l) ≡ false
+unfolding listingKind
+listing-other-not Listing.Stretches = refl
+listing-other-not Listing.StretchesNeeded = refl
+listing-other-not Listing.Whole = refl
+listing-other-not Listing.WholeNeeded = refl
+listing-other-not Listing.Anchors = refl
+listing-other-not Listing.Save = refl
+listing-other-not Listing.SaveNeeded = refl
 
 -- no change is a question
 change-asks-not : (e : Change) (who : Party) (c : Call) → isAsks (changeKind e who c) ≡ false
@@ -175,7 +187,7 @@ module _ (who : Party) (c : Call) {op : Op} (other : kindOf op who c ≡ Kind.Ot
 
   pub no-listing : {l : Listing} → op ≡ Op.Listing l → {P : Type 0} → P
   unfolding kindOf
-  no-listing e = absurd (true≢false (sym (ap (λ (o : Op). isAsks (kindOf o who c)) e) ∙ ap isAsks other))
+  no-listing {l} e = absurd (true≢false (sym (ap isOther other) ∙ ap (λ (o : Op). isOther (kindOf o who c)) e ∙ listing-other-not l))
 
   -- is, where it changes the tanks, another change
   pub other-change : {e : Change} → op ≡ Op.Change e → changeKind e who c ≡ Kind.Other
@@ -187,8 +199,16 @@ pub state-question : (who : Party) (c : Call) {op : Op} {q : Question} → kindO
 unfolding kindOf
 state-question who c asks e = sym (ap (λ (o : Op). kindOf o who c) e) ∙ asks
 
-pub no-look : {q p x : Question} → q ≡ p → questionKind p ≡ Kind.Looks x → questionKind q ≡ Kind.Asks → {P : Type 0} → P
+pub no-look : {q p : Question} {x : Look} → q ≡ p → questionKind p ≡ Kind.Looks x → questionKind q ≡ Kind.Asks → {P : Type 0} → P
 no-look e look asks = absurd (true≢false (sym (ap isAsks asks) ∙ ap isAsks (ap questionKind e ∙ look)))
+
+-- nor is such a list
+pub state-listing : (who : Party) (c : Call) {op : Op} {l : Listing} → kindOf op who c ≡ Kind.Asks → op ≡ Op.Listing l → listingKind l ≡ Kind.Asks
+unfolding kindOf
+state-listing who c asks e = sym (ap (λ (o : Op). kindOf o who c) e) ∙ asks
+
+pub no-list-look : {l m : Listing} {x : Look} → l ≡ m → listingKind m ≡ Kind.Looks x → listingKind l ≡ Kind.Asks → {P : Type 0} → P
+no-list-look e look asks = absurd (true≢false (sym (ap isAsks asks) ∙ ap isAsks (ap listingKind e ∙ look)))
 
 -- and such a change is none of the four
 pub no-edit : (who : Party) (c : Call) {e f : Change} {x : Edit} → e ≡ f → changeKind f who c ≡ Kind.Edits x → changeKind e who c ≡ Kind.Other → {P : Type 0} → P

@@ -11,7 +11,7 @@ use Rattle.questions.specs.declared.Asked.{Asked}
 use Rattle.questions.specs.declared.Shown.{Shown}
 use Rattle.questions.specs.declared.Told.{Told}
 use Rattle.questions.specs.Questions.{setOf, sharedOf, extentOf, valueAt, stylesAt, styleAt, stretchAt, stylesForInsert, styleForInsert, rangeContainsKey, rangeHasKeyValue, stylesOfRange}
-use Rattle.lists.specs.Lists.{rangeList, wholeList, rangeNumber, wholeNumber}
+use Rattle.lists.specs.Lists.{rangeList, wholeList, rangeNeeded, wholeNeeded, rangeNumber, wholeNumber}
 use Rattle.lists.specs.Anchors.{anchors, anchorsNumber}
 use Rattle.tank.specs.Rules.{View, Edit, annotating, inserting, deleting, removing}
 use Rattle.tanks.specs.declared.Edit as code
@@ -25,7 +25,7 @@ use Rattle.tanks.specs.Pool.{meaning, Sound}
 use Rattle.tanks.specs.Contracts.{counts, says}
 use Rattle.night.specs.Ageings.{ageNumberBy, agedHouseBy, droppedBy, remainingBy}
 use Rattle.night.specs.Proposing.{proposalAt}
-use Rattle.ask.specs.Asks.{askAt, valueAsked, marksAsked, markAsked, stretchAsked, inheritAsked, inheritedAsked, keyAsked, allValueAsked, sameAsked, rangeNeededAsked, wholeNeededAsked}
+use Rattle.ask.specs.Asks.{askAt, noList, valueAsked, marksAsked, markAsked, stretchAsked, inheritAsked, inheritedAsked, keyAsked, allValueAsked, sameAsked, rangeNeededAsked, wholeNeededAsked}
 use Rattle.ask.specs.Parts.{askIn}
 use Rattle.saved.specs.Writes.{written, writeNumber}
 use Rattle.script.specs.declared.Call.{Call}
@@ -39,6 +39,7 @@ use Rattle.answers.specs.Waiting.{Pieces, Adds}
 use Rattle.answers.specs.Replies.{lineSays, refusedSays, orRefused, acceptedSays, stylesSay, firstSays, agedSays, countSays, touchedSays, toldSays, shownSays, askedSays, setSays, sharedSays, extentSays, proposalSays, neededSays, listSays, anchorsSay, bytesSay}
 use Rattle.clerk.specs.declared.Done.{Done}
 use Rattle.clerk.specs.declared.Kind.{Kind}
+use Rattle.clerk.specs.declared.Look.{Look}
 
 -- ---- What a call speaks of, by the order of its op's fields
 -- the tank is the first number of every call but `open`
@@ -163,22 +164,51 @@ listingSays Listing.Anchors h who c = askAt h (tankFor c) who (refusedSays 1) (�
 listingSays Listing.Save h who c = saveSays h (numberAt c 0)
 listingSays Listing.SaveNeeded h who c = saveNeededSays h
 
+-- the marked stretches that a party is shown of a tank, from the parts of the state that it stands in
+unfoldable pub wholeLook : List Head → List Run → Table → Party → ℕ → ℕ → Pieces
+wholeLook hs pool table who t room = askIn hs pool table t who (refusedSays 1) (λ v. orRefused (wholeNumber room v) (listSays t (wholeList v)))
+
+-- of a list of one tank's stretches, from these parts: the same rows; the other lists are not among these
+unfoldable pub listLookSays : Listing → List Head → List Run → Table → Party → Call → Pieces
+listLookSays Listing.Stretches hs pool table who c = askIn hs pool table (tankFor c) who (refusedSays 1) (λ v. orRefused (rangeNumber (startIn c) (endIn c) (numberAt c 3) v) (listSays (tankFor c) (rangeList (startIn c) (endIn c) v)))
+listLookSays Listing.StretchesNeeded hs pool table who c = neededSays (askIn hs pool table (tankFor c) who noList (rangeNeeded (startIn c) (endIn c)))
+listLookSays Listing.Whole hs pool table who c = wholeLook hs pool table who (tankFor c) (numberAt c 1)
+listLookSays Listing.WholeNeeded hs pool table who c = neededSays (askIn hs pool table (tankFor c) who noList wholeNeeded)
+listLookSays Listing.Anchors hs pool table who c = []
+listLookSays Listing.Save hs pool table who c = []
+listLookSays Listing.SaveNeeded hs pool table who c = []
+
+-- of a question or a list
+unfoldable pub looksSay : Look → List Head → List Run → Table → Party → Call → Pieces
+looksSay (Look.Question q) hs pool table who c = lookSays q hs pool table who c
+looksSay (Look.Listing l) hs pool table who c = listLookSays l hs pool table who c
+
 -- ---- Any op, by a party: a question, of one tank where it stands or of the state, an edit of one tank as the code has it, or any other call
 -- a question; the length, the touch and the runs are in the heads, and a proposal is made of a tank taken out
 unfoldable pub questionKind : Question → Kind
 questionKind Question.Length = Kind.Asks
 questionKind Question.Touched = Kind.Asks
 questionKind Question.Runs = Kind.Asks
-questionKind Question.Value = Kind.Looks Question.Value
-questionKind Question.HasKey = Kind.Looks Question.HasKey
-questionKind Question.AllValue = Kind.Looks Question.AllValue
-questionKind Question.Same = Kind.Looks Question.Same
-questionKind Question.Marks = Kind.Looks Question.Marks
-questionKind Question.Inherit = Kind.Looks Question.Inherit
-questionKind Question.Mark = Kind.Looks Question.Mark
-questionKind Question.Inherited = Kind.Looks Question.Inherited
-questionKind Question.Find = Kind.Looks Question.Find
+questionKind Question.Value = Kind.Looks (Look.Question Question.Value)
+questionKind Question.HasKey = Kind.Looks (Look.Question Question.HasKey)
+questionKind Question.AllValue = Kind.Looks (Look.Question Question.AllValue)
+questionKind Question.Same = Kind.Looks (Look.Question Question.Same)
+questionKind Question.Marks = Kind.Looks (Look.Question Question.Marks)
+questionKind Question.Inherit = Kind.Looks (Look.Question Question.Inherit)
+questionKind Question.Mark = Kind.Looks (Look.Question Question.Mark)
+questionKind Question.Inherited = Kind.Looks (Look.Question Question.Inherited)
+questionKind Question.Find = Kind.Looks (Look.Question Question.Find)
 questionKind Question.Propose = Kind.Asks
+
+-- a list; anchors are made of a tank taken out, and a text is of the state
+unfoldable pub listingKind : Listing → Kind
+listingKind Listing.Stretches = Kind.Looks (Look.Listing Listing.Stretches)
+listingKind Listing.StretchesNeeded = Kind.Looks (Look.Listing Listing.StretchesNeeded)
+listingKind Listing.Whole = Kind.Looks (Look.Listing Listing.Whole)
+listingKind Listing.WholeNeeded = Kind.Looks (Look.Listing Listing.WholeNeeded)
+listingKind Listing.Anchors = Kind.Asks
+listingKind Listing.Save = Kind.Asks
+listingKind Listing.SaveNeeded = Kind.Asks
 
 -- a change; opening and ageing are none of the four edits
 unfoldable pub changeKind : Change → Party → Call → Kind
@@ -194,7 +224,7 @@ unfoldable pub kindOf : Op → Party → Call → Kind
 kindOf Op.Nothing who c = Kind.Other
 kindOf (Op.Change e) who c = changeKind e who c
 kindOf (Op.Question q) who c = questionKind q
-kindOf (Op.Listing l) who c = Kind.Asks
+kindOf (Op.Listing l) who c = listingKind l
 kindOf (Op.Text x) who c = Kind.Other
 kindOf (Op.Desk d) who c = Kind.Other
 kindOf (Op.Both b) who c = Kind.Other

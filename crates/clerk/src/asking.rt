@@ -9,6 +9,7 @@ ghost use Rattle.answers.specs.Waiting.{Adds, pieceRoom};
 ghost use Rattle.ask.specs.Parts.{CanAsk};
 ghost use Rattle.clerk.specs.Calls.{tankFor, answerSays, lookSays, questionKind};
 use super::Kind;
+use super::Look;
 use answers::put_asked;
 use answers::put_count;
 use answers::put_extent;
@@ -262,15 +263,15 @@ pub fn question_kind(q: Question) -> Kind
         Question::Length => Kind::Asks,
         Question::Touched => Kind::Asks,
         Question::Runs => Kind::Asks,
-        Question::Value => Kind::Looks(Question::Value),
-        Question::HasKey => Kind::Looks(Question::HasKey),
-        Question::AllValue => Kind::Looks(Question::AllValue),
-        Question::Same => Kind::Looks(Question::Same),
-        Question::Marks => Kind::Looks(Question::Marks),
-        Question::Inherit => Kind::Looks(Question::Inherit),
-        Question::Mark => Kind::Looks(Question::Mark),
-        Question::Inherited => Kind::Looks(Question::Inherited),
-        Question::Find => Kind::Looks(Question::Find),
+        Question::Value => Kind::Looks(Look::Question(Question::Value)),
+        Question::HasKey => Kind::Looks(Look::Question(Question::HasKey)),
+        Question::AllValue => Kind::Looks(Look::Question(Question::AllValue)),
+        Question::Same => Kind::Looks(Look::Question(Question::Same)),
+        Question::Marks => Kind::Looks(Look::Question(Question::Marks)),
+        Question::Inherit => Kind::Looks(Look::Question(Question::Inherit)),
+        Question::Mark => Kind::Looks(Look::Question(Question::Mark)),
+        Question::Inherited => Kind::Looks(Look::Question(Question::Inherited)),
+        Question::Find => Kind::Looks(Look::Question(Question::Find)),
         Question::Propose => Kind::Asks,
     }
 }

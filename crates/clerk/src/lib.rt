@@ -17,7 +17,8 @@ ghost use Rattle.script.specs.Bodies.{Fits};
 ghost use Rattle.tanks.specs.Pool.{Sound, meaning};
 ghost use Rattle.answers.specs.Waiting.{Adds, pieceRoom};
 ghost use Rattle.clerk.specs.declared.Kind as kinds;
-ghost use Rattle.clerk.specs.Calls.{changeKind, answerSays, listingSays, questionKind, kindOf, askingSays, Changes};
+ghost use Rattle.ask.specs.Parts.{CanAsk};
+ghost use Rattle.clerk.specs.Calls.{tankFor, changeKind, answerSays, listingSays, looksSay, questionKind, listingKind, kindOf, askingSays, Changes};
 ghost use Rattle.clerk.specs.Desk.{emptySide, Settled, textHouse, textSide, textSays, deskSide, deskSays, bothHouse, bothSide, bothSays, Notes, Moves, Performs};
 ghost use Rattle.clerk.specs.Course.{malformedSays, Eats, Closes, Reads, Runs, RunsWhole};
 use answers::say;
@@ -42,14 +43,23 @@ use settings_text::Kept;
 use strip::legend::Legend;
 use styles::Party;
 use tanks::Edit;
+use tanks::Head;
+use tanks::Run;
 use tanks::Setting;
+use tanks::Table;
 use tanks::Tanks;
+
+// What is asked of one tank where it stands.
+pub enum Look {
+    Question(Question),
+    Listing(Listing),
+}
 
 // What the loop over calls does with one: it tells what is asked of the state, or of one tank where that stands, makes an edit of one
 // tank where the state stands, or hands the state on.
 pub enum Kind {
     Asks,
-    Looks(Question),
+    Looks(Look),
     Edits(Edit),
     Other,
 }
@@ -199,18 +209,18 @@ fn answer(s: Tanks, q: Question, who: Party, call: Call, out: &mut [u8], at: usi
     }
 }
 
-// One that asks for a list, or for the text of all tanks.
+// One that asks for anchors, or for the text of all tanks. A list of one tank's stretches is not made here, but from the parts of the state.
 fn listed(s: Tanks, l: Listing, who: Party, call: Call, out: &mut [u8], at: usize) -> usize
-    requires { ⌜ Sound s ⌝ }
+    requires { ⌜ Sound s × (listingKind l ≡ kinds.Kind.Asks) ⌝ }
     requires { ⌜ pieceRoom ≤ length (now out) ⌝ }
     ensures { λ r. ⌜ Adds (now (out .entry)) at (listingSays l (meaning s) who call) r (now (out .exit)) ⌝ }
 {
     let n = call.numbers;
     match l {
-        Listing::Stretches => listing::stretches(s, who, call, out, at),
-        Listing::StretchesNeeded => listing::stretches_needed(s, who, call, out, at),
-        Listing::Whole => whole(s, who, n[0], n[1], out, at),
-        Listing::WholeNeeded => listing::whole_needed(s, who, call, out, at),
+        Listing::Stretches => at,
+        Listing::StretchesNeeded => at,
+        Listing::Whole => at,
+        Listing::WholeNeeded => at,
         Listing::Anchors => listing::anchors(s, who, call, out, at),
         Listing::Save => texts::save(s, n[0], out, at),
         Listing::SaveNeeded => texts::save_needed(s, out, at),
@@ -283,10 +293,31 @@ fn kind_of(who: Party, call: Call) -> Kind
         Op::Nothing => Kind::Other,
         Op::Change(e) => editing::change_kind(e, who, call),
         Op::Question(q) => asking::question_kind(q),
-        Op::Listing(_) => Kind::Asks,
+        Op::Listing(l) => listing::listing_kind(l),
         Op::Text(_) => Kind::Other,
         Op::Desk(_) => Kind::Other,
         Op::Both(_) => Kind::Other,
+    }
+}
+
+// One that is asked of one tank, by a party: the answer comes from the parts of a state that the tank stands in.
+fn at_tank(
+    heads: [Head; 8],
+    pool: [Run; 512],
+    table: Table,
+    look: Look,
+    who: Party,
+    call: Call,
+    out: &mut [u8],
+    at: usize,
+) -> usize
+    requires { ⌜ CanAsk heads pool table (tankFor call) ⌝ }
+    requires { ⌜ pieceRoom ≤ length (now out) ⌝ }
+    ensures { λ r. ⌜ Adds (now (out .entry)) at (looksSay look heads pool table who call) r (now (out .exit)) ⌝ }
+{
+    match look {
+        Look::Question(q) => asking::looked(heads, pool, table, q, who, call, out, at),
+        Look::Listing(l) => listing::looked(heads, pool, table, l, who, call, out, at),
     }
 }
 
@@ -377,13 +408,13 @@ pub fn eat(bytes: &[u8], s: Tanks, stand: Stand, body: &mut [u8], out: &mut [u8]
                     Kind::Asks => {
                         at = told(tanks, who, call, out, at);
                     }
-                    Kind::Looks(q) => {
+                    Kind::Looks(look) => {
                         let n = call.numbers;
                         let u = tanks::place(n[0]);
                         let heads = tanks.heads;
                         let pool = tanks.pool;
                         let table = tanks.tables[u];
-                        at = asking::looked(heads, pool, table, q, who, call, out, at);
+                        at = at_tank(heads, pool, table, look, who, call, out, at);
                     }
                     Kind::Edits(edit) => {
                         let n = call.numbers;

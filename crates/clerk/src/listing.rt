@@ -10,7 +10,10 @@ ghost use Rattle.tanks.specs.Pool.{Sound, meaning};
 ghost use Rattle.lists.specs.Anchors.{anchors, Stands, rest};
 ghost use Rattle.answers.specs.Waiting.{Adds, pieceRoom};
 ghost use Rattle.answers.specs.Replies.{anchorsSay};
-ghost use Rattle.clerk.specs.Calls.{listingSays, wholeSays, allAnchorsSay};
+ghost use Rattle.ask.specs.Parts.{CanAsk};
+ghost use Rattle.clerk.specs.Calls.{tankFor, listingSays, wholeSays, wholeLook, listLookSays, listingKind, allAnchorsSay};
+use super::Kind;
+use super::Look;
 use answers::put_anchor;
 use answers::put_list;
 use answers::put_needed;
@@ -19,8 +22,12 @@ use answers::say;
 use lists::anchors::AnchorCursor;
 use lists::anchors::NextAnchor;
 use script::Call;
+use script::Listing;
 use styles::Party;
 use tank::Tank;
+use tanks::Head;
+use tanks::Run;
+use tanks::Table;
 use tanks::Tanks;
 
 // As many places as were named, and no more than there are: no list takes more than 1,515.
@@ -34,47 +41,84 @@ fn places(room: u64) -> usize
 }
 
 // The stretches over a range, in a lent part as long as the call has room.
-fn range_in(s: Tanks, who: Party, call: Call, part: &mut [u64], out: &mut [u8], at: usize) -> usize
-    requires { ⌜ Sound s ⌝ }
+fn range_in(
+    heads: [Head; 8],
+    pool: [Run; 512],
+    table: Table,
+    who: Party,
+    call: Call,
+    part: &mut [u64],
+    out: &mut [u8],
+    at: usize,
+) -> usize
+    requires { ⌜ CanAsk heads pool table (tankFor call) ⌝ }
     requires { ⌜ (length (now part) ≡ min (numberAt call 3) 1536) × (pieceRoom ≤ length (now out)) ⌝ }
-    ensures { λ r. ⌜ Adds (now (out .entry)) at (listingSays listings.Listing.Stretches (meaning s) who call) r (now (out .exit)) ⌝ }
+    ensures { λ r. ⌜ Adds (now (out .entry)) at (listLookSays listings.Listing.Stretches heads pool table who call) r (now (out .exit)) ⌝ }
 {
     let n = call.numbers;
-    let l = ask::list_range(s, n[0], who, n[1], n[2], part);
+    let l = ask::listed::list_range(heads, pool, table, n[0], who, n[1], n[2], part);
     put_list(out, at, n[0], l, part)
 }
 
-fn range_of(s: Tanks, who: Party, call: Call, buf: &mut [u64], out: &mut [u8], at: usize) -> usize
-    requires { ⌜ Sound s ⌝ }
+fn range_of(
+    heads: [Head; 8],
+    pool: [Run; 512],
+    table: Table,
+    who: Party,
+    call: Call,
+    buf: &mut [u64],
+    out: &mut [u8],
+    at: usize,
+) -> usize
+    requires { ⌜ CanAsk heads pool table (tankFor call) ⌝ }
     requires { ⌜ (1536 ≤ length (now buf)) × (pieceRoom ≤ length (now out)) ⌝ }
-    ensures { λ r. ⌜ Adds (now (out .entry)) at (listingSays listings.Listing.Stretches (meaning s) who call) r (now (out .exit)) ⌝ }
+    ensures { λ r. ⌜ Adds (now (out .entry)) at (listLookSays listings.Listing.Stretches heads pool table who call) r (now (out .exit)) ⌝ }
 {
     let n = call.numbers;
     let k = places(n[3]);
-    range_in(s, who, call, &mut buf[..k], out, at)
+    range_in(heads, pool, table, who, call, &mut buf[..k], out, at)
 }
 
-pub fn stretches(s: Tanks, who: Party, call: Call, out: &mut [u8], at: usize) -> usize
-    requires { ⌜ Sound s ⌝ }
+fn stretches(
+    heads: [Head; 8],
+    pool: [Run; 512],
+    table: Table,
+    who: Party,
+    call: Call,
+    out: &mut [u8],
+    at: usize,
+) -> usize
+    requires { ⌜ CanAsk heads pool table (tankFor call) ⌝ }
     requires { ⌜ pieceRoom ≤ length (now out) ⌝ }
-    ensures { λ r. ⌜ Adds (now (out .entry)) at (listingSays listings.Listing.Stretches (meaning s) who call) r (now (out .exit)) ⌝ }
+    ensures { λ r. ⌜ Adds (now (out .entry)) at (listLookSays listings.Listing.Stretches heads pool table who call) r (now (out .exit)) ⌝ }
 {
     let mut buf = [0u64; 1536];
-    range_of(s, who, call, &mut buf, out, at)
+    range_of(heads, pool, table, who, call, &mut buf, out, at)
 }
 
-pub fn stretches_needed(s: Tanks, who: Party, call: Call, out: &mut [u8], at: usize) -> usize
-    requires { ⌜ Sound s ⌝ }
+fn stretches_needed(
+    heads: [Head; 8],
+    pool: [Run; 512],
+    table: Table,
+    who: Party,
+    call: Call,
+    out: &mut [u8],
+    at: usize,
+) -> usize
+    requires { ⌜ CanAsk heads pool table (tankFor call) ⌝ }
     requires { ⌜ pieceRoom ≤ length (now out) ⌝ }
-    ensures { λ r. ⌜ Adds (now (out .entry)) at (listingSays listings.Listing.StretchesNeeded (meaning s) who call) r (now (out .exit)) ⌝ }
+    ensures { λ r. ⌜ Adds (now (out .entry)) at (listLookSays listings.Listing.StretchesNeeded heads pool table who call) r (now (out .exit)) ⌝ }
 {
     let n = call.numbers;
-    put_needed(out, at, ask::stretches_needed(s, n[0], who, n[1], n[2]))
+    let l = ask::listed::stretches_needed(heads, pool, table, n[0], who, n[1], n[2]);
+    put_needed(out, at, l)
 }
 
 // The marked stretches of a tank, likewise.
 fn whole_in(
-    s: Tanks,
+    heads: [Head; 8],
+    pool: [Run; 512],
+    table: Table,
     who: Party,
     tank: u64,
     room: u64,
@@ -82,16 +126,18 @@ fn whole_in(
     out: &mut [u8],
     at: usize,
 ) -> usize
-    requires { ⌜ Sound s ⌝ }
+    requires { ⌜ CanAsk heads pool table tank ⌝ }
     requires { ⌜ (length (now part) ≡ min room 1536) × (pieceRoom ≤ length (now out)) ⌝ }
-    ensures { λ r. ⌜ Adds (now (out .entry)) at (wholeSays (meaning s) who tank room) r (now (out .exit)) ⌝ }
+    ensures { λ r. ⌜ Adds (now (out .entry)) at (wholeLook heads pool table who tank room) r (now (out .exit)) ⌝ }
 {
-    let l = ask::list_whole(s, tank, who, part);
+    let l = ask::listed::list_whole(heads, pool, table, tank, who, part);
     put_list(out, at, tank, l, part)
 }
 
 fn whole_of(
-    s: Tanks,
+    heads: [Head; 8],
+    pool: [Run; 512],
+    table: Table,
     who: Party,
     tank: u64,
     room: u64,
@@ -99,12 +145,30 @@ fn whole_of(
     out: &mut [u8],
     at: usize,
 ) -> usize
-    requires { ⌜ Sound s ⌝ }
+    requires { ⌜ CanAsk heads pool table tank ⌝ }
     requires { ⌜ (1536 ≤ length (now buf)) × (pieceRoom ≤ length (now out)) ⌝ }
-    ensures { λ r. ⌜ Adds (now (out .entry)) at (wholeSays (meaning s) who tank room) r (now (out .exit)) ⌝ }
+    ensures { λ r. ⌜ Adds (now (out .entry)) at (wholeLook heads pool table who tank room) r (now (out .exit)) ⌝ }
 {
     let k = places(room);
-    whole_in(s, who, tank, room, &mut buf[..k], out, at)
+    whole_in(heads, pool, table, who, tank, room, &mut buf[..k], out, at)
+}
+
+fn whole_there(
+    heads: [Head; 8],
+    pool: [Run; 512],
+    table: Table,
+    who: Party,
+    tank: u64,
+    room: u64,
+    out: &mut [u8],
+    at: usize,
+) -> usize
+    requires { ⌜ CanAsk heads pool table tank ⌝ }
+    requires { ⌜ pieceRoom ≤ length (now out) ⌝ }
+    ensures { λ r. ⌜ Adds (now (out .entry)) at (wholeLook heads pool table who tank room) r (now (out .exit)) ⌝ }
+{
+    let mut buf = [0u64; 1536];
+    whole_of(heads, pool, table, who, tank, room, &mut buf, out, at)
 }
 
 // The marked stretches of a tank, as they are listed where there is room for so many numbers.
@@ -113,17 +177,88 @@ pub fn whole(s: Tanks, who: Party, tank: u64, room: u64, out: &mut [u8], at: usi
     requires { ⌜ pieceRoom ≤ length (now out) ⌝ }
     ensures { λ r. ⌜ Adds (now (out .entry)) at (wholeSays (meaning s) who tank room) r (now (out .exit)) ⌝ }
 {
-    let mut buf = [0u64; 1536];
-    whole_of(s, who, tank, room, &mut buf, out, at)
+    let heads = s.heads;
+    let pool = s.pool;
+    let tables = s.tables;
+    let table = tables[tanks::place(tank)];
+    whole_there(heads, pool, table, who, tank, room, out, at)
 }
 
-pub fn whole_needed(s: Tanks, who: Party, call: Call, out: &mut [u8], at: usize) -> usize
-    requires { ⌜ Sound s ⌝ }
+fn whole_needed(
+    heads: [Head; 8],
+    pool: [Run; 512],
+    table: Table,
+    who: Party,
+    call: Call,
+    out: &mut [u8],
+    at: usize,
+) -> usize
+    requires { ⌜ CanAsk heads pool table (tankFor call) ⌝ }
     requires { ⌜ pieceRoom ≤ length (now out) ⌝ }
-    ensures { λ r. ⌜ Adds (now (out .entry)) at (listingSays listings.Listing.WholeNeeded (meaning s) who call) r (now (out .exit)) ⌝ }
+    ensures { λ r. ⌜ Adds (now (out .entry)) at (listLookSays listings.Listing.WholeNeeded heads pool table who call) r (now (out .exit)) ⌝ }
 {
     let n = call.numbers;
-    put_needed(out, at, ask::whole_needed(s, n[0], who))
+    let l = ask::listed::whole_needed(heads, pool, table, n[0], who);
+    put_needed(out, at, l)
+}
+
+// The marked stretches of the tank that a call names, in the room that it names.
+fn whole_called(
+    heads: [Head; 8],
+    pool: [Run; 512],
+    table: Table,
+    who: Party,
+    call: Call,
+    out: &mut [u8],
+    at: usize,
+) -> usize
+    requires { ⌜ CanAsk heads pool table (tankFor call) ⌝ }
+    requires { ⌜ pieceRoom ≤ length (now out) ⌝ }
+    ensures { λ r. ⌜ Adds (now (out .entry)) at (listLookSays listings.Listing.Whole heads pool table who call) r (now (out .exit)) ⌝ }
+{
+    let n = call.numbers;
+    whole_there(heads, pool, table, who, n[0], n[1], out, at)
+}
+
+// A list of one tank's stretches, made from the parts of a state that it stands in; the others are not among these.
+pub fn looked(
+    heads: [Head; 8],
+    pool: [Run; 512],
+    table: Table,
+    l: Listing,
+    who: Party,
+    call: Call,
+    out: &mut [u8],
+    at: usize,
+) -> usize
+    requires { ⌜ CanAsk heads pool table (tankFor call) ⌝ }
+    requires { ⌜ pieceRoom ≤ length (now out) ⌝ }
+    ensures { λ r. ⌜ Adds (now (out .entry)) at (listLookSays l heads pool table who call) r (now (out .exit)) ⌝ }
+{
+    match l {
+        Listing::Stretches => stretches(heads, pool, table, who, call, out, at),
+        Listing::StretchesNeeded => stretches_needed(heads, pool, table, who, call, out, at),
+        Listing::Whole => whole_called(heads, pool, table, who, call, out, at),
+        Listing::WholeNeeded => whole_needed(heads, pool, table, who, call, out, at),
+        Listing::Anchors => at,
+        Listing::Save => at,
+        Listing::SaveNeeded => at,
+    }
+}
+
+// What a list is: made of one tank where it stands, or of the state.
+pub fn listing_kind(l: Listing) -> Kind
+    ensures { λ r. ⌜ r ≡ listingKind l ⌝ }
+{
+    match l {
+        Listing::Stretches => Kind::Looks(Look::Listing(Listing::Stretches)),
+        Listing::StretchesNeeded => Kind::Looks(Look::Listing(Listing::StretchesNeeded)),
+        Listing::Whole => Kind::Looks(Look::Listing(Listing::Whole)),
+        Listing::WholeNeeded => Kind::Looks(Look::Listing(Listing::WholeNeeded)),
+        Listing::Anchors => Kind::Asks,
+        Listing::Save => Kind::Asks,
+        Listing::SaveNeeded => Kind::Asks,
+    }
 }
 
 // The anchors of a tank from a cursor on, as many as are left.

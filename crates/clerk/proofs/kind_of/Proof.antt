@@ -20,19 +20,19 @@ returns-3 c = let a = c .before .before .before .before .args in c .question-kin
 
 returns-4 : tie.Need-returns-4
 unfolding kindOf
-returns-4 c = rw (c .enum-told2 .given .1)
+returns-4 c = let a = c .before .before .before .before .args in c .listing-kind .ensures ∙ sym (ap (λ (o : Op). kindOf o (a .who) (a .call)) (c .before .before .op3 .given .1))
 
 returns-5 : tie.Need-returns-5
 unfolding kindOf
-returns-5 c = rw (c .enum-told3 .given .1)
+returns-5 c = rw (c .enum-told2 .given .1)
 
 returns-6 : tie.Need-returns-6
 unfolding kindOf
-returns-6 c = rw (c .enum-told4 .given .1)
+returns-6 c = rw (c .enum-told3 .given .1)
 
 returns-7 : tie.Need-returns-7
 unfolding kindOf
-returns-7 c = rw (c .enum-told5 .given .1)
+returns-7 c = rw (c .enum-told4 .given .1)
 
 pub kind-of-spec : {M : Type 1} → statement M
 kind-of-spec =
@@ -44,6 +44,7 @@ kind-of-spec =
     (λ c. search needs)
     (λ c κs. search needs)
     (λ c. search needs)
+    (λ c κs. search needs)
     (λ c. search needs)
     (λ c. search needs)
     (λ c. search needs)

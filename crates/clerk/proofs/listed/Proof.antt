@@ -1,22 +1,26 @@
--- By the op.
+-- By the op: a list of one tank's stretches is not made here.
+use mathlib.Core.Path.{refl}
 use borrow.Author.Needs.{needs}
-use Rattle.clerk.specs.Calls.{listingSays}
-use Rattle.clerk.proofs.Performing.{as-listed}
+use Rattle.clerk.specs.Calls.{listingSays, listingKind}
+use Rattle.clerk.proofs.Performing.{as-listed, no-list-look}
 use Rattle.clerk.proofs.listed.Statement.{statement}
 use Rattle.clerk.proofs.listed.Tie as tie
 
 returns : tie.Need-returns
-returns c = as-listed _ _ _ (c .before .before .before .before .enum-told .given .1) (c .before .before .stretches .ensures)
+unfolding listingKind
+returns c = no-list-look (c .enum-told .given .1) refl (c .before .before .before .before .pre .0 .1)
 
 returns-2 : tie.Need-returns-2
-returns-2 c = as-listed _ _ _ (c .before .before .before .before .enum-told2 .given .1) (c .before .before .stretches-needed .ensures)
+unfolding listingKind
+returns-2 c = no-list-look (c .enum-told2 .given .1) refl (c .before .before .before .before .pre .0 .1)
 
 returns-3 : tie.Need-returns-3
-unfolding listingSays
-returns-3 c = as-listed _ _ _ (c .before .before .before .before .enum-told3 .given .1) (c .before .before .whole .ensures)
+unfolding listingKind
+returns-3 c = no-list-look (c .enum-told3 .given .1) refl (c .before .before .before .before .pre .0 .1)
 
 returns-4 : tie.Need-returns-4
-returns-4 c = as-listed _ _ _ (c .before .before .before .before .enum-told4 .given .1) (c .before .before .whole-needed .ensures)
+unfolding listingKind
+returns-4 c = no-list-look (c .enum-told4 .given .1) refl (c .before .before .before .before .pre .0 .1)
 
 returns-5 : tie.Need-returns-5
 returns-5 c = as-listed _ _ _ (c .before .before .before .before .enum-told5 .given .1) (c .before .before .anchors .ensures)
@@ -30,4 +34,4 @@ unfolding listingSays
 returns-7 c = as-listed _ _ _ (c .before .before .before .before .enum-told7 .given .1) (c .before .before .save-needed .ensures)
 
 pub listed-spec : {M : Type 1} → statement M
-listed-spec = tie.close (tie.spec (λ c. search needs) (λ c κs. search needs) (λ c. search needs) (λ c κs. search needs) (λ c. search needs) (λ c. search needs) (λ c. search needs) (λ c κs. search needs) (λ c. search needs) (λ c κs. search needs) (λ c. search needs) (λ c κs. search needs) (λ c. search needs) (λ c. search needs) (λ c κs. search needs) (λ c. search needs) (λ c κs. search needs) (λ c. search needs) returns (λ c. search needs) returns-2 (λ c. search needs) returns-3 (λ c. search needs) returns-4 (λ c. search needs) returns-5 (λ c. search needs) returns-6 (λ c. search needs) returns-7)
+listed-spec = tie.close (tie.spec (λ c. search needs) (λ c. search needs) (λ c. search needs) (λ c. search needs) (λ c. search needs) (λ c κs. search needs) (λ c. search needs) (λ c. search needs) (λ c κs. search needs) (λ c. search needs) (λ c κs. search needs) returns returns-2 returns-3 returns-4 (λ c. search needs) returns-5 (λ c. search needs) returns-6 (λ c. search needs) returns-7)

@@ -1,5 +1,5 @@
 -- By the op: what does not ask is not answered here.
-use Rattle.clerk.proofs.Performing.{as-told, untold, state-question}
+use Rattle.clerk.proofs.Performing.{as-told, untold, state-question, state-listing}
 use Rattle.clerk.specs.Calls.{askingSays}
 use borrow.Author.Needs.{needs}
 use mathlib.Core.Path.{refl}
@@ -10,6 +10,11 @@ answer-requires : tie.Need-answer-requires
 answer-requires c κs =
     let s = c .before .before .before .before .before in
     ((s .pre .0 .0, state-question (s .args .who) (s .args .call) (s .pre .0 .1) (c .before .before .op .given .1)), s .pre .1)
+
+listed-requires : tie.Need-listed-requires
+listed-requires c κs =
+    let s = c .before .before .before .before .before in
+    ((s .pre .0 .0, state-listing (s .args .who) (s .args .call) (s .pre .0 .1) (c .before .before .op2 .given .1)), s .pre .1)
 
 returns : tie.Need-returns
 unfolding askingSays
@@ -42,4 +47,4 @@ returns-7 c = untold _ _ _ (c .enum-told5 .given .1) refl
 pub told-spec : {M : Type 1} → statement M
 told-spec =
     tie.close
-    (tie.spec (λ c. search needs) (λ c. search needs) (λ c. search needs) answer-requires (λ c. search needs) (λ c κs. search needs) (λ c. search needs) (λ c. search needs) (λ c. search needs) returns returns-2 (λ c. search needs) returns-3 (λ c. search needs) returns-4 returns-5 returns-6 returns-7)
+    (tie.spec (λ c. search needs) (λ c. search needs) (λ c. search needs) answer-requires (λ c. search needs) listed-requires (λ c. search needs) (λ c. search needs) (λ c. search needs) returns returns-2 (λ c. search needs) returns-3 (λ c. search needs) returns-4 returns-5 returns-6 returns-7)
