@@ -376,8 +376,8 @@ fn put_bad(out: &mut [u8], at: usize, r: Reader) -> usize
 
 // The bytes of one read, a line or a part of a body to a turn. The tanks go through a call once a group, and never once a
 // line. An edit of one tank is made here and not in a function of its own, for a function that takes the tanks copies them:
-// the parts that it has to do with are handed over, and what comes is put back in their place. So are those that a question of
-// one tank has to do with, for an index that is not known beforehand copies all eight tables where they are handed on.
+// the parts that it has to do with are handed over, and what comes is put back in their place. So are those that a question or
+// a list of one tank has to do with, for an index that is not known beforehand copies all eight tables where they are handed on.
 pub fn eat(bytes: &[u8], s: Tanks, stand: Stand, body: &mut [u8], out: &mut [u8]) -> Eaten
     requires { ⌜ (Sound s) × Settled (stand .side) × Fits (stand .inlet) (now body) × (stand .over ≡ false) ⌝ }
     requires { ⌜ (mostBody ≤ length (now body)) × (pieceRoom ≤ length (now out)) ⌝ }

@@ -17,12 +17,12 @@ use Rattle.runs.proofs.Clipped.{clipped, clippedList, Fits}
 use Rattle.runs.proofs.Laws.{at-in, at-last}
 use Rattle.runs.proofs.StretchLaws.{edge, within-alike}
 
-stretch-eq : (a a′ b b′ c c′ : ℕ) (xs ys : List Stretch) → a ≡ a′ → b ≡ b′ → c ≡ c′ → xs ≡ ys → stretch a b c ∷ xs ≡ stretch a′ b′ c′ ∷ ys
+pub stretch-eq : (a a′ b b′ c c′ : ℕ) (xs ys : List Stretch) → a ≡ a′ → b ≡ b′ → c ≡ c′ → xs ≡ ys → stretch a b c ∷ xs ≡ stretch a′ b′ c′ ∷ ys
 stretch-eq a a′ b b′ c c′ xs ys e f g h = λ i. stretch (e i) (f i) (g i) ∷ h i
 
 -- ---- the stretches by position, a position more
 module _ (alike : ℕ → Bool) (count : ℕ → ℕ) (from : ℕ) where
-  at-more : (p : ℕ) → from ≤ p → stretchesAt alike count from (suc p) ≡ extended (alike (p - 1)) p (count p) (stretchesAt alike count from p)
+  pub at-more : (p : ℕ) → from ≤ p → stretchesAt alike count from (suc p) ≡ extended (alike (p - 1)) p (count p) (stretchesAt alike count from p)
   unfolding stretchesAt
   at-more p h = simp (le-leb from p h)
 
@@ -85,13 +85,13 @@ clipped-end from to to′ (r ∷ rs) h g =
 
 -- ---- the positions of the last run, one by one
 -- a stretch begins where nothing is before it or what is before it is not alike
-begins : (t : Bool) (p c : ℕ) (xs : List Stretch) → (t ≡ true → xs ≡ []) → extended t p c xs ≡ stretch p (suc p) c ∷ xs
+pub begins : (t : Bool) (p c : ℕ) (xs : List Stretch) → (t ≡ true → xs ≡ []) → extended t p c xs ≡ stretch p (suc p) c ∷ xs
 unfolding extended
 begins t p c [] h = refl
 begins false p c (x ∷ xs) h = refl
 begins true p c (x ∷ xs) h = let e = h refl in let z : _≡_ {A = ℕ} 0 1 = cc in absurd (omega arith)
 
-goes-on : (p c d a b : ℕ) (t : Bool) (xs : List Stretch) → t ≡ true → extended t p c (stretch a b d ∷ xs) ≡ stretch a (suc p) d ∷ xs
+pub goes-on : (p c d a b : ℕ) (t : Bool) (xs : List Stretch) → t ≡ true → extended t p c (stretch a b d ∷ xs) ≡ stretch a (suc p) d ∷ xs
 unfolding extended
 goes-on p c d a b t xs e = simp e
 

@@ -91,9 +91,7 @@ fn list(
     let mut at = 0;
     while k < n {
         let end = start + lens[k];
-        let lo = later(from, start);
-        let hi = sooner(to, end);
-        at = write(out, at, lo, hi, marks_of(sets[k]), least);
+        at = write_part(out, at, from, to, start, end, sets[k], least);
         start = end;
         k += 1;
     }
@@ -142,9 +140,7 @@ fn need(lens: &[u64], sets: &[u64], n: usize, from: u64, to: u64, least: u64) ->
     let mut count = 0;
     while k < n {
         let end = start + lens[k];
-        let lo = later(from, start);
-        let hi = sooner(to, end);
-        count += width(lo, hi, marks_of(sets[k]), least);
+        count += part_width(from, to, start, end, sets[k], least);
         start = end;
         k += 1;
     }

@@ -14,29 +14,10 @@ use lib.ListN.{length, length-append}
 use Rattle.runs.specs.Positions.{Stretch, stretch, extended, stretchesAt, asNumbers}
 use Rattle.runs.specs.Stretches.{entry}
 use Rattle.runs.proofs.ListLaws.{entry-past}
-use Rattle.runs.proofs.PositionLaws.{at-none}
+use Rattle.runs.proofs.PositionLaws.{stretch-eq, at-more, at-none, begins, goes-on}
 use Rattle.runs.proofs.SumLaws.{rising}
 use Rattle.tanks.proofs.ReachLaws.{Level}
 use Rattle.tanks.specs.Masked.{bitList}
-
--- ---- a position more
-module _ (alike : ℕ → Bool) (count : ℕ → ℕ) (from : ℕ) where
-  at-more : (p : ℕ) → from ≤ p → stretchesAt alike count from (suc p) ≡ extended (alike (p - 1)) p (count p) (stretchesAt alike count from p)
-  unfolding stretchesAt
-  at-more p h = simp (le-leb from p h)
-
-begins : (t : Bool) (p c : ℕ) (xs : List Stretch) → (t ≡ true → xs ≡ []) → extended t p c xs ≡ stretch p (suc p) c ∷ xs
-unfolding extended
-begins t p c [] h = refl
-begins false p c (x ∷ xs) h = refl
-begins true p c (x ∷ xs) h = let e = h refl in let z : _≡_ {A = ℕ} 0 1 = cc in absurd (omega arith)
-
-goes-on : (p c d a b : ℕ) (t : Bool) (xs : List Stretch) → t ≡ true → extended t p c (stretch a b d ∷ xs) ≡ stretch a (suc p) d ∷ xs
-unfolding extended
-goes-on p c d a b t xs e = simp e
-
-stretch-eq : (a a′ b b′ c c′ : ℕ) (xs ys : List Stretch) → a ≡ a′ → b ≡ b′ → c ≡ c′ → xs ≡ ys → stretch a b c ∷ xs ≡ stretch a′ b′ c′ ∷ ys
-stretch-eq a a′ b b′ c c′ xs ys e f g h = λ i. stretch (e i) (f i) (g i) ∷ h i
 
 -- ---- the stretch of a level
 module _ (f : ℕ → ℕ) {first end one : ℕ} (level : Level f first end one) (from : ℕ) where

@@ -78,27 +78,16 @@ add-end c =
     let i = c .before in
     omega (arith, turn-end _ _ _ (i .before .loop .inv .begun) (omega arith) ((fits-of (i .before .before .before .before .before .pre)) .look .small))
 
--- what the write of a turn is handed
-handed : (c : tie.After-marks-of Inv-loop μ-loop) → let i = c .before .before .before .before .before .before in
-    let l = i .before .loop in
-    let a = i .before .before .before .before .before .args in
-    (c .before .before .before .before .later .result ≡ max (a .from) (l .start))
-    × (c .before .before .before .sooner .result ≡ min (a .to) (l .start + getD (a .lens .now) (l .k) 0))
-    × (c .marks-of .result ≡ ones (getD (a .sets .now) (l .k) 0))
-handed c = (c .before .before .before .before .later .ensures, c .before .before .before .sooner .ensures, c .marks-of .ensures)
-
-write-requires : tie.Need-write-requires Inv-loop μ-loop
-write-requires c κs =
-    let i = c .before .before .before .before .before .before in
-    rw (handed c .0, handed c .1, handed c .2) (turn-room (fits-of (i .before .before .before .before .before .pre)) (i .before .loop .inv) (omega arith))
+write-part-requires : tie.Need-write-part-requires Inv-loop μ-loop
+write-part-requires c κs =
+    let i = c .before .before .before in
+    turn-room (fits-of (i .before .before .before .before .before .pre)) (i .before .loop .inv) (omega arith)
 
 loop-again : tie.Need-loop-again Inv-loop μ-loop
 loop-again c =
     let w = c .before .before in
-    let g = w .before in
-    let i = g .before .before .before .before .before .before in
-    turn (fits-of (i .before .before .before .before .before .pre)) (i .before .loop .inv) (omega arith) _ _
-    (rw (← handed g .0, ← handed g .1, ← handed g .2) (w .write .ensures .0)) (rw (← handed g .0, ← handed g .1, ← handed g .2) (w .write .ensures .1))
+    let i = w .before .before .before .before in
+    turn (fits-of (i .before .before .before .before .before .pre)) (i .before .loop .inv) (omega arith) _ _ (w .write-part .ensures .0) (w .write-part .ensures .1)
 
 returns : tie.Need-returns Inv-loop μ-loop
 returns c =
@@ -118,12 +107,9 @@ list-spec =
     (λ c. omega arith)
     (λ c. omega arith)
     add-end
-    (λ c κs. search needs)
-    (λ c κs. search needs)
     (λ c. omega arith)
     (λ c. omega arith)
-    (λ c κs. search needs)
-    write-requires
+    write-part-requires
     (λ c. omega arith)
     (λ c. omega arith)
     loop-again

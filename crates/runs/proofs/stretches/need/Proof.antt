@@ -49,34 +49,22 @@ add-end c =
     let i = c .before in
     omega (arith, turn-end _ _ _ (i .before .loop .inv .begun) (omega arith) (i .before .before .before .before .pre .0 .look .small))
 
--- what the turn adds
-added : (c : tie.After-width Inv-loop μ-loop) → let i = c .before .before .before .before .before .before in
-    let l = i .before .loop in
-    let a = i .before .before .before .before .args in
-    c .width .result ≡ length (entry (a .least) (max (a .from) (l .start)) (min (a .to) (l .start + getD (a .lens .now) (l .k) 0)) (ones (getD (a .sets .now) (l .k) 0)))
-added c =
-    let g = c .before in
-    let e = g .before .before .before .later .ensures in
-    let f = g .before .before .sooner .ensures in
-    let h = g .marks-of .ensures in
-    rw (e, f, h) at (c .width .ensures)
-
 add-count : tie.Need-add-count Inv-loop μ-loop
 add-count c =
-    let i = c .before .before .before .before .before .before in
+    let i = c .before .before .before in
     let l = i .before .loop in
     let a = i .before .before .before .before .args in
     omega (
       arith,
       small (i .before .before .before .before .pre .0) (l .inv) (omega arith),
-      added c,
+      c .part-width .ensures,
       entry-most (a .least) (max (a .from) (l .start)) (min (a .to) (l .start + getD (a .lens .now) (l .k) 0)) (ones (getD (a .sets .now) (l .k) 0)),
     )
 
 loop-again : tie.Need-loop-again Inv-loop μ-loop
 loop-again c =
-    let i = c .before .before .before .before .before .before in
-    turn (i .before .before .before .before .pre .0) (i .before .loop .inv) (omega arith) (c .width .result) (added c)
+    let i = c .before .before .before in
+    turn (i .before .before .before .before .pre .0) (i .before .loop .inv) (omega arith) (c .part-width .result) (c .part-width .ensures)
 
 returns : tie.Need-returns Inv-loop μ-loop
 returns c =
@@ -95,11 +83,8 @@ need-spec =
     (λ c. omega arith)
     (λ c. omega arith)
     add-end
-    (λ c κs. search needs)
-    (λ c κs. search needs)
     (λ c. omega arith)
     (λ c. omega arith)
-    (λ c κs. search needs)
     (λ c κs. search needs)
     add-count
     (λ c. omega arith)
