@@ -1,16 +1,16 @@
 -- A walk over a tank's runs that keeps the stretch it is in and closes it where the bits change: what it has told is the list up to where that stretch begins.
-use Prim.Native.Nat.{ℕ, zero, suc, _+_, _≤_, _<_, min, max}
-use mathlib.Core.Path.{_≡_, refl, sym, ap, _∙_}
+use Prim.Native.Nat.{ℕ, suc, _+_, _≤_, _<_, min, max}
+use mathlib.Core.Path.{_≡_, sym, ap, _∙_}
 use mathlib.Core.List.{List, [], _++_}
 use native.Mathlib.Omega.{arith}
 use lib.Bits.{bitAnd}
 use lib.Count.{ones}
 use lib.ListN.{length, getD, take, drop, length-append}
 use Rattle.styles.specs.declared.Party.{Party}
-use Rattle.styles.specs.Bits.{pick, MaskOf}
+use Rattle.styles.specs.Bits.{MaskOf}
 use Rattle.styles.specs.Marks.{isOf}
 use Rattle.styles.proofs.CountLaws.{pick-length}
-use Rattle.runs.specs.Positions.{stretchesAt, asNumbers}
+use Rattle.runs.specs.Positions.{asNumbers}
 use Rattle.runs.specs.Runs as runs
 use Rattle.runs.specs.Stretches.{entry, inFront}
 use Rattle.runs.proofs.ListLaws.{front-write, front-length}
@@ -20,10 +20,10 @@ use Rattle.tanks.specs.declared.Head.{Head}
 use Rattle.tanks.specs.declared.Run.{Run}
 use Rattle.tanks.specs.declared.Table.{Table}
 use Rattle.tanks.specs.Pool.{noRun, noHead, runsIn, runsBelow, tankIn}
-use Rattle.tanks.specs.Looks.{runList, CanWalk, Stands, shownIn, alikeBy}
+use Rattle.tanks.specs.Looks.{runList, CanWalk, Stands, shownIn}
 use Rattle.tanks.specs.Masked.{bitList, markList, maskedList, CanList}
 use Rattle.tanks.proofs.LookLaws.{lenFrom, Walked, walk-on, walk-begins, can-walk, seen-marks, seen-small}
-use Rattle.tanks.proofs.RangeLaws.{runsFrom, from-in, some-from, walked-all, walked-within, total-in, same-seen}
+use Rattle.tanks.proofs.RangeLaws.{from-in, some-from, walked-all, total-in, same-seen}
 use Rattle.tanks.proofs.ReachLaws.{Level, bitsFrom, level-begins, level-on, level-new}
 use Rattle.tanks.proofs.Stretched.{level-list, list-grows, list-empty}
 

@@ -1,9 +1,10 @@
 -- Closed examples of the settings' rule, of the judgement (example 12 of document 01), of edits that are accepted in one order alone, of tanks
--- packed, and of numbers beside answers.
+-- packed, of stretches by a mask, and of numbers beside answers.
 use Prim.Native.Nat.{ℕ}
 use mathlib.Core.Path.{_≡_, refl}
 use mathlib.Core.Bool.{true, false, cond}
 use mathlib.Core.List.{[], _∷_, _++_}
+use lib.Count.{ones}
 use lib.Dec.{ltb}
 use lib.IntN.{pos}
 use lib.ListN.{replicate, getD, set}
@@ -12,7 +13,8 @@ use Rattle.styles.specs.declared.Party.the-variants.{Plant}
 use Rattle.styles.specs.declared.Value.the-variants.{Null}
 use Rattle.styles.specs.Order.{stands, numbers}
 use Rattle.styles.specs.Marks.{insertMark, eitherOf, member, only, sameContent, sameMarks}
-use Rattle.runs.specs.Positions.{sumBelow, allAt, anyAt, starts}
+use Rattle.runs.specs.Positions.{sumBelow, allAt, anyAt, starts, extended, stretchesAt, asNumbers}
+use Rattle.runs.specs.Runs as laid
 use Rattle.tank.specs.Rules.{View, annotating, deleting, madeFlag, retiredFlag, markNumber, ownNumber, barred, empty, over, long, clash, clashes, full, gathered, needs, passesShare, refusal, after, afterAnnotate, afterDelete}
 use Rattle.tank.specs.Rules as rules
 use Rattle.tanks.specs.declared.Setting.{Setting}
@@ -23,6 +25,7 @@ use Rattle.tanks.specs.declared.YesNo.{YesNo}
 use Rattle.tanks.specs.Settings.{accepted, claims, judgement}
 use Rattle.tanks.specs.House.{House, freshHouse, smallest, openNumber, opening, askNumber, refusalAt, afterAt}
 use Rattle.tanks.specs.Pool.{noRun, noTable, ownRuns, tankIn}
+use Rattle.tanks.specs.Masked.{maskedList}
 use Rattle.tanks.specs.Contracts.{counts, says}
 
 abbrev pair : ℕ → ℕ → Setting
@@ -148,6 +151,15 @@ own-1 = refl
 sets-0 : tankIn (head 2 ∷ head 1 ∷ []) (run 3 0 ∷ run 4 1 ∷ run 5 2 ∷ noRun ∷ []) noTable 0 .sets ≡ 0 ∷ 1 ∷ replicate 512 0
 unfolding head run sumBelow tankIn
 sets-0 = refl
+
+-- ---- stretches by a mask: three runs of which the first two have the mask's bit, so that they are one stretch; clipped, and the marked ones alone
+masked-range : maskedList 0 1 9 1 (head 3 ∷ []) (run 3 1 ∷ run 4 3 ∷ run 5 2 ∷ []) 0 ≡ 1 ∷ 7 ∷ 1 ∷ 7 ∷ 9 ∷ 0 ∷ []
+unfolding head run sumBelow laid.runs laid.setAt laid.total stretchesAt extended asNumbers ones
+masked-range = refl
+
+masked-whole : maskedList 1 0 12 1 (head 3 ∷ []) (run 3 1 ∷ run 4 3 ∷ run 5 2 ∷ []) 0 ≡ 0 ∷ 7 ∷ 1 ∷ []
+unfolding head run sumBelow laid.runs laid.setAt laid.total stretchesAt extended asNumbers ones
+masked-whole = refl
 
 -- ---- numbers and values of the answers' cases
 counts-7 : counts (askNumber 7) 5 ≡ Count.Counts 5

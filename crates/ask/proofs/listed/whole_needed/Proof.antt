@@ -6,7 +6,6 @@ use native.Mathlib.Omega.{arith}
 use borrow.Author.Needs.{needs}
 use Rattle.lists.specs.Lists.{listOver, wholeNeeded}
 use Rattle.tanks.specs.Looks.{shownIn}
-use Rattle.tanks.proofs.LookLaws.{shown-length}
 use Rattle.ask.specs.Asks.{noList}
 use Rattle.ask.proofs.AskLaws.{listed-eq}
 use Rattle.ask.proofs.Standing.{none-there, one-there, long-there}

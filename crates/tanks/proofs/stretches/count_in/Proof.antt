@@ -1,11 +1,10 @@
 -- `count_in` meets its contract. The loop's invariant: `count` is the length of the list up to where the stretch begins that the walk is in.
-use Prim.Native.Nat.{ℕ, _+_, _-_, _*_, _≤_, _<_, min, max}
-use mathlib.Core.Path.{_≡_, sym, ap, _∙_}
+use Prim.Native.Nat.{_-_, _*_, _≤_, min, max}
+use mathlib.Core.Path.{_≡_, ap}
 use lib.Count.{ones}
 use lib.ListN.{length}
 use native.Mathlib.Omega.{arith}
 use borrow.Author.Needs.{needs}
-use Rattle.runs.specs.Stretches.{entry}
 use Rattle.runs.proofs.ListLaws.{entry-most}
 use Rattle.tanks.specs.Pool.{runsIn}
 use Rattle.tanks.proofs.LookLaws.{walk-fits}

@@ -1,6 +1,6 @@
 -- `list_in` meets its contract. The loop's invariant: the list up to where the stretch begins that the walk is in stands in front, and the rest of the
 -- buffer is as it was.
-use Prim.Native.Nat.{ℕ, _+_, _-_, _≤_, _<_, min, max}
+use Prim.Native.Nat.{ℕ, _+_, _-_, _≤_, min, max}
 use mathlib.Core.Path.{_≡_, sym, ap, _∙_}
 use mathlib.Core.List.{List, _++_}
 use lib.Count.{ones}
