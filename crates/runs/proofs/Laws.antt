@@ -112,7 +112,7 @@ runs-last lens sets zero h = absurd (omega arith)
 runs-last lens sets (suc n) h = rw sub-one refl
 
 -- lists that agree in the first n entries
-runs-ext : (lens sets lens′ sets′ : List ℕ) (n : ℕ) → ((j : ℕ) → j < n → getD lens′ j 0 ≡ getD lens j 0)
+pub runs-ext : (lens sets lens′ sets′ : List ℕ) (n : ℕ) → ((j : ℕ) → j < n → getD lens′ j 0 ≡ getD lens j 0)
     → ((j : ℕ) → j < n → getD sets′ j 0 ≡ getD sets j 0) → runs lens′ sets′ n ≡ runs lens sets n
 unfolding runs
 runs-ext lens sets lens′ sets′ zero l s = refl

@@ -18,6 +18,7 @@ pub mod FreshLaws
 pub mod GrowLaws
 pub mod StripLaws
 pub mod InsertLaws
+pub mod ResizeLaws
 pub mod RemoveLaws
 pub mod LentLaws
 pub mod PartyLaws

@@ -183,7 +183,7 @@ pub fn is_lab(who: Party) -> bool
 }
 
 // The bits of a set whose marks are a party's.
-fn shown_bits(table: [Mark; 64], n: usize, set: u64, who: Party) -> u64
+pub fn shown_bits(table: [Mark; 64], n: usize, set: u64, who: Party) -> u64
     requires { ⌜ (n ≤ 64) × (set < 2 ^ n) ⌝ }
     ensures { λ r. ⌜ (r < 2 ^ n) × (pick (take n table) r ≡ ofParty who (pick (take n table) set)) ⌝ }
 {

@@ -13,6 +13,7 @@ pub mod WriteLaws
 pub mod CallLaws
 pub mod AnswerLaws
 pub mod PartsLaws
+pub mod WithinLaws
 pub mod AskLaws
 pub mod OpeningLaws
 pub mod Unique

@@ -5,4 +5,5 @@ pub mod Pool
 pub mod Looks
 pub mod Masked
 pub mod Contracts
+pub mod Resizing
 pub mod Answers

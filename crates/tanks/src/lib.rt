@@ -1,6 +1,7 @@
 // Eight tanks in one state: settings at opening, the edits and the questions with the tank's number in front.
 mod settings; // settings.rt: shares and limits
 mod pool; // pool.rt: the tanks' runs and marks in one state
+mod within; // within.rt: edits that change the length of one run alone
 pub mod look; // look.rt: one tank read where it stands
 pub mod stretches; // stretches.rt: its stretches, likewise
 
@@ -30,6 +31,9 @@ use styles::Styles;
 use tank::Tank;
 use tank::lent::Left;
 use tank::lent::Outline;
+use within::fits;
+use within::resize_of;
+use within::shown_by;
 
 // What a tank may count on, and what it may not pass.
 pub struct Setting {
@@ -59,6 +63,15 @@ struct Spots {
     full: usize,
     count: usize,
     grows: bool,
+}
+
+// An edit that makes one run longer or shorter and leaves the others as they are: the run that has all the positions from .. to loses `less`
+// of its positions, though not all, and gains `more`. Of any other edit `to` is 0.
+struct Resize {
+    from: u64,
+    to: u64,
+    less: u64,
+    more: u64,
 }
 
 // A tank's marks.
@@ -234,9 +247,10 @@ pub fn place(tank: u64) -> usize
     if tank < 8 { tank as usize } else { 0 }
 }
 
-// One edit of one tank, on the parts of a state that it has to do with: its runs are taken out, edited by its own rules, judged, and put back. The
-// runs of the tanks behind it move, from the front or from the back, so that none is written over before it has moved. Who holds a state
-// hands over these parts and puts back what comes: the state itself, of which seven tables have no part in it, is not copied.
+// One edit of one tank, on the parts of a state that it has to do with. One that changes the length of a single run changes it where it stands;
+// the number of runs stays, so nothing is judged and nothing moves. For any other the tank's runs are taken out, edited by its own rules, judged,
+// and put back. The runs of the tanks behind it move, from the front or from the back, so that none is written over before it has moved. Who
+// holds a state hands over these parts and puts back what comes: the state itself, of which seven tables have no part in it, is not copied.
 pub fn edit_parts(
     settings: [Setting; 8],
     heads: [Head; 8],
@@ -256,6 +270,38 @@ pub fn edit_parts(
     let n = h.runs;
     let marks = table.marks;
     let at = start(heads, t);
+    let q = resize_of(h, call);
+    let mut k = 0;
+    let mut from = 0;
+    let mut to = 0;
+    while to < q.to {
+        from = to;
+        to += pool[at + k].len;
+        k += 1;
+    }
+    if fits(q, from, to) {
+        let run = at + (k - 1);
+        let set = pool[run].set;
+        let shown = shown_by(call, marks, h.marks, set);
+        let styles = styles::table::styles_of(marks, h.marks, shown);
+        pool[run] = Run {
+            len: to - from - q.less + q.more,
+            set: set,
+        };
+        return Parts {
+            pool: pool,
+            head: Head {
+                touched: true,
+                length: h.length - q.less + q.more,
+                runs: n,
+                marks: h.marks,
+            },
+            number: 0,
+            first: 0,
+            table: table,
+            styles: styles,
+        };
+    }
     let mut lens = [0u64; 514];
     let mut sets = [0u64; 514];
     let mut olens = [0u64; 514];

@@ -3,23 +3,25 @@ use borrow.Author.Needs.{needs}
 use borrow.Author.Tests.{not-true, not-false}
 use native.Mathlib.Omega.{arith}
 use native.Mathlib.Numerals.{add-one}
-use Prim.Native.Nat.{ℕ, _+_, _-_, _≤_, _<_}
+use Prim.Native.Nat.{ℕ, _+_, _-_, _≤_, _<_, _^_}
 use mathlib.Core.Path.{_≡_, refl, sym, ap, _∙_, subst}
 use mathlib.Core.Bool.{true}
 use mathlib.Core.List.{List, []}
-use lib.ListN.{length, getD, replicate, length-set}
+use lib.ListN.{length, getD, set, replicate, length-set}
 use Rattle.laws.proofs.Lists.{stored}
 use Rattle.styles.specs.declared.Mark.{Mark}
+use Rattle.styles.specs.Answers.{stylesOf}
 use Rattle.runs.proofs.SumLaws.{sum-next}
 use Rattle.tank.specs.declared.Tank.{Tank}
 use Rattle.tank.specs.declared.lent.Left.{Left}
 use Rattle.tank.specs.Lending.{tankOn, tankMade}
+use Rattle.tank.specs.State as state
 use Rattle.tank.proofs.Shape.{all-spare}
 use Rattle.tanks.specs.declared.Head.{Head}
 use Rattle.tanks.specs.declared.Tanks.{Tanks}
 use Rattle.tanks.specs.declared.Spots.{Spots}
 use Rattle.tanks.specs.declared.Parts.{Parts}
-use Rattle.tanks.specs.Pool.{noRun, noHead, noTable, runsIn, runsBelow, tankOf, tankIn, spotsOf}
+use Rattle.tanks.specs.Pool.{noRun, noHead, noTable, runsIn, runsBelow, lensIn, tankOf, tankIn, spotsOf}
 use Rattle.tanks.specs.Contracts.{editOf, placeOf, PartsOf, PerformsOn, DoneAt, doneWith, Judged}
 use Rattle.tanks.proofs.LaidLaws.{laid}
 use Rattle.tanks.proofs.Put.{runFrom, poolWith, puts}
@@ -46,11 +48,35 @@ use Rattle.tanks.proofs.PartsLaws.{
   parts-same,
   parts-done,
 }
+use Rattle.tanks.proofs.WithinLaws.{
+  Walked,
+  walk-start,
+  walk-on,
+  walk-room,
+  walk-step,
+  walk-up,
+  Placed,
+  tank-sums,
+  tank-small,
+  tank-few,
+  found,
+  set-small,
+  len-of,
+  Did,
+  did-own,
+}
 use Rattle.tanks.proofs.edit_parts.Statement.{statement}
 use Rattle.tanks.proofs.edit_parts.Tie as tie
 
+-- the walk to the run that an edit may change alone
 abbrev Inv-loop : tie.InvT-loop
-Inv-loop settings table tank call heads pool t h n marks at lens₀ sets₀ olens osets i₀ lens sets i =
+Inv-loop settings table tank call heads pool t h n marks at q k₀ from₀ to₀ k from to = Walked (lensIn heads pool t) n k from to × (at + n ≤ 512)
+
+abbrev μ-loop : tie.MeasureT-loop
+μ-loop settings table tank call heads pool t h n marks at q k₀ from₀ to₀ k from to = n - k
+
+abbrev Inv-loop2 : tie.InvT-loop2
+Inv-loop2 settings table tank call heads pool t h n marks at k from to lens₀ sets₀ olens osets i₀ lens sets i =
     (i ≤ n)
     × (at + n ≤ 512)
     × (lens ≡ stored (λ k. getD pool (at + k) noRun .len) lens₀ i)
@@ -58,76 +84,76 @@ Inv-loop settings table tank call heads pool t h n marks at lens₀ sets₀ olen
     × (length lens ≡ 514)
     × (length sets ≡ 514)
 
-abbrev μ-loop : tie.MeasureT-loop
-μ-loop settings table tank call heads pool t h n marks at lens₀ sets₀ olens osets i₀ lens sets i = n - i
+abbrev μ-loop2 : tie.MeasureT-loop2
+μ-loop2 settings table tank call heads pool t h n marks at k from to lens₀ sets₀ olens osets i₀ lens sets i = n - i
 
 -- the tank that is made, by what the second loop knows of it
 abbrev made-of : Head → List Mark → List ℕ → List ℕ → Left → Tank
 made-of h marks olens osets done = tankMade (tankOn (outlined h) [] [] marks) olens osets done
 
-abbrev Inv-loop2 : tie.InvT-loop2
-Inv-loop2 tank pool₀ t h n marks at olens osets i done m number styles s k₀ pool k =
-    (k ≤ s .count)
+abbrev Inv-loop3 : tie.InvT-loop3
+Inv-loop3 tank pool₀ t h n marks at k from to olens osets i done m number styles s k₀ pool k' =
+    (k' ≤ s .count)
     × Inside (made-of h marks olens osets done) m (s .at) (s .from) (s .full) (s .count) (s .grows)
-    × (pool ≡ part pool₀ (s .at) (runFrom pool₀ (made-of h marks olens osets done) (s .from) (s .full)) (lowest (s .grows) (s .count) k) k)
+    × (pool ≡ part pool₀ (s .at) (runFrom pool₀ (made-of h marks olens osets done) (s .from) (s .full)) (lowest (s .grows) (s .count) k') k')
 
-abbrev μ-loop2 : tie.MeasureT-loop2
-μ-loop2 tank pool₀ t h n marks at olens osets i done m number styles s k₀ pool k = s .count - k
+abbrev μ-loop3 : tie.MeasureT-loop3
+μ-loop3 tank pool₀ t h n marks at k from to olens osets i done m number styles s k₀ pool k' = s .count - k'
 
 -- ---- what is known on the way
 -- the tanks of the state hold no more than the pool has
-held : (a : tie.Start Inv-loop μ-loop Inv-loop2 μ-loop2) → runsBelow (a .args .t2) 8 ≤ 512
+held : (a : tie.Start Inv-loop μ-loop Inv-loop2 μ-loop2 Inv-loop3 μ-loop3) → runsBelow (a .args .t2) 8 ≤ 512
 held a = on-parts (a .pre .parts) (λ st hs pool table. runsBelow hs 8 ≤ 512) (sound-held (a .pre .state) (a .pre .sound))
 
 -- the tank's runs are taken out
-abbrev tank-of : tie.After-loop Inv-loop μ-loop Inv-loop2 μ-loop2 → Tank
+abbrev tank-of : tie.After-loop2 Inv-loop μ-loop Inv-loop2 μ-loop2 Inv-loop3 μ-loop3 → Tank
 tank-of c =
-    let a = c .before .before .before .before .before .before in
-    let l = c .before .loop in
+    let a = c .before .before .before .before .before .before .before .before .before .before .before .before in
+    let l = c .before .loop2 in
     tankOn (outlined (getD (a .args .t2) (a .args .tank) noHead)) (l .lens) (l .sets) (a .args .table .marks)
 
-taken-is : (c : tie.After-loop Inv-loop μ-loop Inv-loop2 μ-loop2) → let a = c .before .before .before .before .before .before in tank-of c ≡ tankIn (a .args .t2) (a .args .t3) (a .args .table) (a .args .tank)
+taken-is : (c : tie.After-loop2 Inv-loop μ-loop Inv-loop2 μ-loop2 Inv-loop3 μ-loop3) → let a = c .before .before .before .before .before .before .before .before .before .before .before .before in tank-of c ≡ tankIn (a .args .t2) (a .args .t3) (a .args .table) (a .args .tank)
 taken-is c =
-    let a = c .before .before .before .before .before .before in
-    let l = c .before .loop in
+    let a = c .before .before .before .before .before .before .before .before .before .before .before .before in
+    let l = c .before .loop2 in
     let hs = a .args .t2 in
     let pool = a .args .t3 in
     let t = a .args .tank in
-    let e : l .i ≡ runsIn hs t = omega (arith, c .loop-test .left, l .inv .0) in
-    let s = c .before .before .start .ensures in
+    let e : l .i ≡ runsIn hs t = omega (arith, c .loop2-test .left, l .inv .0) in
+    let s = c .before .before .before .before .before .before .before .before .start .ensures in
     let long : length pool ≡ 512 = on-parts (a .pre .parts) (λ st hs pool table. length pool ≡ 512) (a .pre .sound .pool-512) in
-    let room : runsBelow hs t + runsIn hs t ≤ length pool = omega (arith, sum-next (runsIn hs) t 8 (c .before .before .before .before .before .if1 .left), held a, long) in
+    let room : runsBelow hs t + runsIn hs t ≤ length pool = omega (arith, sum-next (runsIn hs) t 8 (c .before .before .before .before .before .before .before .before .before .before .before .if1 .left), held a, long) in
     lent-tank hs pool (a .args .table) t room (omega (arith, room, long))
     (l .inv .2 ∙ (λ j. stored (λ k. getD pool (s j + k) noRun .len) (replicate 514 0) (e j)))
     (l .inv .3 ∙ (λ j. stored (λ k. getD pool (s j + k) noRun .set) (replicate 514 0) (e j)))
 
-own : (c : tie.After-loop Inv-loop μ-loop Inv-loop2 μ-loop2) → let a = c .before .before .before .before .before .before in TakenOut (a .pre .state) (a .args .tank) (tank-of c)
+own : (c : tie.After-loop2 Inv-loop μ-loop Inv-loop2 μ-loop2 Inv-loop3 μ-loop3) → let a = c .before .before .before .before .before .before .before .before .before .before .before .before in TakenOut (a .pre .state) (a .args .tank) (tank-of c)
 unfolding tankOf
 own c =
-    let a = c .before .before .before .before .before .before in
+    let a = c .before .before .before .before .before .before .before .before .before .before .before .before in
     let t = a .args .tank in
-    let h = c .before .before .before .before .before .if1 .left in
+    let h = c .before .before .before .before .before .before .before .before .before .before .before .if1 .left in
     taken (a .pre .state) (a .pre .sound) t (tank-of c) h (on-state (at-place t h (a .pre .parts)) (λ st hs pool table. tank-of c ≡ tankIn hs pool table t) (taken-is c))
 
 -- and edited
-did : (c : tie.After-perform Inv-loop μ-loop Inv-loop2 μ-loop2) → let l = c .before .before .before .before .before in PerformsOn (editOf (l .before .before .before .before .before .before .args .call)) (tank-of l) (c .perform .last .0) (c .perform .last .1 .0) (c .perform .result)
+did : (c : tie.After-perform Inv-loop μ-loop Inv-loop2 μ-loop2 Inv-loop3 μ-loop3) → let l = c .before .before .before .before .before in PerformsOn (editOf (l .before .before .before .before .before .before .before .before .before .before .before .before .args .call)) (tank-of l) (c .perform .last .0) (c .perform .last .1 .0) (c .perform .result)
 did c = c .perform .ensures
 
 -- the edit is judged: what is known of the parts is known of every state that they are of
-known : (c : tie.After-edit-verdict Inv-loop μ-loop Inv-loop2 μ-loop2) (n : ℕ) → let w = c .before .before .before .before in let l = w .before .before .before .before .before in let a = l .before .before .before .before .before .before in
+known : (c : tie.After-edit-verdict Inv-loop μ-loop Inv-loop2 μ-loop2 Inv-loop3 μ-loop3) (n : ℕ) → let w = c .before .before .before .before in let l = w .before .before .before .before .before in let a = l .before .before .before .before .before .before .before .before .before .before .before .before in
     w .perform .result .runs ≡ n → (s : Tanks) → PartsOf s (placeOf (a .args .tank)) (a .args .settings) (a .args .t2) (a .args .t3) (a .args .table)
     → Known (a .args .tank) (editOf (a .args .call)) (tank-of l) (w .perform .result .number) n (c .edit-verdict .result) (s .settings) (s .heads) (s .pool) (getD (s .tables) (a .args .tank) noTable)
 known c n g s q =
     let w = c .before .before .before .before in
     let l = w .before .before .before .before .before in
-    let a = l .before .before .before .before .before .before in
+    let a = l .before .before .before .before .before .before .before .before .before .before .before .before in
     let t = a .args .tank in
     let e = editOf (a .args .call) in
-    on-state (at-place t (l .before .before .before .before .before .if1 .left) q) (Known t e (tank-of l) (w .perform .result .number) n (c .edit-verdict .result))
+    on-state (at-place t (l .before .before .before .before .before .before .before .before .before .before .before .if1 .left) q) (Known t e (tank-of l) (w .perform .result .number) n (c .edit-verdict .result))
     (known-by t e (w .perform .result .number) (a .args .settings) (a .args .t2) (a .args .t3) (a .args .table) (taken-is l) g (c .edit-verdict .ensures))
 
 -- no refusal: the places of the second loop are inside the arrays
-places : (c : tie.After-spots Inv-loop μ-loop Inv-loop2 μ-loop2) → let w = c .before .before .before .before .before .before .before .before .before in let a = w .before .before .before .before .before .before .before .before .before .before .before in let p = w .perform in let r = c .spots .result in
+places : (c : tie.After-spots Inv-loop μ-loop Inv-loop2 μ-loop2 Inv-loop3 μ-loop3) → let w = c .before .before .before .before .before .before .before .before .before in let a = w .before .before .before .before .before .before .before .before .before .before .before .before .before .before .before .before .before in let p = w .perform in let r = c .spots .result in
     let x = made-of (getD (a .args .t2) (a .args .tank) noHead) (a .args .table .marks) (p .last .0) (p .last .1 .0) (p .result) in
     Inside x (x .runs) (r .at) (r .from) (r .full) (r .count) (r .grows)
 places c =
@@ -136,190 +162,275 @@ places c =
     let p = w .perform in
     let d = did w in
     let l = w .before .before .before .before .before in
-    let a = l .before .before .before .before .before .before in
+    let a = l .before .before .before .before .before .before .before .before .before .before .before .before in
     let t = a .args .tank in
-    let h = l .before .before .before .before .before .if1 .left in
+    let h = l .before .before .before .before .before .before .before .before .before .before .before .if1 .left in
     let e = editOf (a .args .call) in
     let x = tank-of l in
     let s = a .pre .state in
     let y = tankMade x (p .last .0) (p .last .1 .0) (p .result) in
-    let z : v .edit-verdict .result ≡ 0 = omega (arith, c .before .before .before .before .if2 .left) in
-    let f = performed-made d (not-false _ (c .before .if3 .left)) .called .formed in
+    let z : v .edit-verdict .result ≡ 0 = omega (arith, c .before .before .before .before .if4 .left) in
+    let f = performed-made d (not-false _ (c .before .if5 .left)) .called .formed in
     inside s t (ownBy s t e (p .result .number) (y .runs)) y (a .pre .sound) h f (sym (known v (y .runs) refl s (a .pre .parts) .1) ∙ z) _
     (on-state (at-place t h (a .pre .parts)) (λ st hs pool table. c .spots .result ≡ spotsOf hs t (y .runs)) (c .spots .ensures))
 
+-- the tank where it stands
+whole-tank : (a : tie.Start Inv-loop μ-loop Inv-loop2 μ-loop2 Inv-loop3 μ-loop3) → a .args .tank < 8 → state.Sound (tankIn (a .args .t2) (a .args .t3) (a .args .table) (a .args .tank))
+unfolding tankOf
+whole-tank a h =
+    let t = a .args .tank in
+    let s = a .pre .state in
+    on-parts (at-place t h (a .pre .parts)) (λ st hs pool table. state.Sound (tankIn hs pool table t)) (taken s (a .pre .sound) t (tankOf s t) h refl .sound)
+
+-- the walk is not at its end
+onward : (c : tie.Then2 Inv-loop μ-loop Inv-loop2 μ-loop2 Inv-loop3 μ-loop3) → c .before .before .loop .k < runsIn (c .before .before .before .before .before .before .before .before .args .t2) (c .before .before .before .before .before .before .before .before .args .tank)
+onward c =
+    let a = c .before .before .before .before .before .before .before .before in
+    let h = c .before .before .before .before .before .before .before .if1 .left in
+    walk-on (c .before .before .loop .inv .0) (tank-sums (a .args .t2) (a .args .t3) (a .args .table) (a .args .tank) (whole-tank a h)) (c .before .before .before .resize-of .ensures .reach) (c .if2 .taken)
+
+-- how far the next run reaches
+next-end : (c : tie.Then2 Inv-loop μ-loop Inv-loop2 μ-loop2 Inv-loop3 μ-loop3) → let a = c .before .before .before .before .before .before .before .before in let l = c .before .before .loop in
+    l .to + getD (a .args .t3) (c .before .before .before .before .start .result + l .k) noRun .len < 2 ^ 63
+next-end c =
+    let a = c .before .before .before .before .before .before .before .before in
+    let h = c .before .before .before .before .before .before .before .if1 .left in
+    let s = whole-tank a h in
+    omega (arith, walk-room (c .before .before .loop .inv .0) (onward c), len-of (a .args .t2) (a .args .t3) (a .args .table) (a .args .tank) s (c .before .before .before .before .start .ensures) (onward c), tank-sums (a .args .t2) (a .args .t3) (a .args .table) (a .args .tank) s, tank-small (a .args .t2) (a .args .t3) (a .args .table) (a .args .tank) s)
+
+-- the run is found
+facts : (c : tie.Then3 Inv-loop μ-loop Inv-loop2 μ-loop2 Inv-loop3 μ-loop3) → let a = c .before .before .before .before .before .before .before .before .before .before in let l = c .before .before .before .before .loop in
+    Placed (a .args .t2) (a .args .t3) (a .args .tank) (c .before .before .before .before .before .before .start .result) (c .before .before .before .before .before .resize-of .result) (l .k) (l .from) (l .to)
+facts c =
+    let a = c .before .before .before .before .before .before .before .before .before .before in
+    let h = c .before .before .before .before .before .before .before .before .before .if1 .left in
+    let l = c .before .before .before .before .loop in
+    found (a .args .t2) (a .args .t3) (a .args .table) (a .args .tank) (whole-tank a h) (editOf (a .args .call)) _ (c .before .before .before .before .before .before .start .ensures) (l .inv .1) (l .inv .0)
+    (c .before .before .before .before .before .resize-of .ensures) (c .before .fits2 .ensures (c .if3 .taken)) (c .before .before .if2 .left)
+
 -- ---- what is asked for
-returns : tie.Need-returns Inv-loop μ-loop Inv-loop2 μ-loop2
+returns : tie.Need-returns Inv-loop μ-loop Inv-loop2 μ-loop2 Inv-loop3 μ-loop3
 returns c =
     let a = c .before .before .before in
     λ s ok q. parts-past s (a .args .tank) (editOf (a .args .call)) ok _ (c .before .before .if1 .taken) (on-state q (λ st hs pool table. Unchanged 1 pool table (getD hs 0 noHead) (c .unchanged .result)) (c .unchanged .ensures))
 
-start-requires : tie.Need-start-requires Inv-loop μ-loop Inv-loop2 μ-loop2
+start-requires : tie.Need-start-requires Inv-loop μ-loop Inv-loop2 μ-loop2 Inv-loop3 μ-loop3
 start-requires c κs = (omega (arith, c .before .before .if1 .left), held (c .before .before .before))
 
-loop-holds : tie.Need-loop-holds Inv-loop μ-loop Inv-loop2 μ-loop2
-loop-holds c =
+resize-of-requires : tie.Need-resize-of-requires Inv-loop μ-loop Inv-loop2 μ-loop2 Inv-loop3 μ-loop3
+resize-of-requires c κs =
     let a = c .before .before .before .before in
-    (omega arith, omega (arith, c .start .ensures, sum-next (runsIn (a .args .t2)) (a .args .tank) 8 (c .before .before .before .if1 .left), held a), refl, refl, refl, refl)
+    omega (arith, tank-small (a .args .t2) (a .args .t3) (a .args .table) (a .args .tank) (whole-tank a (c .before .before .before .if1 .left)))
 
-loop-again : tie.Need-loop-again Inv-loop μ-loop Inv-loop2 μ-loop2
+loop-holds : tie.Need-loop-holds Inv-loop μ-loop Inv-loop2 μ-loop2 Inv-loop3 μ-loop3
+loop-holds c =
+    let d = c .before in
+    let a = d .before .before .before .before in
+    (walk-start (lensIn (a .args .t2) (a .args .t3) (a .args .tank)) (runsIn (a .args .t2) (a .args .tank)), omega (arith, d .start .ensures, sum-next (runsIn (a .args .t2)) (a .args .tank) 8 (d .before .before .before .if1 .left), held a))
+
+loop-again : tie.Need-loop-again Inv-loop μ-loop Inv-loop2 μ-loop2 Inv-loop3 μ-loop3
 loop-again c =
+    let a = c .before .before .before .before .before .before .before .before in
+    let h = c .before .before .before .before .before .before .before .if1 .left in
     let l = c .before .before .loop in
+    (walk-step (l .inv .0) _ (onward c) (len-of (a .args .t2) (a .args .t3) (a .args .table) (a .args .tank) (whole-tank a h) (c .before .before .before .before .start .ensures) (onward c)), l .inv .1)
+
+shown-by-requires : tie.Need-shown-by-requires Inv-loop μ-loop Inv-loop2 μ-loop2 Inv-loop3 μ-loop3
+shown-by-requires c κs =
+    let a = c .before .before .before .before .before .before .before .before .before .before in
+    let h = c .before .before .before .before .before .before .before .before .before .if1 .left in
+    let s = whole-tank a h in
+    (tank-few (a .args .t2) (a .args .t3) (a .args .table) (a .args .tank) s, set-small (a .args .t2) (a .args .t3) (a .args .table) (a .args .tank) s (facts c .at-is) (facts c .there))
+
+styles-of-requires : tie.Need-styles-of-requires Inv-loop μ-loop Inv-loop2 μ-loop2 Inv-loop3 μ-loop3
+styles-of-requires c κs =
+    let a = c .before .before .before .before .before .before .before .before .before .before .before in
+    let h = c .before .before .before .before .before .before .before .before .before .before .if1 .left in
+    (tank-few (a .args .t2) (a .args .t3) (a .args .table) (a .args .tank) (whole-tank a h), c .shown-by .ensures .0)
+
+-- one run has changed
+returns-2 : tie.Need-returns-2 Inv-loop μ-loop Inv-loop2 μ-loop2 Inv-loop3 μ-loop3
+returns-2 c =
+    let d = c .before .before .before .before .before in
+    let f = d .before in
+    let v = f .before in
+    let a = v .before .before .before .before .before .before .before .before .before .before in
+    let t = a .args .tank in
+    let h = v .before .before .before .before .before .before .before .before .before .if1 .left in
+    let e = editOf (a .args .call) in
+    let l = v .before .before .before .before .loop in
+    let q = v .before .before .before .before .before .resize-of .result in
+    let at = v .before .before .before .before .before .before .start .result in
+    let x = getD (a .args .t2) t noHead in
+    let left : Parts = record { pool = set (a .args .t3) (at + (l .k - 1)) (record { len = l .to - l .from - q .less + q .more; set = getD (a .args .t3) (at + (l .k - 1)) noRun .set }); head = record { touched = true; length = x .length - q .less + q .more; runs = x .runs; marks = x .marks }; number = 0; first = 0; table = a .args .table; styles = d .styles-of .result } in
+    λ s ok r. subst (λ (u : ℕ). DoneAt s t e (doneWith s u left)) (sym (place-in t h))
+    (on-parts (at-place t h r) (Did s t e ok h) (did-own s t e ok h) at (l .k) (l .from) (l .to) q (facts v) (v .before .before .before .before .before .resize-of .ensures) left refl refl refl refl
+    (d .styles-of .ensures ∙ ap stylesOf (f .shown-by .ensures .1)) refl)
+
+loop2-holds : tie.Need-loop2-holds Inv-loop μ-loop Inv-loop2 μ-loop2 Inv-loop3 μ-loop3
+loop2-holds c =
+    let d = c .before .before .before .before .before .before in
+    let a = d .before .before .before .before in
+    (omega arith, omega (arith, d .start .ensures, sum-next (runsIn (a .args .t2)) (a .args .tank) 8 (d .before .before .before .if1 .left), held a), refl, refl, refl, refl)
+
+loop2-again : tie.Need-loop2-again Inv-loop μ-loop Inv-loop2 μ-loop2 Inv-loop3 μ-loop3
+loop2-again c =
+    let l = c .before .before .loop2 in
     (omega arith, l .inv .1, rw (l .inv .2, add-one (l .i)), rw (l .inv .3, add-one (l .i)), length-set (l .lens) (l .i) _ ∙ l .inv .4, length-set (l .sets) (l .i) _ ∙ l .inv .5)
 
-perform-requires : tie.Need-perform-requires Inv-loop μ-loop Inv-loop2 μ-loop2
+perform-requires : tie.Need-perform-requires Inv-loop μ-loop Inv-loop2 μ-loop2 Inv-loop3 μ-loop3
 perform-requires c κs = record { sound = own (c .before .before .before .before) .sound; olens-514 = refl; osets-514 = refl; blank = all-spare 514 }
 
-edit-verdict-requires : tie.Need-edit-verdict-requires Inv-loop μ-loop Inv-loop2 μ-loop2
+edit-verdict-requires : tie.Need-edit-verdict-requires Inv-loop μ-loop Inv-loop2 μ-loop2 Inv-loop3 μ-loop3
 edit-verdict-requires c κs =
     let w = c .before .before .before in
-    let o = w .before .before .before .before .before .before .before .before .before .before in
+    let o = w .before .before .before .before .before .before .before .before .before .before .before .before .before .before .before .before in
     let a = o .before in
     (o .if1 .left, on-parts (a .pre .parts) (λ st hs pool table. Judged st hs) (sound-judged (a .pre .state) (a .pre .sound)))
 
-returns-2 : tie.Need-returns-2 Inv-loop μ-loop Inv-loop2 μ-loop2
-returns-2 c =
+returns-3 : tie.Need-returns-3 Inv-loop μ-loop Inv-loop2 μ-loop2 Inv-loop3 μ-loop3
+returns-3 c =
     let v = c .before .before in
     let w = v .before .before .before .before in
     let p = w .perform in
     let d = did w in
     let l = w .before .before .before .before .before in
-    let a = l .before .before .before .before .before .before in
+    let a = l .before .before .before .before .before .before .before .before .before .before .before .before in
     let t = a .args .tank in
-    let h = l .before .before .before .before .before .if1 .left in
+    let h = l .before .before .before .before .before .before .before .before .before .before .before .if1 .left in
     let e = editOf (a .args .call) in
     let x = tank-of l in
     let r = c .unchanged2 .result in
     λ s ok q. subst (λ (u : ℕ). DoneAt s t e (doneWith s u r)) (sym (place-in t h))
-    (parts-refused s t e ok h x (outcome x (p .last .0) (p .last .1 .0) (p .result)) (performed d) (v .edit-verdict .result) (known v _ (d .runs-are) s q) r (c .before .if2 .taken)
+    (parts-refused s t e ok h x (outcome x (p .last .0) (p .last .1 .0) (p .result)) (performed d) (v .edit-verdict .result) (known v _ (d .runs-are) s q) r (c .before .if4 .taken)
     (on-state (at-place t h q) (λ st hs pool table. Unchanged (v .edit-verdict .result) pool table (getD hs t noHead) r) (c .unchanged2 .ensures)))
 
-styles-of-requires : tie.Need-styles-of-requires Inv-loop μ-loop Inv-loop2 μ-loop2
-styles-of-requires c κs = let w = c .before .before .before .before .before in (own (w .before .before .before .before .before) .sound .formed .laid .few, did w .shown-fits)
+styles-of-requires-2 : tie.Need-styles-of-requires-2 Inv-loop μ-loop Inv-loop2 μ-loop2 Inv-loop3 μ-loop3
+styles-of-requires-2 c κs = let w = c .before .before .before .before .before in (own (w .before .before .before .before .before) .sound .formed .laid .few, did w .shown-fits)
 
-returns-3 : tie.Need-returns-3 Inv-loop μ-loop Inv-loop2 μ-loop2
-returns-3 c =
+returns-4 : tie.Need-returns-4 Inv-loop μ-loop Inv-loop2 μ-loop2 Inv-loop3 μ-loop3
+returns-4 c =
     let v = c .before .before .before .before in
     let w = v .before .before .before .before in
     let p = w .perform in
     let d = did w in
     let l = w .before .before .before .before .before in
-    let a = l .before .before .before .before .before .before in
+    let a = l .before .before .before .before .before .before .before .before .before .before .before .before in
     let t = a .args .tank in
-    let h = l .before .before .before .before .before .if1 .left in
+    let h = l .before .before .before .before .before .before .before .before .before .before .before .if1 .left in
     let e = editOf (a .args .call) in
     let x = tank-of l in
-    let z : v .edit-verdict .result ≡ 0 = omega (arith, c .before .before .before .if2 .left) in
-    let left : Parts = record { pool = a .args .t3; head = getD (a .args .t2) t noHead; number = 0; first = p .result .first; table = a .args .table; styles = c .before .before .styles-of .result } in
+    let z : v .edit-verdict .result ≡ 0 = omega (arith, c .before .before .before .if4 .left) in
+    let left : Parts = record { pool = a .args .t3; head = getD (a .args .t2) t noHead; number = 0; first = p .result .first; table = a .args .table; styles = c .before .before .styles-of2 .result } in
     λ s ok r. let q = at-place t h r in
     subst (λ (u : ℕ). DoneAt s t e (doneWith s u left)) (sym (place-in t h))
     (parts-same s t e ok h x (outcome x (p .last .0) (p .last .1 .0) (p .result)) (performed d) (v .edit-verdict .result) (known v _ (d .runs-are) s r) left z
-    (left-same x (p .last .0) (p .last .1 .0) (p .result) (not-true _ (c .if3 .taken)))
-    (sym (q .pool-is)) (sym (q .table-is)) (ap (λ (hs : List Head). getD hs t noHead) (sym (q .heads-are))) refl (c .before .before .styles-of .ensures) refl)
+    (left-same x (p .last .0) (p .last .1 .0) (p .result) (not-true _ (c .if5 .taken)))
+    (sym (q .pool-is)) (sym (q .table-is)) (ap (λ (hs : List Head). getD hs t noHead) (sym (q .heads-are))) refl (c .before .before .styles-of2 .ensures) refl)
 
-spots-requires : tie.Need-spots-requires Inv-loop μ-loop Inv-loop2 μ-loop2
+spots-requires : tie.Need-spots-requires Inv-loop μ-loop Inv-loop2 μ-loop2 Inv-loop3 μ-loop3
 spots-requires c κs =
     let w = c .before .before .before .before .before .before .before .before in
-    let o = w .before .before .before .before .before .before .before .before .before .before in
-    (o .if1 .left, performed-made (did w) (not-false _ (c .if3 .left)) .called .formed .laid .most, held (o .before))
+    let o = w .before .before .before .before .before .before .before .before .before .before .before .before .before .before .before .before in
+    (o .if1 .left, performed-made (did w) (not-false _ (c .if5 .left)) .called .formed .laid .most, held (o .before))
 
-loop2-holds : tie.Need-loop2-holds Inv-loop μ-loop Inv-loop2 μ-loop2
+loop3-holds : tie.Need-loop3-holds Inv-loop μ-loop Inv-loop2 μ-loop2 Inv-loop3 μ-loop3
 unfolding laid
-loop2-holds c = (omega arith, places c, refl)
+loop3-holds c = (omega arith, places c, refl)
 
-loop2-again : tie.Need-loop2-again Inv-loop μ-loop Inv-loop2 μ-loop2
-loop2-again c =
+loop3-again : tie.Need-loop3-again Inv-loop μ-loop Inv-loop2 μ-loop2 Inv-loop3 μ-loop3
+loop3-again c =
     let l = c .before .before .before .before .before in
     let g = l .before in
     let q = g .spots .result in
     let w = g .before .before .before .before .before .before .before .before .before in
-    let a = w .before .before .before .before .before .before .before .before .before .before .before in
+    let a = w .before .before .before .before .before .before .before .before .before .before .before .before .before .before .before .before .before in
     let p = w .perform in
     let x = made-of (getD (a .args .t2) (a .args .tank) noHead) (a .args .table .marks) (p .last .0) (p .last .1 .0) (p .result) in
     let pool = a .args .t3 in
     let j = c .before .before .turn in
-    let b : l .loop2 .k < q .count = c .before .before .before .if4 .taken in
-    let n : l .loop2 .k + 1 ≤ q .count = omega (arith, b) in
-    let o : j .result < x .runs = c .before .if5 .taken in (
+    let b : l .loop3 .k < q .count = c .before .before .before .if6 .taken in
+    let n : l .loop3 .k + 1 ≤ q .count = omega (arith, b) in
+    let o : j .result < x .runs = c .before .if7 .taken in (
       n,
-      l .loop2 .inv .1,
-      pool-step (l .loop2 .pool) pool (q .at) (runFrom pool x (q .from) (q .full)) (q .grows) (q .count) (l .loop2 .k) (j .result) _
-          b (j .ensures .0) (l .loop2 .inv .2) (run-own pool x (q .from) (q .full) (j .result) o),
+      l .loop3 .inv .1,
+      pool-step (l .loop3 .pool) pool (q .at) (runFrom pool x (q .from) (q .full)) (q .grows) (q .count) (l .loop3 .k) (j .result) _
+          b (j .ensures .0) (l .loop3 .inv .2) (run-own pool x (q .from) (q .full) (j .result) o),
     )
 
-loop2-again-2 : tie.Need-loop2-again-2 Inv-loop μ-loop Inv-loop2 μ-loop2
-loop2-again-2 c =
+loop3-again-2 : tie.Need-loop3-again-2 Inv-loop μ-loop Inv-loop2 μ-loop2 Inv-loop3 μ-loop3
+loop3-again-2 c =
     let l = c .before .before .before .before .before .before .before .before .before in
     let g = l .before in
     let q = g .spots .result in
     let w = g .before .before .before .before .before .before .before .before .before in
-    let a = w .before .before .before .before .before .before .before .before .before .before .before in
+    let a = w .before .before .before .before .before .before .before .before .before .before .before .before .before .before .before .before .before in
     let p = w .perform in
     let x = made-of (getD (a .args .t2) (a .args .tank) noHead) (a .args .table .marks) (p .last .0) (p .last .1 .0) (p .result) in
     let pool = a .args .t3 in
     let j = c .before .before .before .before .before .before .turn in
-    let b : l .loop2 .k < q .count = c .before .before .before .before .before .before .before .if4 .taken in
-    let n : l .loop2 .k + 1 ≤ q .count = omega (arith, b) in
-    let o : x .runs ≤ j .result = c .before .before .before .before .before .if5 .left in
-    let f : j .result < q .full = c .before .before .before .if6 .taken in (
+    let b : l .loop3 .k < q .count = c .before .before .before .before .before .before .before .if6 .taken in
+    let n : l .loop3 .k + 1 ≤ q .count = omega (arith, b) in
+    let o : x .runs ≤ j .result = c .before .before .before .before .before .if7 .left in
+    let f : j .result < q .full = c .before .before .before .if8 .taken in (
       n,
-      l .loop2 .inv .1,
-      pool-step (l .loop2 .pool) pool (q .at) (runFrom pool x (q .from) (q .full)) (q .grows) (q .count) (l .loop2 .k) (j .result) _
-          b (j .ensures .0) (l .loop2 .inv .2)
-          (pool-kept (l .loop2 .pool) pool (q .at) (runFrom pool x (q .from) (q .full)) (q .grows) (q .from) (x .runs) (q .count) (l .loop2 .k) (j .result) (l .loop2 .inv .1 .back) b (j .ensures .0) o (l .loop2 .inv .2)
+      l .loop3 .inv .1,
+      pool-step (l .loop3 .pool) pool (q .at) (runFrom pool x (q .from) (q .full)) (q .grows) (q .count) (l .loop3 .k) (j .result) _
+          b (j .ensures .0) (l .loop3 .inv .2)
+          (pool-kept (l .loop3 .pool) pool (q .at) (runFrom pool x (q .from) (q .full)) (q .grows) (q .from) (x .runs) (q .count) (l .loop3 .k) (j .result) (l .loop3 .inv .1 .back) b (j .ensures .0) o (l .loop3 .inv .2)
           ∙ run-behind pool x (q .from) (q .full) (j .result) o f),
     )
 
-loop2-again-3 : tie.Need-loop2-again-3 Inv-loop μ-loop Inv-loop2 μ-loop2
-loop2-again-3 c =
+loop3-again-3 : tie.Need-loop3-again-3 Inv-loop μ-loop Inv-loop2 μ-loop2 Inv-loop3 μ-loop3
+loop3-again-3 c =
     let l = c .before .before .before .before .before .before .before in
     let g = l .before in
     let q = g .spots .result in
     let w = g .before .before .before .before .before .before .before .before .before in
-    let a = w .before .before .before .before .before .before .before .before .before .before .before in
+    let a = w .before .before .before .before .before .before .before .before .before .before .before .before .before .before .before .before .before in
     let p = w .perform in
     let x = made-of (getD (a .args .t2) (a .args .tank) noHead) (a .args .table .marks) (p .last .0) (p .last .1 .0) (p .result) in
     let pool = a .args .t3 in
     let j = c .before .before .before .before .turn in
-    let b : l .loop2 .k < q .count = c .before .before .before .before .before .if4 .taken in
-    let n : l .loop2 .k + 1 ≤ q .count = omega (arith, b) in
-    let o : x .runs ≤ j .result = c .before .before .before .if5 .left in
-    let f : q .full ≤ j .result = c .before .if6 .left in (
+    let b : l .loop3 .k < q .count = c .before .before .before .before .before .if6 .taken in
+    let n : l .loop3 .k + 1 ≤ q .count = omega (arith, b) in
+    let o : x .runs ≤ j .result = c .before .before .before .if7 .left in
+    let f : q .full ≤ j .result = c .before .if8 .left in (
       n,
-      l .loop2 .inv .1,
-      pool-step (l .loop2 .pool) pool (q .at) (runFrom pool x (q .from) (q .full)) (q .grows) (q .count) (l .loop2 .k) (j .result) _
-          b (j .ensures .0) (l .loop2 .inv .2) (run-blank pool x (q .from) (q .full) (j .result) o f),
+      l .loop3 .inv .1,
+      pool-step (l .loop3 .pool) pool (q .at) (runFrom pool x (q .from) (q .full)) (q .grows) (q .count) (l .loop3 .k) (j .result) _
+          b (j .ensures .0) (l .loop3 .inv .2) (run-blank pool x (q .from) (q .full) (j .result) o f),
     )
 
-table-left-requires : tie.Need-table-left-requires Inv-loop μ-loop Inv-loop2 μ-loop2
+table-left-requires : tie.Need-table-left-requires Inv-loop μ-loop Inv-loop2 μ-loop2 Inv-loop3 μ-loop3
 table-left-requires c κs = let w = c .before .before .before .before .before .before .before .before .before .before .before .before in (own (w .before .before .before .before .before) .sound .formed .laid .few, did w .table-fits)
 
-returns-4 : tie.Need-returns-4 Inv-loop μ-loop Inv-loop2 μ-loop2
+returns-5 : tie.Need-returns-5 Inv-loop μ-loop Inv-loop2 μ-loop2 Inv-loop3 μ-loop3
 unfolding puts
-returns-4 c =
+returns-5 c =
     let v = c .before .before .before .before .before .before .before .before .before in
     let w = v .before .before .before .before in
     let p = w .perform in
     let d = did w in
     let l = w .before .before .before .before .before in
-    let a = l .before .before .before .before .before .before in
+    let a = l .before .before .before .before .before .before .before .before .before .before .before .before in
     let t = a .args .tank in
-    let h = l .before .before .before .before .before .if1 .left in
+    let h = l .before .before .before .before .before .before .before .before .before .before .before .if1 .left in
     let e = editOf (a .args .call) in
     let x = tank-of l in
     let o = c .before .before .before in
     let g = o .before in
     let q = g .spots .result in
     let y = tankMade x (p .last .0) (p .last .1 .0) (p .result) in
-    let z : v .edit-verdict .result ≡ 0 = omega (arith, c .before .before .before .before .before .before .before .before .if2 .left) in
-    let all : o .loop2 .k ≡ q .count = omega (arith, c .before .if4 .left, o .loop2 .inv .0) in
-    let laid-is : o .loop2 .pool ≡ poolWith (a .args .t3) (spotsOf (a .args .t2) t (y .runs)) y =
-    (rw all at (o .loop2 .inv .2)) ∙ part-all (a .args .t3) (q .at) _ (q .grows) (q .count) ∙ ap (λ (w : Spots). poolWith (a .args .t3) w y) (g .spots .ensures) in
-    let left : Parts = record { pool = o .loop2 .pool; head = record { touched = true; length = p .result .length; runs = p .result .runs; marks = p .result .marks }; number = 0; first = p .result .first; table = record { marks = c .table-left .result }; styles = c .before .before .before .before .before .before .before .styles-of .result } in
+    let z : v .edit-verdict .result ≡ 0 = omega (arith, c .before .before .before .before .before .before .before .before .if4 .left) in
+    let all : o .loop3 .k ≡ q .count = omega (arith, c .before .if6 .left, o .loop3 .inv .0) in
+    let laid-is : o .loop3 .pool ≡ poolWith (a .args .t3) (spotsOf (a .args .t2) t (y .runs)) y =
+    (rw all at (o .loop3 .inv .2)) ∙ part-all (a .args .t3) (q .at) _ (q .grows) (q .count) ∙ ap (λ (w : Spots). poolWith (a .args .t3) w y) (g .spots .ensures) in
+    let left : Parts = record { pool = o .loop3 .pool; head = record { touched = true; length = p .result .length; runs = p .result .runs; marks = p .result .marks }; number = 0; first = p .result .first; table = record { marks = c .table-left .result }; styles = c .before .before .before .before .before .before .before .styles-of2 .result } in
     λ s ok r. subst (λ (u : ℕ). DoneAt s t e (doneWith s u left)) (sym (place-in t h))
-    (parts-done s t e ok h x (outcomeMade x (p .last .0) (p .last .1 .0) (p .result)) (performed-made d (not-false _ (c .before .before .before .before .before .if3 .left))) (v .edit-verdict .result) (known v (y .runs) refl s r) left z
-    (on-state (at-place t h r) (λ st hs pool table. o .loop2 .pool ≡ poolWith pool (spotsOf hs t (y .runs)) y) laid-is)
-    (ap (λ (ms : List Mark). record { marks = ms }) (c .table-left .ensures)) refl refl (c .before .before .before .before .before .before .before .styles-of .ensures) refl)
+    (parts-done s t e ok h x (outcomeMade x (p .last .0) (p .last .1 .0) (p .result)) (performed-made d (not-false _ (c .before .before .before .before .before .if5 .left))) (v .edit-verdict .result) (known v (y .runs) refl s r) left z
+    (on-state (at-place t h r) (λ st hs pool table. o .loop3 .pool ≡ poolWith pool (spotsOf hs t (y .runs)) y) laid-is)
+    (ap (λ (ms : List Mark). record { marks = ms }) (c .table-left .ensures)) refl refl (c .before .before .before .before .before .before .before .styles-of2 .ensures) refl)
 
 pub edit-parts-spec : {M : Type 1} → statement M
 edit-parts-spec =
@@ -329,36 +440,39 @@ edit-parts-spec =
     μ-loop
     Inv-loop2
     μ-loop2
+    Inv-loop3
+    μ-loop3
     (λ c. search needs)
     (λ c κs. search needs)
     returns
     (λ c. search needs)
     (λ c. search needs)
     start-requires
+    resize-of-requires
     loop-holds
-    (λ c. search needs)
-    (λ c. search needs)
-    (λ c. search needs)
-    (λ c. search needs)
-    (λ c. search needs)
-    (λ c. search needs)
-    (λ c. search needs)
-    (λ c. search needs)
-    (λ c. search needs)
+    (λ c. omega (arith, onward c, c .before .before .loop .inv .1))
+    (λ c. omega (arith, onward c, c .before .before .loop .inv .1))
+    (λ c. omega (arith, onward c, c .before .before .loop .inv .1))
+    (λ c. omega (arith, next-end c))
+    (λ c. omega (arith, onward c, c .before .before .loop .inv .1))
+    (λ c. omega (arith, onward c))
     loop-again
-    (λ c. search needs)
-    (λ c. search needs)
-    (λ c. search needs)
-    (λ c. search needs)
-    perform-requires
-    edit-verdict-requires
-    (λ c κs. search needs)
-    returns-2
+    (λ c κs. walk-up (c .before .before .loop .inv .0))
+    (λ c. omega (arith, facts c))
+    (λ c. omega (arith, facts c))
+    (λ c. omega (arith, facts c))
+    (λ c. omega (arith, facts c))
+    shown-by-requires
     styles-of-requires
-    returns-3
-    spots-requires
+    (λ c. omega (arith, facts (c .before .before)))
+    (λ c. omega (arith, facts (c .before .before .before) .fits))
+    (λ c. omega (arith, facts (c .before .before .before .before)))
+    (λ c. omega (arith, facts (c .before .before .before .before)))
+    (λ c. omega (arith, facts (c .before .before .before .before)))
+    (λ c. omega (arith, facts (c .before .before .before .before .before .before)))
+    (λ c. omega (arith, facts (c .before .before .before .before .before .before .before)))
+    returns-2
     loop2-holds
-    (λ c κs. search needs)
     (λ c. search needs)
     (λ c. search needs)
     (λ c. search needs)
@@ -373,14 +487,37 @@ edit-parts-spec =
     (λ c. search needs)
     (λ c. search needs)
     (λ c. search needs)
+    perform-requires
+    edit-verdict-requires
+    (λ c κs. search needs)
+    returns-3
+    styles-of-requires-2
+    returns-4
+    spots-requires
+    loop3-holds
+    (λ c κs. search needs)
     (λ c. search needs)
     (λ c. search needs)
     (λ c. search needs)
-    loop2-again-2
     (λ c. search needs)
     (λ c. search needs)
     (λ c. search needs)
     (λ c. search needs)
-    loop2-again-3
+    (λ c. search needs)
+    (λ c. search needs)
+    loop3-again
+    (λ c. search needs)
+    (λ c. search needs)
+    (λ c. search needs)
+    (λ c. search needs)
+    (λ c. search needs)
+    (λ c. search needs)
+    (λ c. search needs)
+    loop3-again-2
+    (λ c. search needs)
+    (λ c. search needs)
+    (λ c. search needs)
+    (λ c. search needs)
+    loop3-again-3
     table-left-requires
-    returns-4)
+    returns-5)
