@@ -41,7 +41,7 @@ behind-by F n m xs ys moved h e =
     let g : n + (m - n) ≡ m = omega arith in
     rw g at (sym (moved ys (m - n)) ∙ ap (λ l. F l (m - n)) e ∙ moved xs (m - n))
 
-drop-on : (n m : ℕ) (xs ys : List ℕ) → n ≤ m → drop n ys ≡ drop n xs → drop m ys ≡ drop m xs
+pub drop-on : (n m : ℕ) (xs ys : List ℕ) → n ≤ m → drop n ys ≡ drop n xs → drop m ys ≡ drop m xs
 drop-on n m xs ys h e = behind-by (λ l k. drop k l) n m xs ys (λ l k. drop-drop k n l) h e
 
 pub behind-on : {lens sets lens′ sets′ lens″ sets″ : List ℕ} (n m : ℕ) → n ≤ m

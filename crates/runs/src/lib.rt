@@ -3,6 +3,7 @@
 
 pub mod stretches; // stretches.rt: the stretches of a range, in a lent buffer
 pub mod scan; // scan.rt: questions over a range
+pub mod joined; // joined.rt: the edits of a list in joined form
 pub mod sets; // sets.rt: all sets together, and sets renumbered in place
 
 ghost use mathlib.Core.Path.{_≡_};

@@ -7,7 +7,7 @@ ghost use lib.ListN.{length};
 ghost use Rattle.styles.specs.Bits.{withBit};
 ghost use Rattle.runs.specs.Edits.{Joined, CanEdit};
 ghost use Rattle.runs.specs.Positions.{alteredAt};
-ghost use Rattle.runs.specs.Runs.{runs, setAt, SameBehind, changing};
+ghost use Rattle.runs.specs.Runs.{runs, setAt, SameBehind, changing, Canon};
 ghost use Rattle.tank.specs.Rules.{annotating, inserting, deleting, removing, insertedSet, removedFirst};
 ghost use Rattle.tank.specs.State.{view};
 ghost use Rattle.tank.specs.Lending.{tankOn, tableLeft, Fitting, keptAs, CanLend, Leaves, Trims};
@@ -92,12 +92,12 @@ fn lay(
     end: u64,
     i: usize,
 ) -> usize
-    requires { ⌜ (i < 64) × ((start ≤ end) × (end ≤ all) × CanEdit all (alteredAt start end (changing (withBit i 0) 0) (setAt (runs (now lens) (now sets) m))) (now olens) (now osets) (now lens) (now sets) m all) ⌝ }
+    requires { ⌜ (i < 64) × (Canon (runs (now lens) (now sets) m) × ((start ≤ end) × (end ≤ all) × CanEdit all (alteredAt start end (changing (withBit i 0) 0) (setAt (runs (now lens) (now sets) m))) (now olens) (now osets) (now lens) (now sets) m all)) ⌝ }
     ensures { λ r. ⌜ Joined all (alteredAt start end (changing (withBit i 0) 0) (setAt (runs (now (lens .entry)) (now (sets .entry)) m))) (runs (now (olens .exit)) (now (osets .exit)) r) ⌝ }
     ensures { λ r. ⌜ SameBehind r (now (olens .entry)) (now (osets .entry)) (now (olens .exit)) (now (osets .exit)) ⌝ }
 {
     let bit = styles::bits::with_bit(0, i);
-    runs::alter(olens, osets, lens, sets, m, all, start, end, bit, 0)
+    runs::joined::alter(olens, osets, lens, sets, m, all, start, end, bit, 0)
 }
 
 // The marks that no position carries leave the table, and their bits leave the sets.
@@ -214,7 +214,7 @@ pub fn delete(
     if !h.touched {
         return kept(0, 0, h);
     }
-    let n = runs::delete(olens, osets, lens, sets, h.runs, h.length, start, end);
+    let n = runs::joined::delete(olens, osets, lens, sets, h.runs, h.length, start, end);
     let u = Outline {
         touched: true,
         length: h.length - (end - start),
@@ -257,7 +257,7 @@ pub fn insert(
     }
     let set = runs::scan::common_at(lens, sets, h.runs, h.length, pos);
     let shown = shown_bits(table, h.marks, set, who);
-    let n = runs::insert(olens, osets, lens, sets, h.runs, h.length, pos, len, set);
+    let n = runs::joined::insert(olens, osets, lens, sets, h.runs, h.length, pos, len, set);
     Left {
         number: 0,
         changed: true,
@@ -293,7 +293,7 @@ pub fn remove(
     }
     let bit = styles::bits::with_bit(0, place.at);
     let first = runs::scan::back(lens, sets, h.runs, bit, last);
-    let n = runs::alter(
+    let n = runs::joined::alter(
         olens,
         osets,
         lens,

@@ -79,7 +79,7 @@ lay-requires c κs =
     let k = can-lay (s .pre .sound) (s .args .start) (s .args .end) (s .args .mark) (e .if1 .left) (f .if2 .left) (none-own (s .args .mark) _ (g .before .mark-number .ensures) (g .if3 .left)) _ (sym (m .room-for .ensures) ∙ o .room .given .1) in
     let a = k .there in
     let b = s .pre .sound .formed .laid .few in
-    (omega arith, alter-can (k .range) (adding (withBit (o .room .given .0 .0) 0)) _ _ (s .pre .olens-514) (s .pre .osets-514))
+    (omega arith, (k .range .laid .canon, alter-can (k .range) (adding (withBit (o .room .given .0 .0) 0)) _ _ (s .pre .olens-514) (s .pre .osets-514)))
 
 returns-6 : tie.Need-returns-6
 returns-6 c =
@@ -122,7 +122,7 @@ lay-requires-2 c κs =
     let k = can-lay-new (s .pre .sound) (s .args .start) (s .args .end) (s .args .mark) (e .if1 .left) (f .if2 .left) (none-own (s .args .mark) _ (g .before .mark-number .ensures) (g .if3 .left)) _ (sym (m .room-for .ensures) ∙ o .room2 .given .1) a in
     let i = k .there in
     let b = q .few in
-    (omega arith, alter-can (k .range) (adding (withBit (o .room2 .given .0 .0) 0)) _ _ (s .pre .olens-514) (s .pre .osets-514))
+    (omega arith, (k .range .laid .canon, alter-can (k .range) (adding (withBit (o .room2 .given .0 .0) 0)) _ _ (s .pre .olens-514) (s .pre .osets-514)))
 
 one-more : tie.Need-add-t34
 one-more c = let b = c .before .before .before .before .before .before .before .before .before .before .before .before .before .before .before .before .before .before .before .before .before .before .before .before .before .before .pre .sound .formed .laid .few in omega arith

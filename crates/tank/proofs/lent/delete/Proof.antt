@@ -43,7 +43,7 @@ delete-requires c κs =
     let e = f .before .before in
     let b = e .before in
     let s = b .before .before .before .before .before .before in
-    cut-can (s .args .start) (s .args .end) (can-cut (s .pre .sound) (s .args .who) (sym (b .before .is-lab .ensures) ∙ b .if1 .left) (s .args .start) (s .args .end) (e .if2 .left) (f .if3 .left) (not-false _ (g .if4 .left))) _ _ (s .pre .olens-514) (s .pre .osets-514)
+    (s .pre .sound .formed .laid .canon, cut-can (s .args .start) (s .args .end) (can-cut (s .pre .sound) (s .args .who) (sym (b .before .is-lab .ensures) ∙ b .if1 .left) (s .args .start) (s .args .end) (e .if2 .left) (f .if3 .left) (not-false _ (g .if4 .left))) _ _ (s .pre .olens-514) (s .pre .osets-514))
 
 trim-requires : tie.Need-trim-requires
 trim-requires c κs =

@@ -74,7 +74,7 @@ insert-requires c κs =
     let e = f .before .before in
     let b = e .before in
     let s = b .before .before .before .before .before .before in
-    grow-can (s .args .pos) (s .args .len) _ (can-grow (s .pre .sound) (s .args .who) (sym (b .before .is-lab .ensures) ∙ b .if1 .left) (s .args .pos) (s .args .len) (e .if2 .left) (f .if3 .left) (not-false _ (g .if4 .left)) (h .if5 .left) _ (k .common-at .ensures)) _ _ (s .pre .olens-514) (s .pre .osets-514)
+    (s .pre .sound .formed .laid .canon, grow-can (s .args .pos) (s .args .len) _ (can-grow (s .pre .sound) (s .args .who) (sym (b .before .is-lab .ensures) ∙ b .if1 .left) (s .args .pos) (s .args .len) (e .if2 .left) (f .if3 .left) (not-false _ (g .if4 .left)) (h .if5 .left) _ (k .common-at .ensures)) _ _ (s .pre .olens-514) (s .pre .osets-514))
 
 returns-6 : tie.Need-returns-6
 returns-6 c =

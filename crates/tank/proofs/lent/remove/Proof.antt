@@ -66,7 +66,7 @@ alter-requires c κs =
     let p = g .before .before in
     let e = p .before in
     let s = e .before .before .before .before .before .before in
-    rw (bit-is w) (alter-can (can-strip (s .pre .sound) (s .args .id) (s .args .last) (e .if1 .left) _ (at-is p) (sym (there-is p) ∙ not-false _ (g .if2 .left)) _ (rw (bit-is w) at (k .back .ensures)) .range) (changing 0 (withBit (p .placed .result .at) 0)) _ _ (s .pre .olens-514) (s .pre .osets-514))
+    rw (bit-is w) (s .pre .sound .formed .laid .canon, alter-can (can-strip (s .pre .sound) (s .args .id) (s .args .last) (e .if1 .left) _ (at-is p) (sym (there-is p) ∙ not-false _ (g .if2 .left)) _ (rw (bit-is w) at (k .back .ensures)) .range) (changing 0 (withBit (p .placed .result .at) 0)) _ _ (s .pre .olens-514) (s .pre .osets-514))
 
 trim-requires : tie.Need-trim-requires
 trim-requires c κs =
