@@ -1,7 +1,7 @@
 -- An insertion between two positions of one run, and a deletion of some of its positions but not all: the tank with another length for that run
 -- is what the edit leaves. No mark comes or goes.
 use Prim.Native.Nat.{ℕ, _+_, _-_, _≤_, _<_, _^_}
-use mathlib.Core.Path.{_≡_, refl, sym, ap, _∙_, subst}
+use mathlib.Core.Path.{_≡_, refl, ap₂, _∙_}
 use mathlib.Core.Bool.{true, false, true≢false}
 use native.Mathlib.Omega.{arith}
 use lib.Bits.{bitAnd, and-le-r}
@@ -17,6 +17,8 @@ use Rattle.runs.specs.Runs.{runs, total, setAt}
 use Rattle.runs.specs.Scan.{commonAt}
 use Rattle.runs.specs.Gather.{gather}
 use Rattle.runs.proofs.GatherLaws.{set-within}
+use Rattle.runs.proofs.Laws.{total-more}
+use Rattle.runs.proofs.ScanLaws.{at-run, common-inside}
 use Rattle.runs.proofs.ResizeLaws.{resized-gather, resized-spare, run-some, run-at, run-common, run-inserted, run-deleted}
 use Rattle.tank.specs.declared.Tank.{Tank}
 use Rattle.tank.specs.Rules.{deleting, isLab, largest}
@@ -51,6 +53,21 @@ module _ {t : Tank} (s : Sound t) (i : ℕ) (there : i < t .runs) where
       let x = setAt (runsOf t) begins in
       omega (arith, is, set-within (runsOf t) begins, and-le-r x (gather (runsOf t)), s .formed .laid .inside)
 
+  -- what two of its positions have in common
+  pub common-within : (pos : ℕ) → total (runs (t .lens) (t .sets) i) < pos → pos < total (runs (t .lens) (t .sets) i) + getD (t .lens) i 0 → getD (t .sets) i 0 ≡ commonAt (runsOf t) pos
+  common-within pos after before = run-common (t .lens) (t .sets) (t .runs) i (s .formed .laid .canon) there within pos after before
+
+  -- and what its last and the next run's first have
+  pub common-border : (pos : ℕ) → i + 1 < t .runs → pos ≡ total (runs (t .lens) (t .sets) i) + getD (t .lens) i 0 → commonAt (runsOf t) pos ≡ bitAnd (getD (t .sets) i 0) (getD (t .sets) (i + 1) 0)
+  common-border pos h e =
+      let canon = s .formed .laid .canon in
+      let m = total-more (t .lens) (t .sets) i in
+      let a = run-some (t .lens) (t .sets) (t .runs) i canon there within in
+      let b = run-some (t .lens) (t .sets) (t .runs) (i + 1) canon h within in
+      let x = at-run (t .lens) (t .sets) (t .runs) i (pos - 1) there (omega arith) (omega arith) in
+      let y = at-run (t .lens) (t .sets) (t .runs) (i + 1) pos h (omega arith) (omega arith) in
+      common-inside (runsOf t) pos (λ z. omega arith) ∙ ap₂ bitAnd x y
+
 module _ {t : Tank} (s : Sound t) (i : ℕ) (there : i < t .runs) (who : Party) (plant : isLab who ≡ false) (e : t .touched ≡ true) where
   -- where run i begins, and how many positions it has
   abbrev begins : ℕ
@@ -62,10 +79,7 @@ module _ {t : Tank} (s : Sound t) (i : ℕ) (there : i < t .runs) (who : Party) 
   fit : t .runs ≤ length (t .lens)
   fit = within s i there
 
-  module _ (pos len : ℕ) (some : len ≡ 0 → ⊥) (fits : pos ≤ t .length) (room : len ≤ largest - t .length) (after : begins < pos) (before : pos < begins + long) where
-    common : getD (t .sets) i 0 ≡ commonAt (runsOf t) pos
-    common = run-common (t .lens) (t .sets) (t .runs) i (s .formed .laid .canon) there fit pos after before
-
+  module _ (pos len : ℕ) (some : len ≡ 0 → ⊥) (fits : pos ≤ t .length) (room : len ≤ largest - t .length) (after : begins ≤ pos) (before : pos ≤ begins + long) (common : getD (t .sets) i 0 ≡ commonAt (runsOf t) pos) where
     joined : Joined (t .length + len) (insertedAt pos len (getD (t .sets) i 0) (setAt (runsOf t))) (runs (set (t .lens) i (long + len)) (t .sets) (t .runs))
     joined = rw (s .formed .laid .sum) (run-inserted (t .lens) (t .sets) (t .runs) i (s .formed .laid .canon) there fit pos len (omega arith) (omega arith))
 

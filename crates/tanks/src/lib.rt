@@ -31,7 +31,9 @@ use styles::Styles;
 use tank::Tank;
 use tank::lent::Left;
 use tank::lent::Outline;
-use within::fits;
+use within::choose;
+use within::place_before;
+use within::place_within;
 use within::resize_of;
 use within::shown_by;
 
@@ -65,8 +67,8 @@ struct Spots {
     grows: bool,
 }
 
-// An edit that makes one run longer or shorter and leaves the others as they are: the run that has all the positions from .. to loses `less`
-// of its positions, though not all, and gains `more`. Of any other edit `to` is 0.
+// An edit that makes one run longer or shorter and leaves the others as they are: the run that has all the positions from .. to, or the next one,
+// loses `less` of its positions, though not all, and gains `more`. Of any other edit `to` is 0.
 struct Resize {
     from: u64,
     to: u64,
@@ -279,14 +281,17 @@ pub fn edit_parts(
         to += pool[at + k].len;
         k += 1;
     }
-    if fits(q, from, to) {
-        let run = at + (k - 1);
-        let set = pool[run].set;
-        let shown = shown_by(call, marks, h.marks, set);
+    let here = pool[place_before(at + k)].set;
+    let next = pool[place_within(at + k)].set;
+    let pick = choose(q, from, to, here, next);
+    if 0 < pick {
+        let run = at + (k + pick - 2);
+        let old = pool[run];
+        let shown = shown_by(call, marks, h.marks, old.set);
         let styles = styles::table::styles_of(marks, h.marks, shown);
         pool[run] = Run {
-            len: to - from - q.less + q.more,
-            set: set,
+            len: old.len - q.less + q.more,
+            set: old.set,
         };
         return Parts {
             pool: pool,

@@ -1,13 +1,13 @@
 // An insertion between two positions of one run and a deletion of some of its positions change the length of that run alone: no neighbour is
-// joined, no mark comes or goes, and no run moves.
+// joined, no mark comes or goes, and no run moves. So does an insertion where two runs meet and the one has all marks of the other.
 ghost use mathlib.Core.Path.{_≡_};
 ghost use mathlib.Core.Bool.{true};
-ghost use Prim.Native.Nat.{_≤_, _<_, _^_};
+ghost use Prim.Native.Nat.{_-_, _≤_, _<_, _^_, min};
 ghost use lib.ListN.{take};
 ghost use Rattle.styles.specs.Bits.{pick};
 ghost use Rattle.tank.specs.Rules.{inserting, deleting, largest};
 ghost use Rattle.tanks.specs.Contracts.{editOf};
-ghost use Rattle.tanks.specs.Resizing.{Resizes, Fits, shownBy};
+ghost use Rattle.tanks.specs.Resizing.{Resizes, Fits, Which, shownBy};
 use super::Edit;
 use super::Head;
 use super::Resize;
@@ -51,7 +51,7 @@ fn insert_resize(h: Head, who: Party, pos: u64, len: u64) -> Resize
     }
     Resize {
         from: pos - 1,
-        to: pos + 1,
+        to: pos,
         less: 0,
         more: len,
     }
@@ -95,8 +95,8 @@ pub fn resize_of(h: Head, call: Edit) -> Resize
     }
 }
 
-// Whether the run that has the positions start .. end is the one.
-pub fn fits(q: Resize, start: u64, end: u64) -> bool
+// Whether the run that has the positions start .. end has all those that are asked for.
+fn fits(q: Resize, start: u64, end: u64) -> bool
     requires { ⌜ start ≤ end ⌝ }
     ensures { λ r. ⌜ (r ≡ true → Fits q start end) ⌝ }
 {
@@ -110,6 +110,51 @@ pub fn fits(q: Resize, start: u64, end: u64) -> bool
         return false;
     }
     true
+}
+
+// Of the run that ends at `end` and the next one, by their sets, the one that the edit changes.
+fn which(q: Resize, end: u64, here: u64, next: u64) -> usize
+    ensures { λ r. ⌜ Which q end here next r ⌝ }
+{
+    if q.more == 0 {
+        return 1;
+    }
+    if q.to < end {
+        return 1;
+    }
+    let common = styles::bits::both(here, next);
+    if common == here {
+        return 1;
+    }
+    if common == next {
+        return 2;
+    }
+    0
+}
+
+// Of the run that has the positions start .. end and the next one, by their sets, the one that the edit changes alone: 1 or 2, or 0 for neither.
+pub fn choose(q: Resize, start: u64, end: u64, here: u64, next: u64) -> usize
+    requires { ⌜ start ≤ end ⌝ }
+    ensures { λ r. ⌜ (0 < r → (Fits q start end) × (Which q end here next r)) ⌝ }
+{
+    if fits(q, start, end) {
+        return which(q, end, here, next);
+    }
+    0
+}
+
+// The place before this one; of the first, the first.
+pub fn place_before(place: usize) -> usize
+    ensures { λ r. ⌜ r ≡ place - 1 ⌝ }
+{
+    if place == 0 { 0 } else { place - 1 }
+}
+
+// This place, or the pool's last.
+pub fn place_within(place: usize) -> usize
+    ensures { λ r. ⌜ r ≡ min place 511 ⌝ }
+{
+    if place < 511 { place } else { 511 }
 }
 
 // The bits of those marks of a set that an edit shows where its new positions carry the set.

@@ -76,7 +76,7 @@ abbrev μ-loop : tie.MeasureT-loop
 μ-loop settings table tank call heads pool t h n marks at q k₀ from₀ to₀ k from to = n - k
 
 abbrev Inv-loop2 : tie.InvT-loop2
-Inv-loop2 settings table tank call heads pool t h n marks at k from to lens₀ sets₀ olens osets i₀ lens sets i =
+Inv-loop2 settings table tank call heads pool t h n marks at k from to here next pick lens₀ sets₀ olens osets i₀ lens sets i =
     (i ≤ n)
     × (at + n ≤ 512)
     × (lens ≡ stored (λ k. getD pool (at + k) noRun .len) lens₀ i)
@@ -85,20 +85,20 @@ Inv-loop2 settings table tank call heads pool t h n marks at k from to lens₀ s
     × (length sets ≡ 514)
 
 abbrev μ-loop2 : tie.MeasureT-loop2
-μ-loop2 settings table tank call heads pool t h n marks at k from to lens₀ sets₀ olens osets i₀ lens sets i = n - i
+μ-loop2 settings table tank call heads pool t h n marks at k from to here next pick lens₀ sets₀ olens osets i₀ lens sets i = n - i
 
 -- the tank that is made, by what the second loop knows of it
 abbrev made-of : Head → List Mark → List ℕ → List ℕ → Left → Tank
 made-of h marks olens osets done = tankMade (tankOn (outlined h) [] [] marks) olens osets done
 
 abbrev Inv-loop3 : tie.InvT-loop3
-Inv-loop3 tank pool₀ t h n marks at k from to olens osets i done m number styles s k₀ pool k' =
+Inv-loop3 tank pool₀ t h n marks at k from to here next pick olens osets i done m number styles s k₀ pool k' =
     (k' ≤ s .count)
     × Inside (made-of h marks olens osets done) m (s .at) (s .from) (s .full) (s .count) (s .grows)
     × (pool ≡ part pool₀ (s .at) (runFrom pool₀ (made-of h marks olens osets done) (s .from) (s .full)) (lowest (s .grows) (s .count) k') k')
 
 abbrev μ-loop3 : tie.MeasureT-loop3
-μ-loop3 tank pool₀ t h n marks at k from to olens osets i done m number styles s k₀ pool k' = s .count - k'
+μ-loop3 tank pool₀ t h n marks at k from to here next pick olens osets i done m number styles s k₀ pool k' = s .count - k'
 
 -- ---- what is known on the way
 -- the tanks of the state hold no more than the pool has
@@ -108,52 +108,52 @@ held a = on-parts (a .pre .parts) (λ st hs pool table. runsBelow hs 8 ≤ 512) 
 -- the tank's runs are taken out
 abbrev tank-of : tie.After-loop2 Inv-loop μ-loop Inv-loop2 μ-loop2 Inv-loop3 μ-loop3 → Tank
 tank-of c =
-    let a = c .before .before .before .before .before .before .before .before .before .before .before .before in
+    let a = c .before .before .before .before .before .before .before .before .before .before .before .before .before .before in
     let l = c .before .loop2 in
     tankOn (outlined (getD (a .args .t2) (a .args .tank) noHead)) (l .lens) (l .sets) (a .args .table .marks)
 
-taken-is : (c : tie.After-loop2 Inv-loop μ-loop Inv-loop2 μ-loop2 Inv-loop3 μ-loop3) → let a = c .before .before .before .before .before .before .before .before .before .before .before .before in tank-of c ≡ tankIn (a .args .t2) (a .args .t3) (a .args .table) (a .args .tank)
+taken-is : (c : tie.After-loop2 Inv-loop μ-loop Inv-loop2 μ-loop2 Inv-loop3 μ-loop3) → let a = c .before .before .before .before .before .before .before .before .before .before .before .before .before .before in tank-of c ≡ tankIn (a .args .t2) (a .args .t3) (a .args .table) (a .args .tank)
 taken-is c =
-    let a = c .before .before .before .before .before .before .before .before .before .before .before .before in
+    let a = c .before .before .before .before .before .before .before .before .before .before .before .before .before .before in
     let l = c .before .loop2 in
     let hs = a .args .t2 in
     let pool = a .args .t3 in
     let t = a .args .tank in
     let e : l .i ≡ runsIn hs t = omega (arith, c .loop2-test .left, l .inv .0) in
-    let s = c .before .before .before .before .before .before .before .before .start .ensures in
+    let s = c .before .before .before .before .before .before .before .before .before .before .start .ensures in
     let long : length pool ≡ 512 = on-parts (a .pre .parts) (λ st hs pool table. length pool ≡ 512) (a .pre .sound .pool-512) in
-    let room : runsBelow hs t + runsIn hs t ≤ length pool = omega (arith, sum-next (runsIn hs) t 8 (c .before .before .before .before .before .before .before .before .before .before .before .if1 .left), held a, long) in
+    let room : runsBelow hs t + runsIn hs t ≤ length pool = omega (arith, sum-next (runsIn hs) t 8 (c .before .before .before .before .before .before .before .before .before .before .before .before .before .if1 .left), held a, long) in
     lent-tank hs pool (a .args .table) t room (omega (arith, room, long))
     (l .inv .2 ∙ (λ j. stored (λ k. getD pool (s j + k) noRun .len) (replicate 514 0) (e j)))
     (l .inv .3 ∙ (λ j. stored (λ k. getD pool (s j + k) noRun .set) (replicate 514 0) (e j)))
 
-own : (c : tie.After-loop2 Inv-loop μ-loop Inv-loop2 μ-loop2 Inv-loop3 μ-loop3) → let a = c .before .before .before .before .before .before .before .before .before .before .before .before in TakenOut (a .pre .state) (a .args .tank) (tank-of c)
+own : (c : tie.After-loop2 Inv-loop μ-loop Inv-loop2 μ-loop2 Inv-loop3 μ-loop3) → let a = c .before .before .before .before .before .before .before .before .before .before .before .before .before .before in TakenOut (a .pre .state) (a .args .tank) (tank-of c)
 unfolding tankOf
 own c =
-    let a = c .before .before .before .before .before .before .before .before .before .before .before .before in
+    let a = c .before .before .before .before .before .before .before .before .before .before .before .before .before .before in
     let t = a .args .tank in
-    let h = c .before .before .before .before .before .before .before .before .before .before .before .if1 .left in
+    let h = c .before .before .before .before .before .before .before .before .before .before .before .before .before .if1 .left in
     taken (a .pre .state) (a .pre .sound) t (tank-of c) h (on-state (at-place t h (a .pre .parts)) (λ st hs pool table. tank-of c ≡ tankIn hs pool table t) (taken-is c))
 
 -- and edited
-did : (c : tie.After-perform Inv-loop μ-loop Inv-loop2 μ-loop2 Inv-loop3 μ-loop3) → let l = c .before .before .before .before .before in PerformsOn (editOf (l .before .before .before .before .before .before .before .before .before .before .before .before .args .call)) (tank-of l) (c .perform .last .0) (c .perform .last .1 .0) (c .perform .result)
+did : (c : tie.After-perform Inv-loop μ-loop Inv-loop2 μ-loop2 Inv-loop3 μ-loop3) → let l = c .before .before .before .before .before in PerformsOn (editOf (l .before .before .before .before .before .before .before .before .before .before .before .before .before .before .args .call)) (tank-of l) (c .perform .last .0) (c .perform .last .1 .0) (c .perform .result)
 did c = c .perform .ensures
 
 -- the edit is judged: what is known of the parts is known of every state that they are of
-known : (c : tie.After-edit-verdict Inv-loop μ-loop Inv-loop2 μ-loop2 Inv-loop3 μ-loop3) (n : ℕ) → let w = c .before .before .before .before in let l = w .before .before .before .before .before in let a = l .before .before .before .before .before .before .before .before .before .before .before .before in
+known : (c : tie.After-edit-verdict Inv-loop μ-loop Inv-loop2 μ-loop2 Inv-loop3 μ-loop3) (n : ℕ) → let w = c .before .before .before .before in let l = w .before .before .before .before .before in let a = l .before .before .before .before .before .before .before .before .before .before .before .before .before .before in
     w .perform .result .runs ≡ n → (s : Tanks) → PartsOf s (placeOf (a .args .tank)) (a .args .settings) (a .args .t2) (a .args .t3) (a .args .table)
     → Known (a .args .tank) (editOf (a .args .call)) (tank-of l) (w .perform .result .number) n (c .edit-verdict .result) (s .settings) (s .heads) (s .pool) (getD (s .tables) (a .args .tank) noTable)
 known c n g s q =
     let w = c .before .before .before .before in
     let l = w .before .before .before .before .before in
-    let a = l .before .before .before .before .before .before .before .before .before .before .before .before in
+    let a = l .before .before .before .before .before .before .before .before .before .before .before .before .before .before in
     let t = a .args .tank in
     let e = editOf (a .args .call) in
-    on-state (at-place t (l .before .before .before .before .before .before .before .before .before .before .before .if1 .left) q) (Known t e (tank-of l) (w .perform .result .number) n (c .edit-verdict .result))
+    on-state (at-place t (l .before .before .before .before .before .before .before .before .before .before .before .before .before .if1 .left) q) (Known t e (tank-of l) (w .perform .result .number) n (c .edit-verdict .result))
     (known-by t e (w .perform .result .number) (a .args .settings) (a .args .t2) (a .args .t3) (a .args .table) (taken-is l) g (c .edit-verdict .ensures))
 
 -- no refusal: the places of the second loop are inside the arrays
-places : (c : tie.After-spots Inv-loop μ-loop Inv-loop2 μ-loop2 Inv-loop3 μ-loop3) → let w = c .before .before .before .before .before .before .before .before .before in let a = w .before .before .before .before .before .before .before .before .before .before .before .before .before .before .before .before .before in let p = w .perform in let r = c .spots .result in
+places : (c : tie.After-spots Inv-loop μ-loop Inv-loop2 μ-loop2 Inv-loop3 μ-loop3) → let w = c .before .before .before .before .before .before .before .before .before in let a = w .before .before .before .before .before .before .before .before .before .before .before .before .before .before .before .before .before .before .before in let p = w .perform in let r = c .spots .result in
     let x = made-of (getD (a .args .t2) (a .args .tank) noHead) (a .args .table .marks) (p .last .0) (p .last .1 .0) (p .result) in
     Inside x (x .runs) (r .at) (r .from) (r .full) (r .count) (r .grows)
 places c =
@@ -162,9 +162,9 @@ places c =
     let p = w .perform in
     let d = did w in
     let l = w .before .before .before .before .before in
-    let a = l .before .before .before .before .before .before .before .before .before .before .before .before in
+    let a = l .before .before .before .before .before .before .before .before .before .before .before .before .before .before in
     let t = a .args .tank in
-    let h = l .before .before .before .before .before .before .before .before .before .before .before .if1 .left in
+    let h = l .before .before .before .before .before .before .before .before .before .before .before .before .before .if1 .left in
     let e = editOf (a .args .call) in
     let x = tank-of l in
     let s = a .pre .state in
@@ -199,14 +199,16 @@ next-end c =
     omega (arith, walk-room (c .before .before .loop .inv .0) (onward c), len-of (a .args .t2) (a .args .t3) (a .args .table) (a .args .tank) s (c .before .before .before .before .start .ensures) (onward c), tank-sums (a .args .t2) (a .args .t3) (a .args .table) (a .args .tank) s, tank-small (a .args .t2) (a .args .t3) (a .args .table) (a .args .tank) s)
 
 -- the run is found
-facts : (c : tie.Then3 Inv-loop μ-loop Inv-loop2 μ-loop2 Inv-loop3 μ-loop3) → let a = c .before .before .before .before .before .before .before .before .before .before in let l = c .before .before .before .before .loop in
-    Placed (a .args .t2) (a .args .t3) (a .args .tank) (c .before .before .before .before .before .before .start .result) (c .before .before .before .before .before .resize-of .result) (l .k) (l .from) (l .to)
+facts : (c : tie.Then3 Inv-loop μ-loop Inv-loop2 μ-loop2 Inv-loop3 μ-loop3) → let a = c .before .before .before .before .before .before .before .before .before .before .before .before in let l = c .before .before .before .before .before .before .loop in
+    Placed (editOf (a .args .call)) (a .args .t2) (a .args .t3) (a .args .table) (a .args .tank) (c .before .before .before .before .before .before .before .before .start .result) (c .before .before .before .before .before .before .before .resize-of .result) (l .k) (c .before .choose .result)
 facts c =
-    let a = c .before .before .before .before .before .before .before .before .before .before in
-    let h = c .before .before .before .before .before .before .before .before .before .if1 .left in
-    let l = c .before .before .before .before .loop in
-    found (a .args .t2) (a .args .t3) (a .args .table) (a .args .tank) (whole-tank a h) (editOf (a .args .call)) _ (c .before .before .before .before .before .before .start .ensures) (l .inv .1) (l .inv .0)
-    (c .before .before .before .before .before .resize-of .ensures) (c .before .fits2 .ensures (c .if3 .taken)) (c .before .before .if2 .left)
+    let a = c .before .before .before .before .before .before .before .before .before .before .before .before in
+    let h = c .before .before .before .before .before .before .before .before .before .before .before .if1 .left in
+    let l = c .before .before .before .before .before .before .loop in
+    let b = c .before .before .before in
+    let pool = a .args .t3 in
+    found (a .args .t2) pool (a .args .table) (a .args .tank) (whole-tank a h) (editOf (a .args .call)) _ (c .before .before .before .before .before .before .before .before .start .ensures) (l .inv .1) (l .inv .0)
+    (c .before .before .before .before .before .before .before .resize-of .ensures) (c .before .before .before .before .if2 .left) (ap (λ (j : ℕ). getD pool j noRun .set) (b .place-before .ensures)) (ap (λ (j : ℕ). getD pool j noRun .set) (c .before .before .place-within .ensures)) (c .if3 .taken) (c .before .choose .ensures (c .if3 .taken))
 
 -- ---- what is asked for
 returns : tie.Need-returns Inv-loop μ-loop Inv-loop2 μ-loop2 Inv-loop3 μ-loop3
@@ -237,39 +239,43 @@ loop-again c =
 
 shown-by-requires : tie.Need-shown-by-requires Inv-loop μ-loop Inv-loop2 μ-loop2 Inv-loop3 μ-loop3
 shown-by-requires c κs =
-    let a = c .before .before .before .before .before .before .before .before .before .before in
-    let h = c .before .before .before .before .before .before .before .before .before .if1 .left in
+    let d = c .before in
+    let a = d .before .before .before .before .before .before .before .before .before .before .before .before in
+    let h = d .before .before .before .before .before .before .before .before .before .before .before .if1 .left in
     let s = whole-tank a h in
-    (tank-few (a .args .t2) (a .args .t3) (a .args .table) (a .args .tank) s, set-small (a .args .t2) (a .args .t3) (a .args .table) (a .args .tank) s (facts c .at-is) (facts c .there))
+    (tank-few (a .args .t2) (a .args .t3) (a .args .table) (a .args .tank) s, set-small (a .args .t2) (a .args .t3) (a .args .table) (a .args .tank) s (facts d .at-is) (facts d .there))
 
 styles-of-requires : tie.Need-styles-of-requires Inv-loop μ-loop Inv-loop2 μ-loop2 Inv-loop3 μ-loop3
 styles-of-requires c κs =
-    let a = c .before .before .before .before .before .before .before .before .before .before .before in
-    let h = c .before .before .before .before .before .before .before .before .before .before .if1 .left in
+    let d = c .before .before in
+    let a = d .before .before .before .before .before .before .before .before .before .before .before .before in
+    let h = d .before .before .before .before .before .before .before .before .before .before .before .if1 .left in
     (tank-few (a .args .t2) (a .args .t3) (a .args .table) (a .args .tank) (whole-tank a h), c .shown-by .ensures .0)
 
 -- one run has changed
 returns-2 : tie.Need-returns-2 Inv-loop μ-loop Inv-loop2 μ-loop2 Inv-loop3 μ-loop3
 returns-2 c =
-    let d = c .before .before .before .before .before in
+    let d = c .before .before .before .before .before .before in
     let f = d .before in
-    let v = f .before in
-    let a = v .before .before .before .before .before .before .before .before .before .before in
+    let v = f .before .before in
+    let a = v .before .before .before .before .before .before .before .before .before .before .before .before in
     let t = a .args .tank in
-    let h = v .before .before .before .before .before .before .before .before .before .if1 .left in
+    let h = v .before .before .before .before .before .before .before .before .before .before .before .if1 .left in
     let e = editOf (a .args .call) in
-    let l = v .before .before .before .before .loop in
-    let q = v .before .before .before .before .before .resize-of .result in
-    let at = v .before .before .before .before .before .before .start .result in
+    let l = v .before .before .before .before .before .before .loop in
+    let q = v .before .before .before .before .before .before .before .resize-of .result in
+    let at = v .before .before .before .before .before .before .before .before .start .result in
+    let one = v .before .choose .result in
     let x = getD (a .args .t2) t noHead in
-    let left : Parts = record { pool = set (a .args .t3) (at + (l .k - 1)) (record { len = l .to - l .from - q .less + q .more; set = getD (a .args .t3) (at + (l .k - 1)) noRun .set }); head = record { touched = true; length = x .length - q .less + q .more; runs = x .runs; marks = x .marks }; number = 0; first = 0; table = a .args .table; styles = d .styles-of .result } in
+    let y = getD (a .args .t3) (at + (l .k + one - 2)) noRun in
+    let left : Parts = record { pool = set (a .args .t3) (at + (l .k + one - 2)) (record { len = y .len - q .less + q .more; set = y .set }); head = record { touched = true; length = x .length - q .less + q .more; runs = x .runs; marks = x .marks }; number = 0; first = 0; table = a .args .table; styles = d .styles-of .result } in
     λ s ok r. subst (λ (u : ℕ). DoneAt s t e (doneWith s u left)) (sym (place-in t h))
-    (on-parts (at-place t h r) (Did s t e ok h) (did-own s t e ok h) at (l .k) (l .from) (l .to) q (facts v) (v .before .before .before .before .before .resize-of .ensures) left refl refl refl refl
+    (on-parts (at-place t h r) (Did s t e ok h) (did-own s t e ok h) at (l .k) one q (facts v) (v .before .before .before .before .before .before .before .resize-of .ensures) left refl refl refl refl
     (d .styles-of .ensures ∙ ap stylesOf (f .shown-by .ensures .1)) refl)
 
 loop2-holds : tie.Need-loop2-holds Inv-loop μ-loop Inv-loop2 μ-loop2 Inv-loop3 μ-loop3
 loop2-holds c =
-    let d = c .before .before .before .before .before .before in
+    let d = c .before .before .before .before .before .before .before .before in
     let a = d .before .before .before .before in
     (omega arith, omega (arith, d .start .ensures, sum-next (runsIn (a .args .t2)) (a .args .tank) 8 (d .before .before .before .if1 .left), held a), refl, refl, refl, refl)
 
@@ -284,7 +290,7 @@ perform-requires c κs = record { sound = own (c .before .before .before .before
 edit-verdict-requires : tie.Need-edit-verdict-requires Inv-loop μ-loop Inv-loop2 μ-loop2 Inv-loop3 μ-loop3
 edit-verdict-requires c κs =
     let w = c .before .before .before in
-    let o = w .before .before .before .before .before .before .before .before .before .before .before .before .before .before .before .before in
+    let o = w .before .before .before .before .before .before .before .before .before .before .before .before .before .before .before .before .before .before in
     let a = o .before in
     (o .if1 .left, on-parts (a .pre .parts) (λ st hs pool table. Judged st hs) (sound-judged (a .pre .state) (a .pre .sound)))
 
@@ -295,9 +301,9 @@ returns-3 c =
     let p = w .perform in
     let d = did w in
     let l = w .before .before .before .before .before in
-    let a = l .before .before .before .before .before .before .before .before .before .before .before .before in
+    let a = l .before .before .before .before .before .before .before .before .before .before .before .before .before .before in
     let t = a .args .tank in
-    let h = l .before .before .before .before .before .before .before .before .before .before .before .if1 .left in
+    let h = l .before .before .before .before .before .before .before .before .before .before .before .before .before .if1 .left in
     let e = editOf (a .args .call) in
     let x = tank-of l in
     let r = c .unchanged2 .result in
@@ -315,9 +321,9 @@ returns-4 c =
     let p = w .perform in
     let d = did w in
     let l = w .before .before .before .before .before in
-    let a = l .before .before .before .before .before .before .before .before .before .before .before .before in
+    let a = l .before .before .before .before .before .before .before .before .before .before .before .before .before .before in
     let t = a .args .tank in
-    let h = l .before .before .before .before .before .before .before .before .before .before .before .if1 .left in
+    let h = l .before .before .before .before .before .before .before .before .before .before .before .before .before .if1 .left in
     let e = editOf (a .args .call) in
     let x = tank-of l in
     let z : v .edit-verdict .result ≡ 0 = omega (arith, c .before .before .before .if4 .left) in
@@ -331,7 +337,7 @@ returns-4 c =
 spots-requires : tie.Need-spots-requires Inv-loop μ-loop Inv-loop2 μ-loop2 Inv-loop3 μ-loop3
 spots-requires c κs =
     let w = c .before .before .before .before .before .before .before .before in
-    let o = w .before .before .before .before .before .before .before .before .before .before .before .before .before .before .before .before in
+    let o = w .before .before .before .before .before .before .before .before .before .before .before .before .before .before .before .before .before .before in
     (o .if1 .left, performed-made (did w) (not-false _ (c .if5 .left)) .called .formed .laid .most, held (o .before))
 
 loop3-holds : tie.Need-loop3-holds Inv-loop μ-loop Inv-loop2 μ-loop2 Inv-loop3 μ-loop3
@@ -344,7 +350,7 @@ loop3-again c =
     let g = l .before in
     let q = g .spots .result in
     let w = g .before .before .before .before .before .before .before .before .before in
-    let a = w .before .before .before .before .before .before .before .before .before .before .before .before .before .before .before .before .before in
+    let a = w .before .before .before .before .before .before .before .before .before .before .before .before .before .before .before .before .before .before .before in
     let p = w .perform in
     let x = made-of (getD (a .args .t2) (a .args .tank) noHead) (a .args .table .marks) (p .last .0) (p .last .1 .0) (p .result) in
     let pool = a .args .t3 in
@@ -364,7 +370,7 @@ loop3-again-2 c =
     let g = l .before in
     let q = g .spots .result in
     let w = g .before .before .before .before .before .before .before .before .before in
-    let a = w .before .before .before .before .before .before .before .before .before .before .before .before .before .before .before .before .before in
+    let a = w .before .before .before .before .before .before .before .before .before .before .before .before .before .before .before .before .before .before .before in
     let p = w .perform in
     let x = made-of (getD (a .args .t2) (a .args .tank) noHead) (a .args .table .marks) (p .last .0) (p .last .1 .0) (p .result) in
     let pool = a .args .t3 in
@@ -387,7 +393,7 @@ loop3-again-3 c =
     let g = l .before in
     let q = g .spots .result in
     let w = g .before .before .before .before .before .before .before .before .before in
-    let a = w .before .before .before .before .before .before .before .before .before .before .before .before .before .before .before .before .before in
+    let a = w .before .before .before .before .before .before .before .before .before .before .before .before .before .before .before .before .before .before .before in
     let p = w .perform in
     let x = made-of (getD (a .args .t2) (a .args .tank) noHead) (a .args .table .marks) (p .last .0) (p .last .1 .0) (p .result) in
     let pool = a .args .t3 in
@@ -413,9 +419,9 @@ returns-5 c =
     let p = w .perform in
     let d = did w in
     let l = w .before .before .before .before .before in
-    let a = l .before .before .before .before .before .before .before .before .before .before .before .before in
+    let a = l .before .before .before .before .before .before .before .before .before .before .before .before .before .before in
     let t = a .args .tank in
-    let h = l .before .before .before .before .before .before .before .before .before .before .before .if1 .left in
+    let h = l .before .before .before .before .before .before .before .before .before .before .before .before .before .if1 .left in
     let e = editOf (a .args .call) in
     let x = tank-of l in
     let o = c .before .before .before in
@@ -457,20 +463,28 @@ edit-parts-spec =
     (λ c. omega (arith, onward c, c .before .before .loop .inv .1))
     (λ c. omega (arith, onward c))
     loop-again
-    (λ c κs. walk-up (c .before .before .loop .inv .0))
+    (λ c. omega (arith, c .before .before .loop .inv .0 .most, c .before .before .loop .inv .1))
+    (λ c κs. search needs)
+    (λ c. omega (arith, c .before .before .before .loop .inv .0 .most, c .before .before .before .loop .inv .1, c .place-before .ensures))
+    (λ c. omega (arith, c .before .before .before .loop .inv .0 .most, c .before .before .before .loop .inv .1, c .place-before .ensures))
+    (λ c. omega (arith, c .before .before .before .loop .inv .0 .most, c .before .before .before .loop .inv .1))
+    (λ c κs. search needs)
+    (λ c. omega (arith, c .place-within .ensures))
+    (λ c. omega (arith, c .place-within .ensures))
+    (λ c κs. walk-up (c .before .before .before .before .loop .inv .0))
+    (λ c. omega (arith, facts c))
     (λ c. omega (arith, facts c))
     (λ c. omega (arith, facts c))
     (λ c. omega (arith, facts c))
     (λ c. omega (arith, facts c))
     shown-by-requires
     styles-of-requires
-    (λ c. omega (arith, facts (c .before .before)))
-    (λ c. omega (arith, facts (c .before .before .before) .fits))
-    (λ c. omega (arith, facts (c .before .before .before .before)))
-    (λ c. omega (arith, facts (c .before .before .before .before)))
-    (λ c. omega (arith, facts (c .before .before .before .before)))
+    (λ c. omega (arith, facts (c .before .before .before .before .before)))
     (λ c. omega (arith, facts (c .before .before .before .before .before .before)))
-    (λ c. omega (arith, facts (c .before .before .before .before .before .before .before)))
+    (λ c. omega (arith, facts (c .before .before .before .before .before .before)))
+    (λ c. omega (arith, facts (c .before .before .before .before .before .before)))
+    (λ c. omega (arith, facts (c .before .before .before .before .before .before .before .before)))
+    (λ c. omega (arith, facts (c .before .before .before .before .before .before .before .before .before)))
     returns-2
     loop2-holds
     (λ c. search needs)

@@ -35,6 +35,7 @@ returns-7 c =
         plant = sym (b .before .is-lab .ensures) ∙ b .if1 .left;
         some = omega arith;
         touched = not-false _ (g .if5 .left);
+        inside = omega arith;
         room = omega arith;
         from-is = omega arith;
         to-is = refl;
@@ -61,6 +62,5 @@ insert-resize-spec =
     (λ c. search needs)
     (λ c κs. search needs)
     returns-6
-    (λ c. search needs)
     (λ c. search needs)
     returns-7)
