@@ -1,12 +1,11 @@
 -- One run made longer or shorter where it stands: an insertion between two of its positions, and a deletion of some of them but not all.
 use Prim.Native.Nat.{ℕ, zero, suc, _+_, _-_, _≤_, _<_}
-use mathlib.Core.Path.{_≡_, refl, sym, ap, ap₂, _∙_, subst}
+use mathlib.Core.Path.{_≡_, refl, sym, ap, _∙_, subst}
 use mathlib.Core.Bool.{cond}
 use mathlib.Core.List.{List, [], _∷_, _++_}
 use native.Mathlib.Omega.{arith}
 use native.Mathlib.Decide.{decLt}
 use lib.Dec.{ltb}
-use lib.Bits.{bitAnd, and-self}
 use lib.ListN.{length, getD, set}
 use lib.Seq.{getD-set-same, getD-set-other}
 use borrow.Author.Tests.{lt-ltb, le-ltb}
@@ -15,8 +14,9 @@ use Rattle.runs.specs.Edits.{Joined}
 use Rattle.runs.specs.Positions.{deletedAt, insertedAt}
 use Rattle.runs.specs.Gather.{gather}
 use Rattle.runs.specs.Scan.{commonAt}
-use Rattle.runs.proofs.Laws.{runs-ext, at-last}
-use Rattle.runs.proofs.WindowLaws.{Looks, canon-back, window-in, inserted-window, deleted-window}
+use Rattle.runs.proofs.Laws.{runs-ext, total-sums, at-last}
+use Rattle.runs.proofs.ScanLaws.{common-in}
+use Rattle.runs.proofs.WindowLaws.{Looks, canon-back, inserted-window, deleted-window}
 
 -- ---- the list in three parts: the runs behind run i, that run, and those before it
 -- of the first n runs those behind run i
@@ -127,17 +127,12 @@ module _ (lens sets : List ℕ) (n i : ℕ) (c : Canon (runs lens sets n)) (h : 
   unfolding total
   one-total = omega arith
 
-  -- what its positions carry
-  pub run-at : (p : ℕ) → total (runs lens sets i) ≤ p → p < total (runs lens sets i) + getD lens i 0 → setAt (runs lens sets n) p ≡ getD sets i 0
-  run-at p g k =
-      rw (split lens sets i n h)
-      (window-in (behind lens sets i n) (run (getD lens i 0) (getD sets i 0) ∷ []) (runs lens sets i) p g (omega (arith, one-total))
-      ∙ one-at (getD lens i 0) (getD sets i 0) (p - total (runs lens sets i)) (omega arith))
-
+  -- what two of its positions have in common
   pub run-common : (pos : ℕ) → total (runs lens sets i) < pos → pos < total (runs lens sets i) + getD lens i 0 → getD sets i 0 ≡ commonAt (runs lens sets n) pos
-  unfolding commonAt
-  run-common zero g k = absurd (omega arith)
-  run-common (suc p) g k = sym (rw (run-at p (omega arith) (omega arith), run-at (suc p) (omega arith) k) (and-self (getD sets i 0)))
+  run-common pos g k =
+      sym
+      (common-in lens sets n pos i (total (runs lens sets i)) (total (runs lens sets i) + getD lens i 0)
+      (record { within = omega arith; starts = total-sums lens sets i; reached = omega arith; inside = λ _. (k, refl); past = λ z. absurd (omega arith) }) h g)
 
   pub run-inserted : (pos l : ℕ) → total (runs lens sets i) ≤ pos → pos ≤ total (runs lens sets i) + getD lens i 0
       → Joined (total (runs lens sets n) + l) (insertedAt pos l (getD sets i 0) (setAt (runs lens sets n))) (runs (set lens i (getD lens i 0 + l)) sets n)

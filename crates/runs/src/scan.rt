@@ -95,14 +95,13 @@ pub fn back(lens: &[u64], sets: &[u64], n: usize, mask: u64, last: u64) -> u64
     let mut i = 0;
     let mut start: u64 = 0;
     let mut from: u64 = 0;
-    while i < n {
-        let end = start + lens[i];
-        let len = clip(0, last + 1, start, end);
+    while start <= last {
+        let len = lens[i];
         let missed = here(len, Test::Misses(mask), sets[i]);
-        start = end;
+        start += len;
         i += 1;
         if missed {
-            from = sooner(end, last + 1);
+            from = sooner(start, last + 1);
         }
     }
     from

@@ -19,7 +19,7 @@ use Rattle.runs.specs.Gather.{gather}
 use Rattle.runs.proofs.GatherLaws.{set-within}
 use Rattle.runs.proofs.Laws.{total-more}
 use Rattle.runs.proofs.ScanLaws.{at-run, common-inside}
-use Rattle.runs.proofs.ResizeLaws.{resized-gather, resized-spare, run-some, run-at, run-common, run-inserted, run-deleted}
+use Rattle.runs.proofs.ResizeLaws.{resized-gather, resized-spare, run-some, run-common, run-inserted, run-deleted}
 use Rattle.tank.specs.declared.Tank.{Tank}
 use Rattle.tank.specs.Rules.{deleting, isLab, largest}
 use Rattle.tank.specs.State.{runsOf, tableOf, Sound, Called}
@@ -49,7 +49,7 @@ module _ {t : Tank} (s : Sound t) (i : ℕ) (there : i < t .runs) where
   run-inside =
       let begins = total (runs (t .lens) (t .sets) i) in
       let canon = s .formed .laid .canon in
-      let is = run-at (t .lens) (t .sets) (t .runs) i canon there within begins (omega arith) (omega (arith, run-some (t .lens) (t .sets) (t .runs) i canon there within)) in
+      let is = at-run (t .lens) (t .sets) (t .runs) i begins there (omega arith) (omega (arith, run-some (t .lens) (t .sets) (t .runs) i canon there within)) in
       let x = setAt (runsOf t) begins in
       omega (arith, is, set-within (runsOf t) begins, and-le-r x (gather (runsOf t)), s .formed .laid .inside)
 
