@@ -16,6 +16,7 @@ use super::kept::Kept;
 use super::kept::fed;
 use super::kept::from_place;
 use super::kept::load;
+use super::kept::say_overtaken;
 use super::refusing::stopped;
 use super::words::failed;
 use super::words::note;
@@ -28,8 +29,17 @@ fn gone() -> Arrived
     ensures { λ r. ⌜ r .held ≤ 65536 ⌝ }
     ensures { λ r. ⌜ r .over ≡ true ⌝ }
 {
+    left(false)
+}
+
+// What has arrived is not taken: it can be taken again, where another keeper was quicker.
+fn left(again: bool) -> Arrived
+    ensures { λ r. ⌜ r .held ≤ 65536 ⌝ }
+    ensures { λ r. ⌜ r .over ≡ true ⌝ }
+{
     Arrived {
         over: true,
+        again: again,
         lines: 0,
         held: 0,
     }
@@ -59,6 +69,7 @@ fn holding(bytes: &mut [u8], at: usize, end: usize, lines: u64) -> Arrived
     let n = keeper_file::hold(bytes, at, end);
     Arrived {
         over: false,
+        again: false,
         lines: lines,
         held: n,
     }
@@ -112,7 +123,7 @@ fn taken(
     if f.good {
         return told(state, bytes, end, lines, f);
     }
-    gone()
+    left(f.other)
 }
 
 fn more(state: &[u8], bytes: &mut [u8], end: usize, lines: u64, afresh: bool, sync: bool) -> Arrived
@@ -126,6 +137,32 @@ fn more(state: &[u8], bytes: &mut [u8], end: usize, lines: u64, afresh: bool, sy
         let from = from_place(k, afresh);
         return taken(state, from, &mut text, bytes, end, lines, sync);
     }
+    gone()
+}
+
+// What has come is kept. Where another keeper was quicker, nothing of it was: it is taken again, on what STATE says now, since nothing can be
+// read twice.
+fn insist(
+    state: &[u8],
+    bytes: &mut [u8],
+    end: usize,
+    lines: u64,
+    afresh: bool,
+    sync: bool,
+) -> Arrived
+    requires { ⌜ end ≤ length (now bytes) ⌝ }
+    ensures { λ r. ⌜ r .held ≤ 65536 ⌝ }
+{
+    let mut tries: u64 = 100;
+    while tries > 0 {
+        let a = more(state, bytes, end, lines, afresh, sync);
+        if a.again {
+            tries -= 1;
+        } else {
+            return a;
+        }
+    }
+    say_overtaken(state, true);
     gone()
 }
 
@@ -164,7 +201,7 @@ fn arrive(
         return gone();
     }
     let end = text::put(bytes, held, &buf[..n]);
-    more(state, bytes, end, lines, afresh, sync)
+    insist(state, bytes, end, lines, afresh, sync)
 }
 
 // Read after read: the count of turns is one that no run uses up.

@@ -67,6 +67,7 @@ fn answers(
     if at == 0 {
         return Saving {
             good: !over,
+            other: false,
             size: k.size,
         };
     }
@@ -75,6 +76,7 @@ fn answers(
     if w.good {
         return Saving {
             good: handed(out, at, over),
+            other: false,
             size: w.size,
         };
     }

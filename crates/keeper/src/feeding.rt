@@ -9,6 +9,7 @@ use super::kept::Kept;
 use super::kept::fed;
 use super::kept::from_place;
 use super::kept::load;
+use super::kept::say_overtaken;
 use super::refusing::stopped;
 use super::words::complain_of;
 use super::words::failed;
@@ -27,9 +28,11 @@ struct Turn {
     left: usize,
 }
 
-// What came of what has arrived: whether reading ends with it, how many lines were taken so far, and how many bytes are held.
+// What came of what has arrived: whether reading ends with it, whether it is to be taken again, how many lines were taken so far, and how many
+// bytes are held.
 pub struct Arrived {
     pub over: bool,
+    pub again: bool,
     pub lines: u64,
     pub held: usize,
 }
@@ -162,6 +165,7 @@ fn applied(
     if f.good {
         return told(state, log, fd, from, f, bytes);
     }
+    say_overtaken(state, f.other);
     broken()
 }
 

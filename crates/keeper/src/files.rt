@@ -12,6 +12,13 @@ pub struct Whole {
     pub size: usize,
 }
 
+// What came of replacing a file: it is the new one; or it could not be replaced; or it was no longer what had been read of it, and is left so.
+pub enum Replacing {
+    Done,
+    Failed,
+    Overtaken,
+}
+
 // Room for a path and for what is put behind it.
 pub fn path_room() -> [u8; 4224]
     ensures { λ r. ⌜ 4224 ≡ length r ⌝ }
@@ -201,33 +208,40 @@ pub fn finished(fd: i32, name: &[u8], path: &[u8], text: &[u8], sync: bool) -> b
     false
 }
 
-// Whether a file still has the bytes that were read of it: another keeper may have replaced it since.
-fn still(path: &[u8], old: &[u8]) -> bool {
+// Whether a file still has the bytes that were read of it, so that it can be replaced: another keeper may have done so since.
+fn still(path: &[u8], old: &[u8]) -> Replacing {
     let mut room = clerk::body_room();
     let w = read_whole(path, &mut room);
     let n = within(w.size, &room);
-    if !w.good {
-        return false;
+    if w.good {
+        if text::same(&room[..n], old) {
+            return Replacing::Done;
+        }
+        return Replacing::Overtaken;
     }
-    if text::same(&room[..n], old) {
-        return true;
+    Replacing::Failed
+}
+
+// A file that is filled takes the place of the old one.
+fn renamed_as(name: &[u8], path: &[u8], sync: bool) -> Replacing {
+    if renamed(name, path, sync) {
+        return Replacing::Done;
     }
-    complain_of(
-        path,
-        b" was changed by another keeper while this one worked: it is left so, and nothing of this is kept",
-    );
-    false
+    Replacing::Failed
 }
 
 // A file that was made beside takes the place of the old one, where that is still the one that was read; else it goes.
-fn exchanged(fd: i32, name: &[u8], path: &[u8], old: &[u8], text: &[u8], sync: bool) -> bool {
+fn exchanged(fd: i32, name: &[u8], path: &[u8], old: &[u8], text: &[u8], sync: bool) -> Replacing {
     if filled(fd, name, text, sync) {
-        if still(path, old) {
-            return renamed(name, path, sync);
-        }
+        let now = still(path, old);
+        let Replacing::Done = now else {
+            os::unlink(name);
+            return now;
+        };
+        return renamed_as(name, path, sync);
     }
     os::unlink(name);
-    false
+    Replacing::Failed
 }
 
 // One of sixteen letters.
@@ -251,19 +265,19 @@ fn draw(word: &mut [u8]) -> bool
 
 // Replaces a file whole, if it still is what was read of it: the next one is written beside, under a name of its own, and takes the old one's
 // place when it has reached its device.
-pub fn replaced(path: &[u8], old: &[u8], text: &[u8], sync: bool) -> bool {
+pub fn replaced(path: &[u8], old: &[u8], text: &[u8], sync: bool) -> Replacing {
     let mut word = [0u8; 21];
     text::put(&mut word, 0, b".new-");
     if !draw(&mut word) {
         failed(path, b": no name can be drawn for the file beside it");
-        return false;
+        return Replacing::Failed;
     }
     let mut name = path_room();
     let k = put_path(&mut name, path, &word);
     let fd = os::create(&name[..k]);
     if fd < 0 {
         failed(&name[..k], b" can't be made");
-        return false;
+        return Replacing::Failed;
     }
     exchanged(fd, &name[..k], path, old, text, sync)
 }

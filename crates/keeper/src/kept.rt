@@ -6,6 +6,7 @@ ghost use lib.ListN.{length};
 ghost use Rattle.tanks.specs.Pool.{Sound, meaning};
 ghost use Rattle.keeper_file.specs.Keeping.{Tells};
 ghost use Rattle.keeper.specs.Steps.{InStep, Saves, Writes, Feeds};
+use super::files::Replacing;
 use super::files::read_whole;
 use super::files::replaced;
 use super::files::within;
@@ -24,16 +25,18 @@ pub struct Kept {
     pub tanks: Tanks,
 }
 
-// Whether all went well, and how long the text is that is kept now.
+// Whether all went well, or another keeper had changed STATE meanwhile, and how long the text is that is kept now.
 pub struct Saving {
     pub good: bool,
+    pub other: bool,
     pub size: usize,
 }
 
-// Whether all went well, and what came of a read: up to where the log has been read, how many bytes, lines and edits were taken, and where it
+// Whether all went well, or another keeper had changed STATE meanwhile, and what came of a read: up to where the log has been read, how many bytes, lines and edits were taken, and where it
 // stopped.
 pub struct Feeding {
     pub good: bool,
+    pub other: bool,
     pub place: u64,
     pub at: usize,
     pub lines: u64,
@@ -139,7 +142,28 @@ fn not_saved() -> Saving
 {
     Saving {
         good: false,
+        other: false,
         size: 0,
+    }
+}
+
+fn overtaken() -> Saving
+    ensures { λ r. ⌜ r .good ≡ false ⌝ }
+{
+    Saving {
+        good: false,
+        other: true,
+        size: 0,
+    }
+}
+
+// Where another keeper was quicker, nothing of this one's work is kept.
+pub fn say_overtaken(path: &[u8], other: bool) {
+    if other {
+        complain_of(
+            path,
+            b" was changed by another keeper while this one worked: it is left so, and nothing of this is kept",
+        );
     }
 }
 
@@ -162,17 +186,27 @@ pub fn written(
     if r.changed {
         let n = within(r.count, next);
         let k = within(size, kept);
-        if replaced(path, &kept[..k], &next[..n], sync) {
-            text::put(kept, 0, &next[..n]);
-            return Saving {
-                good: true,
-                size: n,
-            };
+        let done = replaced(path, &kept[..k], &next[..n], sync);
+        match done {
+            Replacing::Done => {
+                text::put(kept, 0, &next[..n]);
+                return Saving {
+                    good: true,
+                    other: false,
+                    size: n,
+                };
+            }
+            Replacing::Failed => {
+                return not_saved();
+            }
+            Replacing::Overtaken => {
+                return overtaken();
+            }
         }
-        return not_saved();
     }
     Saving {
         good: true,
+        other: false,
         size: size,
     }
 }
@@ -185,7 +219,9 @@ pub fn save(path: &[u8], s: Tanks, place: u64, kept: &mut [u8], size: usize, syn
     let mut next = clerk::body_room();
     let k = within(size, kept);
     let r = keeper_file::renew(s, place, &kept[..k], &mut next);
-    written(path, r, &next, kept, k, sync)
+    let w = written(path, r, &next, kept, k, sync);
+    say_overtaken(path, w.other);
+    w
 }
 
 // Takes the whole groups of one read of the log, and writes STATE as they leave it. Nothing is said of them before that.
@@ -203,6 +239,7 @@ pub fn fed(path: &[u8], k: Kept, bytes: &[u8], kept: &mut [u8], sync: bool) -> F
     let stop = t.stop;
     Feeding {
         good: w.good,
+        other: w.other,
         place: f.place,
         at: t.at,
         lines: t.lines,

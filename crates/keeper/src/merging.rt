@@ -5,6 +5,7 @@ ghost use Rattle.keeper_file.specs.Merging.{Sound};
 use super::feeding::note_edits;
 use super::files::within;
 use super::kept::load;
+use super::kept::say_overtaken;
 use super::kept::written;
 use super::words::failed;
 use super::words::note;
@@ -183,6 +184,7 @@ fn settled(state: &[u8], m: Merge, place: u64, kept: &mut [u8], size: usize, syn
     let n = within(size, kept);
     let r = keeper_file::settle(m, place, &kept[..n], &mut next);
     let w = written(state, r, &next, kept, size, sync);
+    say_overtaken(state, w.other);
     w.good
 }
 

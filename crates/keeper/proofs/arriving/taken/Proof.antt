@@ -33,7 +33,7 @@ returns c =
     )
 
 returns-2 : tie.Need-returns-2
-returns-2 c = (c .gone .ensures .0, over-not (c .gone .result .over) (c .gone .ensures .1))
+returns-2 c = (c .left .ensures .0, over-not (c .left .result .over) (c .left .ensures .1))
 
 pub taken-spec : {M : Type 1} → statement M
 taken-spec =

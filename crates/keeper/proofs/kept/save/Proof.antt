@@ -6,7 +6,7 @@ use Rattle.keeper.proofs.kept.save.Tie as tie
 
 returns : tie.Need-returns
 returns c =
-    let w = c .before .before in
+    let w = c .before .before .before in
     let r = w .before .before .before .before in
     let n = r .before .before .before in
     let s = n .before .before .before .before .before in
@@ -23,6 +23,7 @@ save-spec =
     (λ c. search needs)
     (λ c κs. search needs)
     (λ c. search needs)
+    (λ c κs. search needs)
     (λ c κs. search needs)
     (λ c. search needs)
     returns)

@@ -17,8 +17,8 @@ returns c = λ place h buffer inside n good. absurd (true≢false (sym good ∙ 
 returns-2 : tie.Need-returns-2
 returns-2 c =
     let p = c .before .before .put in
-    let n = c .before .before .before .before .before .before .before .before .before .before .before .within in
-    let e = c .before .before .before .before .before .before .before .before .before .before .before .before .before in
+    let n = c .before .before .before .before .before .before .before .before .before .before .before .before .within in
+    let e = c .before .before .before .before .before .before .before .before .before .before .before .before .before .before in
     let s = e .before .before .before .before .before in
     λ place h buffer inside renews good.
     subst (λ (l : List ℕ). Holds place h (n .result) l) (sym (p .ensures .1))
@@ -28,7 +28,10 @@ returns-3 : tie.Need-returns-3
 returns-3 c = λ place h buffer inside n good. absurd (true≢false (sym good ∙ c .not-saved2 .ensures))
 
 returns-4 : tie.Need-returns-4
-returns-4 c =
+returns-4 c = λ place h buffer inside n good. absurd (true≢false (sym good ∙ c .overtaken .ensures))
+
+returns-5 : tie.Need-returns-5
+returns-5 c =
     let e = c .before in
     let s = e .before .before .before .before .before in
     λ place h buffer inside renews good.
@@ -49,10 +52,16 @@ written-spec =
     (λ c. search needs)
     (λ c κs. search needs)
     (λ c. search needs)
+    (λ c. search needs)
     (λ c κs. search needs)
     (λ c. search needs)
     returns-2
+    (λ c. search needs)
     (λ c κs. search needs)
     (λ c. search needs)
     returns-3
-    returns-4)
+    (λ c. search needs)
+    (λ c κs. search needs)
+    (λ c. search needs)
+    returns-4
+    returns-5)
