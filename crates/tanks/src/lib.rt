@@ -1,6 +1,6 @@
 // Eight tanks in one state: settings at opening, the edits and the questions with the tank's number in front.
 mod settings; // settings.rt: shares and limits
-mod pool; // pool.rt: the tanks' runs and marks in one state
+pub mod pool; // pool.rt: the tanks' runs and marks in one state
 mod within; // within.rt: edits that change the length of one run alone
 pub mod look; // look.rt: one tank read where it stands
 pub mod stretches; // stretches.rt: its stretches, likewise
@@ -45,16 +45,16 @@ pub struct Setting {
 
 // A tank but for its runs and its marks, which are so many.
 pub struct Head {
-    touched: bool,
-    length: u64,
+    pub touched: bool,
+    pub length: u64,
     pub runs: usize,
-    marks: usize,
+    pub marks: usize,
 }
 
 // So many neighbouring positions with one set of marks, by their bits in the tank's table.
 pub struct Run {
-    len: u64,
-    set: u64,
+    pub len: u64,
+    pub set: u64,
 }
 
 // Where a tank's runs begin and those of the tanks behind it, how many runs and places there are from there on, and whether those behind
@@ -78,11 +78,11 @@ struct Resize {
 
 // A tank's marks.
 pub struct Table {
-    marks: [Mark; 64],
+    pub marks: [Mark; 64],
 }
 
-// In the pool stand the runs of tank 0, then those of tank 1, and so on, and blanks behind them. A crate above reads the settings and how
-// many runs each tank holds, and writes what `edit_parts` hands back to where it was read; the rest it asks for.
+// In the pool stand the runs of tank 0, then those of tank 1, and so on, and blanks behind them. A crate above reads it where a call for each run
+// would copy the pool each time, and writes what `edit_parts` hands back to where it was read; the rest it asks for.
 pub struct Tanks {
     pub settings: [Setting; 8],
     pub heads: [Head; 8],
