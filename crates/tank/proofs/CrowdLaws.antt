@@ -9,7 +9,7 @@ use lib.Bits.{and-comm, and-mask}
 use lib.Count.{ones}
 use lib.Dec.{ltb}
 use lib.ListN.{length}
-use borrow.Author.Tests.{ltb-false}
+use borrow.Author.Tests.{ltb-false, le-ltb}
 use Rattle.styles.specs.declared.Mark.{Mark}
 use Rattle.styles.specs.declared.Party.{Party}
 use Rattle.styles.specs.declared.Party.the-variants.{Plant, Lab}
@@ -65,6 +65,11 @@ unfolding crowded needs
 room-left m xs e c =
     let most = ltb-false 64 (needs (insertMark m xs)) c in
     omega (arith, insert-longer m xs e, parties-all (insertMark m xs))
+
+-- up to 32 are never crowded, whosever they are
+pub few-fit : (m : Mark) (xs : List Mark) → member (idOf m) xs ≡ false → length xs < 32 → crowded m xs ≡ false
+unfolding crowded needs
+few-fit m xs e h = le-ltb 64 (needs (insertMark m xs)) (omega (arith, insert-longer m xs e, parties-all (insertMark m xs)))
 
 -- ---- one more of a party's, or of the other's
 module _ (who : Party) (m : Mark) (xs : List Mark) where

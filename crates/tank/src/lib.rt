@@ -145,6 +145,10 @@ fn room_for(table: [Mark; 64], n: usize, mark: Mark) -> Room
         }
         return Room::Clash;
     }
+    // Up to 32 marks fit whosever they are.
+    if n < 32 {
+        return Room::New(at);
+    }
     if crowded(table, n, mark) {
         return Room::Full;
     }

@@ -9,6 +9,7 @@ use Rattle.styles.specs.declared.Place.{Place}
 use Rattle.styles.specs.Order.{idOf}
 use Rattle.styles.specs.Marks.{member, placeOf, sameContent, blank}
 use Rattle.styles.specs.Answers.{placed}
+use Rattle.tank.proofs.CrowdLaws.{few-fit}
 use Rattle.tank.proofs.RoomLaws.{place-in, known-room, clash-room, full-room, new-room}
 use Rattle.tank.proofs.room_for.Statement.{statement}
 use Rattle.tank.proofs.room_for.Tie as tie
@@ -56,29 +57,39 @@ returns-2 c =
     clash-room (s .args .mark) ms (s .pre .1) _ (at-is p) (sym (there-is p) ∙ o .before .if1 .taken)
     (ap (sameContent (s .args .mark)) (getD-take (s .args .n) (s .args .t1) _ blank (in-table (o .before))) ∙ sym (c .before .same-content .ensures) ∙ c .if2 .left)
 
-crowded-requires : tie.Need-crowded-requires
-crowded-requires c κs =
-    let p = c .before in
-    let s = p .before .before in
-    (s .pre .0, s .pre .1, sym (there-is p) ∙ c .if1 .left)
-
 returns-3 : tie.Need-returns-3
 returns-3 c =
-    let e = c .before .before in
+    let e = c .before in
     let p = e .before in
     let s = p .before .before in
-    full-room (s .args .mark) (take (s .args .n) (s .args .t1)) (s .pre .1) _ (at-is p) (sym (there-is p) ∙ e .if1 .left)
-    (sym (c .before .crowded .ensures) ∙ c .if3 .taken)
+    let ms = take (s .args .n) (s .args .t1) in
+    let new = sym (there-is p) ∙ e .if1 .left in
+    new-room (s .args .mark) ms (s .pre .1) _ (at-is p) new (few-fit (s .args .mark) ms new (omega (arith, length-take (s .args .n) (s .args .t1), c .if3 .taken)))
+
+crowded-requires : tie.Need-crowded-requires
+crowded-requires c κs =
+    let e = c .before in
+    let p = e .before in
+    let s = p .before .before in
+    (s .pre .0, s .pre .1, sym (there-is p) ∙ e .if1 .left)
 
 returns-4 : tie.Need-returns-4
 returns-4 c =
-    let e = c .before .before in
+    let e = c .before .before .before in
+    let p = e .before in
+    let s = p .before .before in
+    full-room (s .args .mark) (take (s .args .n) (s .args .t1)) (s .pre .1) _ (at-is p) (sym (there-is p) ∙ e .if1 .left)
+    (sym (c .before .crowded .ensures) ∙ c .if4 .taken)
+
+returns-5 : tie.Need-returns-5
+returns-5 c =
+    let e = c .before .before .before in
     let p = e .before in
     let s = p .before .before in
     new-room (s .args .mark) (take (s .args .n) (s .args .t1)) (s .pre .1) _ (at-is p) (sym (there-is p) ∙ e .if1 .left)
-    (sym (c .before .crowded .ensures) ∙ c .if3 .left)
+    (sym (c .before .crowded .ensures) ∙ c .if4 .left)
 
 pub room-for-spec : {M : Type 1} → statement M
 room-for-spec =
     tie.close
-    (tie.spec (λ c κs. search needs) (λ c κs. search needs) mul-old array-copy-out-old (λ c κs. search needs) returns returns-2 crowded-requires returns-3 returns-4)
+    (tie.spec (λ c κs. search needs) (λ c κs. search needs) mul-old array-copy-out-old (λ c κs. search needs) returns returns-2 returns-3 crowded-requires returns-4 returns-5)
