@@ -1,13 +1,13 @@
 -- A list written place by place, as the loop of `edit` writes the pool; and the laws of `runsBelow`.
 use Prim.Native.Nat.{ℕ, zero, suc, _+_, _≤_, _<_}
-use mathlib.Core.Path.{_≡_, refl, ap, _∙_}
+use mathlib.Core.Path.{_≡_, refl, sym, ap, _∙_}
 use mathlib.Core.Logic.{_≢_}
 use mathlib.Core.List.{List}
 use native.Mathlib.Omega.{arith}
 use native.Mathlib.Decide.{decLt}
 use native.Mathlib.Numerals.{add-one}
 use lib.ListN.{length, getD, set, length-set}
-use lib.Seq.{getD-set-same, getD-set-other, set-comm}
+use lib.Seq.{getD-set-same, getD-set-other, set-comm, set-getD}
 use Rattle.runs.proofs.SumLaws.{sum-same, sum-but-one}
 use Rattle.tanks.specs.declared.Head.{Head}
 use Rattle.tanks.specs.Pool.{noHead, runsIn, runsBelow}
@@ -57,6 +57,43 @@ module _ {A : Type 0} where
       let e : at + suc n ≡ suc at + n = omega arith in
       set-comm (laid p (suc at) (λ k. f (suc k)) n) (suc at + n) at (f (suc n)) (f 0) (λ z. omega arith)
       ∙ rw e (ap (λ (l : List A). set l (suc at + n) (f (suc n))) (laid-back p at f n))
+
+  -- what is written elsewhere may be written before
+  set-laid : (p : List A) (at : ℕ) (f : ℕ → A) (n k : ℕ) (x : A) → ((j : ℕ) → j < n → k ≢ at + j) → set (laid p at f n) k x ≡ laid (set p k x) at f n
+  unfolding laid
+  set-laid p at f zero k x h = refl
+  set-laid p at f (suc n) k x h =
+      set-comm (laid p at f n) (at + n) k (f n) x (λ e. h n (omega arith) (sym e))
+      ∙ ap (λ (l : List A). set l (at + n) (f n)) (set-laid p at f n k x (λ j g. h j (omega arith)))
+
+  -- those behind first, then those in front of them
+  pub laid-two : (p : List A) (at : ℕ) (f : ℕ → A) (m b : ℕ) → laid (laid p (at + m) (λ j. f (m + j)) b) at f m ≡ laid p at f (m + b)
+  unfolding laid
+  laid-two p at f zero b =
+      let e : at + 0 ≡ at = omega arith in
+      let z : 0 + b ≡ b = omega arith in
+      rw (e, z) (laid-cong p at _ f b (λ k h. ap f (omega arith)))
+  laid-two p at f (suc m) b =
+      let e : at + suc m ≡ suc (at + m) = omega arith in
+      let z : m + 0 ≡ m = omega arith in
+      let n : suc m + b ≡ m + suc b = omega arith in
+      let back : set (laid p (at + suc m) (λ j. f (suc m + j)) b) (at + m) (f m) ≡ laid p (at + m) (λ j. f (m + j)) (suc b) =
+      rw e (ap (λ (l : List A). set l (at + m) (f m)) (laid-cong p (suc (at + m)) _ (λ j. f (m + suc j)) b (λ k h. ap f (omega arith))))
+      ∙ rw z at (laid-back p (at + m) (λ j. f (m + j)) b) in
+      set-laid (laid p (at + suc m) (λ j. f (suc m + j)) b) at f m (at + m) (f m) (λ j h g. omega arith)
+      ∙ ap (λ (l : List A). laid l at f m) back
+      ∙ laid-two p at f m (suc b)
+      ∙ ap (laid p at f) (sym n)
+
+  -- what stands there already need not be written
+  pub laid-kept : (p : List A) (at : ℕ) (f : ℕ → A) (m b : ℕ) (d : A) → ((j : ℕ) → j < b → f (m + j) ≡ getD p (at + (m + j)) d) → laid p at f (m + b) ≡ laid p at f m
+  unfolding laid
+  laid-kept p at f m zero d h = let e : m + 0 ≡ m = omega arith in ap (laid p at f) e
+  laid-kept p at f m (suc b) d h =
+      let e : m + suc b ≡ suc (m + b) = omega arith in
+      let l = laid-kept p at f m b d (λ j g. h j (omega arith)) in
+      let x : f (m + b) ≡ getD (laid p at f m) (at + (m + b)) d = h b (omega arith) ∙ sym (laid-out p at f m (at + (m + b)) d (λ j g z. omega arith)) in
+      rw e (rw (l, x) (set-getD (laid p at f m) (at + (m + b)) d))
 
 -- ---- where tanks begin
 pub below-same : (hs : List Head) (t : ℕ) (h : Head) (u : ℕ) → u ≤ t → runsBelow (set hs t h) u ≡ runsBelow hs u

@@ -1,12 +1,12 @@
 -- What the loop of `edit` does to the state, step by step, and that its places are inside the arrays.
-use Prim.Native.Nat.{ℕ, suc, _+_, _-_, _≤_, _<_}
-use mathlib.Core.Path.{_≡_, refl, sym, ap}
+use Prim.Native.Nat.{ℕ, suc, _+_, _-_, _≤_, _<_, max}
+use mathlib.Core.Path.{_≡_, refl, sym, ap, _∙_}
 use mathlib.Core.Bool.{Bool, true, false, cond}
 use mathlib.Core.List.{List}
 use native.Mathlib.Omega.{arith}
-use lib.Dec.{ltb}
+use lib.Dec.{ltb, eqb}
 use native.Mathlib.Numerals.{add-one}
-use borrow.Author.Tests.{lt-ltb, le-ltb, ltb-true, ltb-false}
+use borrow.Author.Tests.{lt-ltb, le-ltb, ltb-true, ltb-false, eqb-true}
 use lib.ListN.{length, getD, set}
 use Rattle.laws.proofs.Cases.{cond-same}
 use Rattle.tank.specs.declared.Tank.{Tank}
@@ -19,9 +19,9 @@ use Rattle.tanks.specs.declared.Table.{Table}
 use Rattle.tanks.specs.declared.Tanks.{Tanks}
 use Rattle.tanks.specs.Settings.{judgement}
 use Rattle.tank.specs.Rules.{firstRefusal}
-use Rattle.tanks.specs.Pool.{noRun, runsIn, headOf, tableIn, spotsOf, Sound}
-use Rattle.tanks.proofs.Put.{runOf, runFrom, puts}
-use Rattle.tanks.proofs.LaidLaws.{laid, laid-out, laid-more, laid-back, laid-cong, below-later}
+use Rattle.tanks.specs.Pool.{noRun, runsIn, runsBelow, headOf, tableIn, spotsOf, Sound}
+use Rattle.tanks.proofs.Put.{runOf, runFrom, poolWith, puts}
+use Rattle.tanks.proofs.LaidLaws.{laid, laid-out, laid-more, laid-back, laid-cong, laid-two, laid-kept, below-later}
 use Rattle.tanks.proofs.SettingLaws.{sound-held, second-zero}
 use Rattle.tanks.proofs.MeaningLaws.{room}
 
@@ -107,6 +107,59 @@ module _ (pool : List Run) (x : Tank) (from full k : ℕ) where
   pub run-blank : x .runs ≤ k → full ≤ k → noRun ≡ runFrom pool x from full k
   unfolding runFrom
   run-blank h g = rw (le-ltb k (x .runs) h, le-ltb k full g)
+
+-- ---- the runs behind the tank's own written first, then its own
+-- the run of a tank behind it, and a blank, j places behind its own m
+module _ (pool : List Run) (x : Tank) (from full left m j : ℕ) (same : m ≡ x .runs) (full-is : full ≡ m + left) where
+  pub past-own : j < left → getD pool (from + j) noRun ≡ runFrom pool x from full (m + j)
+  past-own h =
+      let e : from + j ≡ from + (m + j - x .runs) = omega arith in
+      ap (λ (i : ℕ). getD pool i noRun) e ∙ run-behind pool x from full (m + j) (omega arith) (omega arith)
+
+  pub past-all : left ≤ j → noRun ≡ runFrom pool x from full (m + j)
+  past-all h = run-blank pool x from full (m + j) (omega arith) (omega arith)
+
+-- a run that is read there has not been written over
+pub past-kept : (now p : List Run) (at : ℕ) (f : ℕ → Run) (back : Bool) (from m count k j : ℕ) → back ≡ ltb from (at + m) → k < count → j ≡ cond back (count - 1 - k) k
+    → now ≡ part p (at + m) f (lowest back count k) k → getD now (from + j) noRun ≡ getD p (from + j) noRun
+past-kept now p at f back from m count k j b h e i =
+    let z : at + m + 0 ≡ at + m = omega arith in
+    let d : from + (j - 0) ≡ from + j = omega arith in
+    rw d at (pool-kept now p (at + m) f back from 0 count k j (rw z b) h e (omega arith) i)
+
+-- of the places behind the tank's own there are so many, and all that are written are places of the state
+pub record Beyond (m full count left behind : ℕ) : Type 0 where
+  pub full-is : full ≡ m + left
+  pub within : m + behind ≤ count
+
+few-more : (b : Bool) (m c : ℕ) → m ≤ c → m + cond b 0 (c - m) ≤ c
+few-more true m c h = omega arith
+few-more false m c h = omega arith
+
+pub beyond : (hs : List Head) (t m : ℕ) (r : Spots) → r ≡ spotsOf hs t m → Beyond m (r .full) (r .count) (r .left) (r .behind)
+beyond hs t m r e = rw e (record { full-is = refl; within = few-more (eqb m (runsIn hs t)) m _ (omega arith) })
+
+-- where the tank holds as many runs as before those behind it stay
+all-laid : (b : Bool) (pool : List Run) (at : ℕ) (f : ℕ → Run) (m n l : ℕ) → eqb m n ≡ b → ((j : ℕ) → m ≡ n → j < l → f (m + j) ≡ getD pool (at + (m + j)) noRun)
+    → laid pool at f (m + cond b 0 (max m n + l - m)) ≡ laid pool at f (max m n + l)
+all-laid true pool at f m n l e h =
+    let same : m ≡ n = eqb-true m n e in
+    let z : m + 0 ≡ m = omega arith in
+    let c : max m n + l ≡ m + l = omega arith in
+    rw (z, c) (sym (laid-kept pool at f m l noRun (λ j g. h j same g)))
+all-laid false pool at f m n l e h = ap (laid pool at f) (omega arith)
+
+pub all-written : (hs : List Head) (pool : List Run) (t : ℕ) (x : Tank) → runsBelow hs t + runsIn hs t ≤ runsBelow hs 8
+    → laid pool (runsBelow hs t) (runFrom pool x (spotsOf hs t (x .runs) .from) (spotsOf hs t (x .runs) .full)) (x .runs + spotsOf hs t (x .runs) .behind) ≡ poolWith pool (spotsOf hs t (x .runs)) x
+all-written hs pool t x h =
+    let m = x .runs in
+    let n = runsIn hs t in
+    let at = runsBelow hs t in
+    let l = runsBelow hs 8 - (at + n) in
+    all-laid (eqb m n) pool at _ m n l refl
+    (λ j same g.
+    let e : at + n + j ≡ at + (m + j) = omega arith in
+    sym (past-own pool x (at + n) (m + l) l m j refl refl g) ∙ ap (λ (i : ℕ). getD pool i noRun) e)
 
 -- ---- places inside the arrays
 pub record Inside (x : Tank) (m at from full count : ℕ) (grows : Bool) : Type 0 where

@@ -1,9 +1,9 @@
 -- How eight tanks stand in one state: a head and a table of marks for each, and their runs packed one tank after another.
 use Prim.Native.Nat.{ℕ, _+_, _-_, _≤_, _<_, max}
 use mathlib.Core.Path.{_≡_}
-use mathlib.Core.Bool.{true, false}
+use mathlib.Core.Bool.{true, false, cond}
 use mathlib.Core.List.{List, [], _∷_, _++_, map}
-use lib.Dec.{ltb}
+use lib.Dec.{ltb, eqb}
 use lib.ListN.{length, getD, take, drop, replicate}
 use Rattle.runs.specs.Positions.{sumBelow}
 use Rattle.styles.specs.Marks.{blank}
@@ -101,13 +101,16 @@ abbrev pub tableIn : Tank → Table
 tableIn x = record { marks = x .table }
 
 -- where tank t's runs begin and those behind it; how many runs there are from its place on once it holds m, and how many places that
--- touches; whether those behind it move up
+-- touches; how many are behind it, and how many places behind its own are to be written, none where it holds as many as before; whether those
+-- behind it move up
 abbrev pub spotsOf : List Head → ℕ → ℕ → Spots
 spotsOf hs t m = record {
   at = runsBelow hs t;
   from = runsBelow hs t + runsIn hs t;
   full = m + (runsBelow hs 8 - (runsBelow hs t + runsIn hs t));
   count = max m (runsIn hs t) + (runsBelow hs 8 - (runsBelow hs t + runsIn hs t));
+  left = runsBelow hs 8 - (runsBelow hs t + runsIn hs t);
+  behind = cond (eqb m (runsIn hs t)) 0 (max m (runsIn hs t) + (runsBelow hs 8 - (runsBelow hs t + runsIn hs t)) - m);
   grows = ltb (runsBelow hs t + runsIn hs t) (runsBelow hs t + m);
 }
 

@@ -58,12 +58,14 @@ pub struct Run {
 }
 
 // Where a tank's runs begin and those of the tanks behind it, how many runs and places there are from there on, and whether those behind
-// it move up.
+// it move up. Of them there are `left`, and where they stay none of the places `behind` the tank's own has to be written.
 struct Spots {
     at: usize,
     from: usize,
     full: usize,
     count: usize,
+    left: usize,
+    behind: usize,
     grows: bool,
 }
 
@@ -343,21 +345,22 @@ pub fn edit_parts(
     }
     let s = spots(heads, t, m);
     let mut k = 0;
-    while k < s.count {
-        let j = turn(s.grows, k, s.count);
+    while k < s.behind {
+        let j = turn(s.grows, k, s.behind);
         k += 1;
-        if j < m {
-            pool[s.at + j] = Run {
-                len: olens[j],
-                set: osets[j],
-            };
+        if j < s.left {
+            pool[s.at + m + j] = pool[s.from + j];
         } else {
-            if j < s.full {
-                pool[s.at + j] = pool[s.from + (j - m)];
-            } else {
-                pool[s.at + j] = Run { len: 0, set: 0 };
-            }
+            pool[s.at + m + j] = Run { len: 0, set: 0 };
         }
+    }
+    let mut own = 0;
+    while own < m {
+        pool[s.at + own] = Run {
+            len: olens[own],
+            set: osets[own],
+        };
+        own += 1;
     }
     let change = done.table;
     let next = tank::lent::table_left(marks, h.marks, change);

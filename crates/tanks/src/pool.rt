@@ -2,6 +2,7 @@
 ghost use mathlib.Core.Path.{_≡_};
 ghost use mathlib.Core.Bool.{cond};
 ghost use Prim.Native.Nat.{_-_, _≤_, _<_, max};
+ghost use lib.Dec.{eqb};
 ghost use Rattle.tanks.specs.Pool.{runsBelow, tankIn, headOf, tableIn, spotsOf};
 use super::Head;
 use super::Run;
@@ -29,6 +30,17 @@ fn larger(a: usize, b: usize) -> usize
     if a < b { b } else { a }
 }
 
+// How many places behind a tank's own are to be written where it comes to hold m runs and held n: none where those behind it stay.
+fn behind(m: usize, n: usize, count: usize) -> usize
+    requires { ⌜ m ≤ count ⌝ }
+    ensures { λ r. ⌜ r ≡ cond (eqb m n) 0 (count - m) ⌝ }
+{
+    if m == n {
+        return 0;
+    }
+    count - m
+}
+
 // What the pool has from tank t's place on, were the tank to hold m runs.
 pub fn spots(heads: [Head; 8], t: usize, m: usize) -> Spots
     requires { ⌜ (t < 8) × (m ≤ 514) × (runsBelow heads 8 ≤ 512) ⌝ }
@@ -39,11 +51,14 @@ pub fn spots(heads: [Head; 8], t: usize, m: usize) -> Spots
     let n = heads[t].runs;
     let from = at + n;
     let left = all - from;
+    let count = larger(m, n) + left;
     Spots {
         at: at,
         from: from,
         full: m + left,
-        count: larger(m, n) + left,
+        count: count,
+        left: left,
+        behind: behind(m, n, count),
         grows: from < at + m,
     }
 }

@@ -1,4 +1,4 @@
--- The runs are taken out, and put back run by run; what the second loop has written so far is a part of the pool that `puts` says.
+-- The runs are taken out, and put back run by run, those behind the tank's own first; what these loops have written so far is a part of the pool that `puts` says.
 use borrow.Author.Needs.{needs}
 use borrow.Author.Tests.{not-true, not-false}
 use native.Mathlib.Omega.{arith}
@@ -18,16 +18,17 @@ use Rattle.tank.specs.Lending.{tankOn, tankMade}
 use Rattle.tank.specs.State as state
 use Rattle.tank.proofs.Shape.{all-spare}
 use Rattle.tanks.specs.declared.Head.{Head}
+use Rattle.tanks.specs.declared.Run.{Run}
 use Rattle.tanks.specs.declared.Tanks.{Tanks}
 use Rattle.tanks.specs.declared.Spots.{Spots}
 use Rattle.tanks.specs.declared.Parts.{Parts}
 use Rattle.tanks.specs.Pool.{noRun, noHead, noTable, runsIn, runsBelow, lensIn, tankOf, tankIn, spotsOf}
 use Rattle.tanks.specs.Contracts.{editOf, placeOf, PartsOf, PerformsOn, DoneAt, doneWith, Judged}
-use Rattle.tanks.proofs.LaidLaws.{laid}
-use Rattle.tanks.proofs.Put.{runFrom, poolWith, puts}
+use Rattle.tanks.proofs.LaidLaws.{laid, laid-more, laid-cong, laid-two}
+use Rattle.tanks.proofs.Put.{runOf, runFrom, poolWith, puts}
 use Rattle.tanks.proofs.SettingLaws.{sound-held, sound-judged, TakenOut, taken}
 use Rattle.tanks.proofs.CallLaws.{ownBy}
-use Rattle.tanks.proofs.WriteLaws.{part, lowest, pool-step, pool-kept, part-all, run-own, run-behind, run-blank, Inside, inside}
+use Rattle.tanks.proofs.WriteLaws.{part, lowest, pool-step, part-all, run-own, past-own, past-all, past-kept, Beyond, beyond, all-written, Inside, inside}
 use Rattle.tanks.proofs.PartsLaws.{
   place-in,
   at-place,
@@ -91,28 +92,40 @@ abbrev μ-loop2 : tie.MeasureT-loop2
 abbrev made-of : Head → List Mark → List ℕ → List ℕ → Left → Tank
 made-of h marks olens osets done = tankMade (tankOn (outlined h) [] [] marks) olens osets done
 
+-- the runs behind the tank's own are written first
 abbrev Inv-loop3 : tie.InvT-loop3
 Inv-loop3 tank pool₀ t h n marks at k from to here next pick olens osets i done m number styles s k₀ pool k' =
-    (k' ≤ s .count)
+    (k' ≤ s .behind)
     × Inside (made-of h marks olens osets done) m (s .at) (s .from) (s .full) (s .count) (s .grows)
-    × (pool ≡ part pool₀ (s .at) (runFrom pool₀ (made-of h marks olens osets done) (s .from) (s .full)) (lowest (s .grows) (s .count) k') k')
+    × Beyond m (s .full) (s .count) (s .left) (s .behind)
+    × (pool ≡ part pool₀ (s .at + m) (λ j. runFrom pool₀ (made-of h marks olens osets done) (s .from) (s .full) (m + j)) (lowest (s .grows) (s .behind) k') k')
 
 abbrev μ-loop3 : tie.MeasureT-loop3
-μ-loop3 tank pool₀ t h n marks at k from to here next pick olens osets i done m number styles s k₀ pool k' = s .count - k'
+μ-loop3 tank pool₀ t h n marks at k from to here next pick olens osets i done m number styles s k₀ pool k' = s .behind - k'
+
+-- then its own
+abbrev Inv-loop4 : tie.InvT-loop4
+Inv-loop4 tank pool₁ t h n marks at k from to here next pick olens osets i done m number styles s k' own₀ pool own =
+    (own ≤ m)
+    × Inside (made-of h marks olens osets done) m (s .at) (s .from) (s .full) (s .count) (s .grows)
+    × (pool ≡ laid pool₁ (s .at) (runOf olens osets) own)
+
+abbrev μ-loop4 : tie.MeasureT-loop4
+μ-loop4 tank pool₁ t h n marks at k from to here next pick olens osets i done m number styles s k' own₀ pool own = m - own
 
 -- ---- what is known on the way
 -- the tanks of the state hold no more than the pool has
-held : (a : tie.Start Inv-loop μ-loop Inv-loop2 μ-loop2 Inv-loop3 μ-loop3) → runsBelow (a .args .t2) 8 ≤ 512
+held : (a : tie.Start Inv-loop μ-loop Inv-loop2 μ-loop2 Inv-loop3 μ-loop3 Inv-loop4 μ-loop4) → runsBelow (a .args .t2) 8 ≤ 512
 held a = on-parts (a .pre .parts) (λ st hs pool table. runsBelow hs 8 ≤ 512) (sound-held (a .pre .state) (a .pre .sound))
 
 -- the tank's runs are taken out
-abbrev tank-of : tie.After-loop2 Inv-loop μ-loop Inv-loop2 μ-loop2 Inv-loop3 μ-loop3 → Tank
+abbrev tank-of : tie.After-loop2 Inv-loop μ-loop Inv-loop2 μ-loop2 Inv-loop3 μ-loop3 Inv-loop4 μ-loop4 → Tank
 tank-of c =
     let a = c .before .before .before .before .before .before .before .before .before .before .before .before .before .before in
     let l = c .before .loop2 in
     tankOn (outlined (getD (a .args .t2) (a .args .tank) noHead)) (l .lens) (l .sets) (a .args .table .marks)
 
-taken-is : (c : tie.After-loop2 Inv-loop μ-loop Inv-loop2 μ-loop2 Inv-loop3 μ-loop3) → let a = c .before .before .before .before .before .before .before .before .before .before .before .before .before .before in tank-of c ≡ tankIn (a .args .t2) (a .args .t3) (a .args .table) (a .args .tank)
+taken-is : (c : tie.After-loop2 Inv-loop μ-loop Inv-loop2 μ-loop2 Inv-loop3 μ-loop3 Inv-loop4 μ-loop4) → let a = c .before .before .before .before .before .before .before .before .before .before .before .before .before .before in tank-of c ≡ tankIn (a .args .t2) (a .args .t3) (a .args .table) (a .args .tank)
 taken-is c =
     let a = c .before .before .before .before .before .before .before .before .before .before .before .before .before .before in
     let l = c .before .loop2 in
@@ -127,7 +140,7 @@ taken-is c =
     (l .inv .2 ∙ (λ j. stored (λ k. getD pool (s j + k) noRun .len) (replicate 514 0) (e j)))
     (l .inv .3 ∙ (λ j. stored (λ k. getD pool (s j + k) noRun .set) (replicate 514 0) (e j)))
 
-own : (c : tie.After-loop2 Inv-loop μ-loop Inv-loop2 μ-loop2 Inv-loop3 μ-loop3) → let a = c .before .before .before .before .before .before .before .before .before .before .before .before .before .before in TakenOut (a .pre .state) (a .args .tank) (tank-of c)
+own : (c : tie.After-loop2 Inv-loop μ-loop Inv-loop2 μ-loop2 Inv-loop3 μ-loop3 Inv-loop4 μ-loop4) → let a = c .before .before .before .before .before .before .before .before .before .before .before .before .before .before in TakenOut (a .pre .state) (a .args .tank) (tank-of c)
 unfolding tankOf
 own c =
     let a = c .before .before .before .before .before .before .before .before .before .before .before .before .before .before in
@@ -136,11 +149,11 @@ own c =
     taken (a .pre .state) (a .pre .sound) t (tank-of c) h (on-state (at-place t h (a .pre .parts)) (λ st hs pool table. tank-of c ≡ tankIn hs pool table t) (taken-is c))
 
 -- and edited
-did : (c : tie.After-perform Inv-loop μ-loop Inv-loop2 μ-loop2 Inv-loop3 μ-loop3) → let l = c .before .before .before .before .before in PerformsOn (editOf (l .before .before .before .before .before .before .before .before .before .before .before .before .before .before .args .call)) (tank-of l) (c .perform .last .0) (c .perform .last .1 .0) (c .perform .result)
+did : (c : tie.After-perform Inv-loop μ-loop Inv-loop2 μ-loop2 Inv-loop3 μ-loop3 Inv-loop4 μ-loop4) → let l = c .before .before .before .before .before in PerformsOn (editOf (l .before .before .before .before .before .before .before .before .before .before .before .before .before .before .args .call)) (tank-of l) (c .perform .last .0) (c .perform .last .1 .0) (c .perform .result)
 did c = c .perform .ensures
 
 -- the edit is judged: what is known of the parts is known of every state that they are of
-known : (c : tie.After-edit-verdict Inv-loop μ-loop Inv-loop2 μ-loop2 Inv-loop3 μ-loop3) (n : ℕ) → let w = c .before .before .before .before in let l = w .before .before .before .before .before in let a = l .before .before .before .before .before .before .before .before .before .before .before .before .before .before in
+known : (c : tie.After-edit-verdict Inv-loop μ-loop Inv-loop2 μ-loop2 Inv-loop3 μ-loop3 Inv-loop4 μ-loop4) (n : ℕ) → let w = c .before .before .before .before in let l = w .before .before .before .before .before in let a = l .before .before .before .before .before .before .before .before .before .before .before .before .before .before in
     w .perform .result .runs ≡ n → (s : Tanks) → PartsOf s (placeOf (a .args .tank)) (a .args .settings) (a .args .t2) (a .args .t3) (a .args .table)
     → Known (a .args .tank) (editOf (a .args .call)) (tank-of l) (w .perform .result .number) n (c .edit-verdict .result) (s .settings) (s .heads) (s .pool) (getD (s .tables) (a .args .tank) noTable)
 known c n g s q =
@@ -153,7 +166,7 @@ known c n g s q =
     (known-by t e (w .perform .result .number) (a .args .settings) (a .args .t2) (a .args .t3) (a .args .table) (taken-is l) g (c .edit-verdict .ensures))
 
 -- no refusal: the places of the second loop are inside the arrays
-places : (c : tie.After-spots Inv-loop μ-loop Inv-loop2 μ-loop2 Inv-loop3 μ-loop3) → let w = c .before .before .before .before .before .before .before .before .before in let a = w .before .before .before .before .before .before .before .before .before .before .before .before .before .before .before .before .before .before .before in let p = w .perform in let r = c .spots .result in
+places : (c : tie.After-spots Inv-loop μ-loop Inv-loop2 μ-loop2 Inv-loop3 μ-loop3 Inv-loop4 μ-loop4) → let w = c .before .before .before .before .before .before .before .before .before in let a = w .before .before .before .before .before .before .before .before .before .before .before .before .before .before .before .before .before .before .before in let p = w .perform in let r = c .spots .result in
     let x = made-of (getD (a .args .t2) (a .args .tank) noHead) (a .args .table .marks) (p .last .0) (p .last .1 .0) (p .result) in
     Inside x (x .runs) (r .at) (r .from) (r .full) (r .count) (r .grows)
 places c =
@@ -175,7 +188,7 @@ places c =
     (on-state (at-place t h (a .pre .parts)) (λ st hs pool table. c .spots .result ≡ spotsOf hs t (y .runs)) (c .spots .ensures))
 
 -- the tank where it stands
-whole-tank : (a : tie.Start Inv-loop μ-loop Inv-loop2 μ-loop2 Inv-loop3 μ-loop3) → a .args .tank < 8 → state.Sound (tankIn (a .args .t2) (a .args .t3) (a .args .table) (a .args .tank))
+whole-tank : (a : tie.Start Inv-loop μ-loop Inv-loop2 μ-loop2 Inv-loop3 μ-loop3 Inv-loop4 μ-loop4) → a .args .tank < 8 → state.Sound (tankIn (a .args .t2) (a .args .t3) (a .args .table) (a .args .tank))
 unfolding tankOf
 whole-tank a h =
     let t = a .args .tank in
@@ -183,14 +196,14 @@ whole-tank a h =
     on-parts (at-place t h (a .pre .parts)) (λ st hs pool table. state.Sound (tankIn hs pool table t)) (taken s (a .pre .sound) t (tankOf s t) h refl .sound)
 
 -- the walk is not at its end
-onward : (c : tie.Then2 Inv-loop μ-loop Inv-loop2 μ-loop2 Inv-loop3 μ-loop3) → c .before .before .loop .k < runsIn (c .before .before .before .before .before .before .before .before .args .t2) (c .before .before .before .before .before .before .before .before .args .tank)
+onward : (c : tie.Then2 Inv-loop μ-loop Inv-loop2 μ-loop2 Inv-loop3 μ-loop3 Inv-loop4 μ-loop4) → c .before .before .loop .k < runsIn (c .before .before .before .before .before .before .before .before .args .t2) (c .before .before .before .before .before .before .before .before .args .tank)
 onward c =
     let a = c .before .before .before .before .before .before .before .before in
     let h = c .before .before .before .before .before .before .before .if1 .left in
     walk-on (c .before .before .loop .inv .0) (tank-sums (a .args .t2) (a .args .t3) (a .args .table) (a .args .tank) (whole-tank a h)) (c .before .before .before .resize-of .ensures .reach) (c .if2 .taken)
 
 -- how far the next run reaches
-next-end : (c : tie.Then2 Inv-loop μ-loop Inv-loop2 μ-loop2 Inv-loop3 μ-loop3) → let a = c .before .before .before .before .before .before .before .before in let l = c .before .before .loop in
+next-end : (c : tie.Then2 Inv-loop μ-loop Inv-loop2 μ-loop2 Inv-loop3 μ-loop3 Inv-loop4 μ-loop4) → let a = c .before .before .before .before .before .before .before .before in let l = c .before .before .loop in
     l .to + getD (a .args .t3) (c .before .before .before .before .start .result + l .k) noRun .len < 2 ^ 63
 next-end c =
     let a = c .before .before .before .before .before .before .before .before in
@@ -199,7 +212,7 @@ next-end c =
     omega (arith, walk-room (c .before .before .loop .inv .0) (onward c), len-of (a .args .t2) (a .args .t3) (a .args .table) (a .args .tank) s (c .before .before .before .before .start .ensures) (onward c), tank-sums (a .args .t2) (a .args .t3) (a .args .table) (a .args .tank) s, tank-small (a .args .t2) (a .args .t3) (a .args .table) (a .args .tank) s)
 
 -- the run is found
-facts : (c : tie.Then3 Inv-loop μ-loop Inv-loop2 μ-loop2 Inv-loop3 μ-loop3) → let a = c .before .before .before .before .before .before .before .before .before .before .before .before in let l = c .before .before .before .before .before .before .loop in
+facts : (c : tie.Then3 Inv-loop μ-loop Inv-loop2 μ-loop2 Inv-loop3 μ-loop3 Inv-loop4 μ-loop4) → let a = c .before .before .before .before .before .before .before .before .before .before .before .before in let l = c .before .before .before .before .before .before .loop in
     Placed (editOf (a .args .call)) (a .args .t2) (a .args .t3) (a .args .table) (a .args .tank) (c .before .before .before .before .before .before .before .before .start .result) (c .before .before .before .before .before .before .before .resize-of .result) (l .k) (c .before .choose .result)
 facts c =
     let a = c .before .before .before .before .before .before .before .before .before .before .before .before in
@@ -211,33 +224,33 @@ facts c =
     (c .before .before .before .before .before .before .before .resize-of .ensures) (c .before .before .before .before .if2 .left) (ap (λ (j : ℕ). getD pool j noRun .set) (b .place-before .ensures)) (ap (λ (j : ℕ). getD pool j noRun .set) (c .before .before .place-within .ensures)) (c .if3 .taken) (c .before .choose .ensures (c .if3 .taken))
 
 -- ---- what is asked for
-returns : tie.Need-returns Inv-loop μ-loop Inv-loop2 μ-loop2 Inv-loop3 μ-loop3
+returns : tie.Need-returns Inv-loop μ-loop Inv-loop2 μ-loop2 Inv-loop3 μ-loop3 Inv-loop4 μ-loop4
 returns c =
     let a = c .before .before .before in
     λ s ok q. parts-past s (a .args .tank) (editOf (a .args .call)) ok _ (c .before .before .if1 .taken) (on-state q (λ st hs pool table. Unchanged 1 pool table (getD hs 0 noHead) (c .unchanged .result)) (c .unchanged .ensures))
 
-start-requires : tie.Need-start-requires Inv-loop μ-loop Inv-loop2 μ-loop2 Inv-loop3 μ-loop3
+start-requires : tie.Need-start-requires Inv-loop μ-loop Inv-loop2 μ-loop2 Inv-loop3 μ-loop3 Inv-loop4 μ-loop4
 start-requires c κs = (omega (arith, c .before .before .if1 .left), held (c .before .before .before))
 
-resize-of-requires : tie.Need-resize-of-requires Inv-loop μ-loop Inv-loop2 μ-loop2 Inv-loop3 μ-loop3
+resize-of-requires : tie.Need-resize-of-requires Inv-loop μ-loop Inv-loop2 μ-loop2 Inv-loop3 μ-loop3 Inv-loop4 μ-loop4
 resize-of-requires c κs =
     let a = c .before .before .before .before in
     omega (arith, tank-small (a .args .t2) (a .args .t3) (a .args .table) (a .args .tank) (whole-tank a (c .before .before .before .if1 .left)))
 
-loop-holds : tie.Need-loop-holds Inv-loop μ-loop Inv-loop2 μ-loop2 Inv-loop3 μ-loop3
+loop-holds : tie.Need-loop-holds Inv-loop μ-loop Inv-loop2 μ-loop2 Inv-loop3 μ-loop3 Inv-loop4 μ-loop4
 loop-holds c =
     let d = c .before in
     let a = d .before .before .before .before in
     (walk-start (lensIn (a .args .t2) (a .args .t3) (a .args .tank)) (runsIn (a .args .t2) (a .args .tank)), omega (arith, d .start .ensures, sum-next (runsIn (a .args .t2)) (a .args .tank) 8 (d .before .before .before .if1 .left), held a))
 
-loop-again : tie.Need-loop-again Inv-loop μ-loop Inv-loop2 μ-loop2 Inv-loop3 μ-loop3
+loop-again : tie.Need-loop-again Inv-loop μ-loop Inv-loop2 μ-loop2 Inv-loop3 μ-loop3 Inv-loop4 μ-loop4
 loop-again c =
     let a = c .before .before .before .before .before .before .before .before in
     let h = c .before .before .before .before .before .before .before .if1 .left in
     let l = c .before .before .loop in
     (walk-step (l .inv .0) _ (onward c) (len-of (a .args .t2) (a .args .t3) (a .args .table) (a .args .tank) (whole-tank a h) (c .before .before .before .before .start .ensures) (onward c)), l .inv .1)
 
-shown-by-requires : tie.Need-shown-by-requires Inv-loop μ-loop Inv-loop2 μ-loop2 Inv-loop3 μ-loop3
+shown-by-requires : tie.Need-shown-by-requires Inv-loop μ-loop Inv-loop2 μ-loop2 Inv-loop3 μ-loop3 Inv-loop4 μ-loop4
 shown-by-requires c κs =
     let d = c .before in
     let a = d .before .before .before .before .before .before .before .before .before .before .before .before in
@@ -245,7 +258,7 @@ shown-by-requires c κs =
     let s = whole-tank a h in
     (tank-few (a .args .t2) (a .args .t3) (a .args .table) (a .args .tank) s, set-small (a .args .t2) (a .args .t3) (a .args .table) (a .args .tank) s (facts d .at-is) (facts d .there))
 
-styles-of-requires : tie.Need-styles-of-requires Inv-loop μ-loop Inv-loop2 μ-loop2 Inv-loop3 μ-loop3
+styles-of-requires : tie.Need-styles-of-requires Inv-loop μ-loop Inv-loop2 μ-loop2 Inv-loop3 μ-loop3 Inv-loop4 μ-loop4
 styles-of-requires c κs =
     let d = c .before .before in
     let a = d .before .before .before .before .before .before .before .before .before .before .before .before in
@@ -253,7 +266,7 @@ styles-of-requires c κs =
     (tank-few (a .args .t2) (a .args .t3) (a .args .table) (a .args .tank) (whole-tank a h), c .shown-by .ensures .0)
 
 -- one run has changed
-returns-2 : tie.Need-returns-2 Inv-loop μ-loop Inv-loop2 μ-loop2 Inv-loop3 μ-loop3
+returns-2 : tie.Need-returns-2 Inv-loop μ-loop Inv-loop2 μ-loop2 Inv-loop3 μ-loop3 Inv-loop4 μ-loop4
 returns-2 c =
     let d = c .before .before .before .before .before .before in
     let f = d .before in
@@ -273,28 +286,28 @@ returns-2 c =
     (on-parts (at-place t h r) (Did s t e ok h) (did-own s t e ok h) at (l .k) one q (facts v) (v .before .before .before .before .before .before .before .resize-of .ensures) left refl refl refl refl
     (d .styles-of .ensures ∙ ap stylesOf (f .shown-by .ensures .1)) refl)
 
-loop2-holds : tie.Need-loop2-holds Inv-loop μ-loop Inv-loop2 μ-loop2 Inv-loop3 μ-loop3
+loop2-holds : tie.Need-loop2-holds Inv-loop μ-loop Inv-loop2 μ-loop2 Inv-loop3 μ-loop3 Inv-loop4 μ-loop4
 loop2-holds c =
     let d = c .before .before .before .before .before .before .before .before in
     let a = d .before .before .before .before in
     (omega arith, omega (arith, d .start .ensures, sum-next (runsIn (a .args .t2)) (a .args .tank) 8 (d .before .before .before .if1 .left), held a), refl, refl, refl, refl)
 
-loop2-again : tie.Need-loop2-again Inv-loop μ-loop Inv-loop2 μ-loop2 Inv-loop3 μ-loop3
+loop2-again : tie.Need-loop2-again Inv-loop μ-loop Inv-loop2 μ-loop2 Inv-loop3 μ-loop3 Inv-loop4 μ-loop4
 loop2-again c =
     let l = c .before .before .loop2 in
     (omega arith, l .inv .1, rw (l .inv .2, add-one (l .i)), rw (l .inv .3, add-one (l .i)), length-set (l .lens) (l .i) _ ∙ l .inv .4, length-set (l .sets) (l .i) _ ∙ l .inv .5)
 
-perform-requires : tie.Need-perform-requires Inv-loop μ-loop Inv-loop2 μ-loop2 Inv-loop3 μ-loop3
+perform-requires : tie.Need-perform-requires Inv-loop μ-loop Inv-loop2 μ-loop2 Inv-loop3 μ-loop3 Inv-loop4 μ-loop4
 perform-requires c κs = record { sound = own (c .before .before .before .before) .sound; olens-514 = refl; osets-514 = refl; blank = all-spare 514 }
 
-edit-verdict-requires : tie.Need-edit-verdict-requires Inv-loop μ-loop Inv-loop2 μ-loop2 Inv-loop3 μ-loop3
+edit-verdict-requires : tie.Need-edit-verdict-requires Inv-loop μ-loop Inv-loop2 μ-loop2 Inv-loop3 μ-loop3 Inv-loop4 μ-loop4
 edit-verdict-requires c κs =
     let w = c .before .before .before in
     let o = w .before .before .before .before .before .before .before .before .before .before .before .before .before .before .before .before .before .before in
     let a = o .before in
     (o .if1 .left, on-parts (a .pre .parts) (λ st hs pool table. Judged st hs) (sound-judged (a .pre .state) (a .pre .sound)))
 
-returns-3 : tie.Need-returns-3 Inv-loop μ-loop Inv-loop2 μ-loop2 Inv-loop3 μ-loop3
+returns-3 : tie.Need-returns-3 Inv-loop μ-loop Inv-loop2 μ-loop2 Inv-loop3 μ-loop3 Inv-loop4 μ-loop4
 returns-3 c =
     let v = c .before .before in
     let w = v .before .before .before .before in
@@ -311,10 +324,10 @@ returns-3 c =
     (parts-refused s t e ok h x (outcome x (p .last .0) (p .last .1 .0) (p .result)) (performed d) (v .edit-verdict .result) (known v _ (d .runs-are) s q) r (c .before .if4 .taken)
     (on-state (at-place t h q) (λ st hs pool table. Unchanged (v .edit-verdict .result) pool table (getD hs t noHead) r) (c .unchanged2 .ensures)))
 
-styles-of-requires-2 : tie.Need-styles-of-requires-2 Inv-loop μ-loop Inv-loop2 μ-loop2 Inv-loop3 μ-loop3
+styles-of-requires-2 : tie.Need-styles-of-requires-2 Inv-loop μ-loop Inv-loop2 μ-loop2 Inv-loop3 μ-loop3 Inv-loop4 μ-loop4
 styles-of-requires-2 c κs = let w = c .before .before .before .before .before in (own (w .before .before .before .before .before) .sound .formed .laid .few, did w .shown-fits)
 
-returns-4 : tie.Need-returns-4 Inv-loop μ-loop Inv-loop2 μ-loop2 Inv-loop3 μ-loop3
+returns-4 : tie.Need-returns-4 Inv-loop μ-loop Inv-loop2 μ-loop2 Inv-loop3 μ-loop3 Inv-loop4 μ-loop4
 returns-4 c =
     let v = c .before .before .before .before in
     let w = v .before .before .before .before in
@@ -334,19 +347,23 @@ returns-4 c =
     (left-same x (p .last .0) (p .last .1 .0) (p .result) (not-true _ (c .if5 .taken)))
     (sym (q .pool-is)) (sym (q .table-is)) (ap (λ (hs : List Head). getD hs t noHead) (sym (q .heads-are))) refl (c .before .before .styles-of2 .ensures) refl)
 
-spots-requires : tie.Need-spots-requires Inv-loop μ-loop Inv-loop2 μ-loop2 Inv-loop3 μ-loop3
+spots-requires : tie.Need-spots-requires Inv-loop μ-loop Inv-loop2 μ-loop2 Inv-loop3 μ-loop3 Inv-loop4 μ-loop4
 spots-requires c κs =
     let w = c .before .before .before .before .before .before .before .before in
     let o = w .before .before .before .before .before .before .before .before .before .before .before .before .before .before .before .before .before .before in
     (o .if1 .left, performed-made (did w) (not-false _ (c .if5 .left)) .called .formed .laid .most, held (o .before))
 
-loop3-holds : tie.Need-loop3-holds Inv-loop μ-loop Inv-loop2 μ-loop2 Inv-loop3 μ-loop3
+loop3-holds : tie.Need-loop3-holds Inv-loop μ-loop Inv-loop2 μ-loop2 Inv-loop3 μ-loop3 Inv-loop4 μ-loop4
 unfolding laid
-loop3-holds c = (omega arith, places c, refl)
+loop3-holds c =
+    let w = c .before .before .before .before .before .before .before .before .before in
+    let a = w .before .before .before .before .before .before .before .before .before .before .before .before .before .before .before .before .before .before .before in
+    (omega arith, places c, beyond (a .args .t2) (a .args .tank) (w .perform .result .runs) (c .spots .result) (c .spots .ensures), refl)
 
-loop3-again : tie.Need-loop3-again Inv-loop μ-loop Inv-loop2 μ-loop2 Inv-loop3 μ-loop3
+-- a run of a tank behind it
+loop3-again : tie.Need-loop3-again Inv-loop μ-loop Inv-loop2 μ-loop2 Inv-loop3 μ-loop3 Inv-loop4 μ-loop4
 loop3-again c =
-    let l = c .before .before .before .before .before in
+    let l = c .before .before .before .before .before .before .before .before in
     let g = l .before in
     let q = g .spots .result in
     let w = g .before .before .before .before .before .before .before .before .before in
@@ -354,19 +371,24 @@ loop3-again c =
     let p = w .perform in
     let x = made-of (getD (a .args .t2) (a .args .tank) noHead) (a .args .table .marks) (p .last .0) (p .last .1 .0) (p .result) in
     let pool = a .args .t3 in
-    let j = c .before .before .turn in
-    let b : l .loop3 .k < q .count = c .before .before .before .if6 .taken in
-    let n : l .loop3 .k + 1 ≤ q .count = omega (arith, b) in
-    let o : j .result < x .runs = c .before .if7 .taken in (
+    let f : ℕ → Run = λ j. runFrom pool x (q .from) (q .full) (x .runs + j) in
+    let j = c .before .before .before .before .before .turn in
+    let b : l .loop3 .k < q .behind = c .before .before .before .before .before .before .if6 .taken in
+    let n : l .loop3 .k + 1 ≤ q .behind = omega (arith, b) in
+    let o : j .result < q .left = c .before .before .before .if7 .taken in (
       n,
       l .loop3 .inv .1,
-      pool-step (l .loop3 .pool) pool (q .at) (runFrom pool x (q .from) (q .full)) (q .grows) (q .count) (l .loop3 .k) (j .result) _
-          b (j .ensures .0) (l .loop3 .inv .2) (run-own pool x (q .from) (q .full) (j .result) o),
+      l .loop3 .inv .2,
+      pool-step (l .loop3 .pool) pool (q .at + x .runs) f (q .grows) (q .behind) (l .loop3 .k) (j .result) _
+          b (j .ensures .0) (l .loop3 .inv .3)
+          (past-kept (l .loop3 .pool) pool (q .at) f (q .grows) (q .from) (x .runs) (q .behind) (l .loop3 .k) (j .result) (l .loop3 .inv .1 .back) b (j .ensures .0) (l .loop3 .inv .3)
+          ∙ past-own pool x (q .from) (q .full) (q .left) (x .runs) (j .result) refl (l .loop3 .inv .2 .full-is) o),
     )
 
-loop3-again-2 : tie.Need-loop3-again-2 Inv-loop μ-loop Inv-loop2 μ-loop2 Inv-loop3 μ-loop3
+-- a blank
+loop3-again-2 : tie.Need-loop3-again-2 Inv-loop μ-loop Inv-loop2 μ-loop2 Inv-loop3 μ-loop3 Inv-loop4 μ-loop4
 loop3-again-2 c =
-    let l = c .before .before .before .before .before .before .before .before .before in
+    let l = c .before .before .before .before .before .before in
     let g = l .before in
     let q = g .spots .result in
     let w = g .before .before .before .before .before .before .before .before .before in
@@ -374,47 +396,45 @@ loop3-again-2 c =
     let p = w .perform in
     let x = made-of (getD (a .args .t2) (a .args .tank) noHead) (a .args .table .marks) (p .last .0) (p .last .1 .0) (p .result) in
     let pool = a .args .t3 in
-    let j = c .before .before .before .before .before .before .turn in
-    let b : l .loop3 .k < q .count = c .before .before .before .before .before .before .before .if6 .taken in
-    let n : l .loop3 .k + 1 ≤ q .count = omega (arith, b) in
-    let o : x .runs ≤ j .result = c .before .before .before .before .before .if7 .left in
-    let f : j .result < q .full = c .before .before .before .if8 .taken in (
+    let f : ℕ → Run = λ j. runFrom pool x (q .from) (q .full) (x .runs + j) in
+    let j = c .before .before .before .turn in
+    let b : l .loop3 .k < q .behind = c .before .before .before .before .if6 .taken in
+    let n : l .loop3 .k + 1 ≤ q .behind = omega (arith, b) in
+    let o : q .left ≤ j .result = c .before .if7 .left in (
       n,
       l .loop3 .inv .1,
-      pool-step (l .loop3 .pool) pool (q .at) (runFrom pool x (q .from) (q .full)) (q .grows) (q .count) (l .loop3 .k) (j .result) _
-          b (j .ensures .0) (l .loop3 .inv .2)
-          (pool-kept (l .loop3 .pool) pool (q .at) (runFrom pool x (q .from) (q .full)) (q .grows) (q .from) (x .runs) (q .count) (l .loop3 .k) (j .result) (l .loop3 .inv .1 .back) b (j .ensures .0) o (l .loop3 .inv .2)
-          ∙ run-behind pool x (q .from) (q .full) (j .result) o f),
+      l .loop3 .inv .2,
+      pool-step (l .loop3 .pool) pool (q .at + x .runs) f (q .grows) (q .behind) (l .loop3 .k) (j .result) _
+          b (j .ensures .0) (l .loop3 .inv .3) (past-all pool x (q .from) (q .full) (q .left) (x .runs) (j .result) refl (l .loop3 .inv .2 .full-is) o),
     )
 
-loop3-again-3 : tie.Need-loop3-again-3 Inv-loop μ-loop Inv-loop2 μ-loop2 Inv-loop3 μ-loop3
-loop3-again-3 c =
-    let l = c .before .before .before .before .before .before .before in
-    let g = l .before in
+loop4-holds : tie.Need-loop4-holds Inv-loop μ-loop Inv-loop2 μ-loop2 Inv-loop3 μ-loop3 Inv-loop4 μ-loop4
+unfolding laid
+loop4-holds c = (omega arith, c .before .before .loop3 .inv .1, refl)
+
+-- a run of the tank's own
+loop4-again : tie.Need-loop4-again Inv-loop μ-loop Inv-loop2 μ-loop2 Inv-loop3 μ-loop3 Inv-loop4 μ-loop4
+loop4-again c =
+    let l = c .before .before in
+    let g = l .before .before .before .before in
     let q = g .spots .result in
-    let w = g .before .before .before .before .before .before .before .before .before in
-    let a = w .before .before .before .before .before .before .before .before .before .before .before .before .before .before .before .before .before .before .before in
-    let p = w .perform in
-    let x = made-of (getD (a .args .t2) (a .args .tank) noHead) (a .args .table .marks) (p .last .0) (p .last .1 .0) (p .result) in
-    let pool = a .args .t3 in
-    let j = c .before .before .before .before .turn in
-    let b : l .loop3 .k < q .count = c .before .before .before .before .before .if6 .taken in
-    let n : l .loop3 .k + 1 ≤ q .count = omega (arith, b) in
-    let o : x .runs ≤ j .result = c .before .before .before .if7 .left in
-    let f : q .full ≤ j .result = c .before .if8 .left in (
-      n,
-      l .loop3 .inv .1,
-      pool-step (l .loop3 .pool) pool (q .at) (runFrom pool x (q .from) (q .full)) (q .grows) (q .count) (l .loop3 .k) (j .result) _
-          b (j .ensures .0) (l .loop3 .inv .2) (run-blank pool x (q .from) (q .full) (j .result) o f),
+    let p = g .before .before .before .before .before .before .before .before .before .perform in
+    let f : ℕ → Run = runOf (p .last .0) (p .last .1 .0) in (
+      omega (arith, c .before .loop4-test .taken),
+      l .loop4 .inv .1,
+      ap (λ (r : List Run). set r (q .at + l .loop4 .own) (f (l .loop4 .own))) (l .loop4 .inv .2) ∙ laid-more (l .before .before .before .loop3 .pool) (q .at) f (l .loop4 .own),
     )
 
-table-left-requires : tie.Need-table-left-requires Inv-loop μ-loop Inv-loop2 μ-loop2 Inv-loop3 μ-loop3
-table-left-requires c κs = let w = c .before .before .before .before .before .before .before .before .before .before .before .before in (own (w .before .before .before .before .before) .sound .formed .laid .few, did w .table-fits)
+table-left-requires : tie.Need-table-left-requires Inv-loop μ-loop Inv-loop2 μ-loop2 Inv-loop3 μ-loop3 Inv-loop4 μ-loop4
+table-left-requires c κs = let w = c .before .before .before .before .before .before .before .before .before .before .before .before .before .before in (own (w .before .before .before .before .before) .sound .formed .laid .few, did w .table-fits)
 
-returns-5 : tie.Need-returns-5 Inv-loop μ-loop Inv-loop2 μ-loop2 Inv-loop3 μ-loop3
+returns-5 : tie.Need-returns-5 Inv-loop μ-loop Inv-loop2 μ-loop2 Inv-loop3 μ-loop3 Inv-loop4 μ-loop4
 unfolding puts
 returns-5 c =
-    let v = c .before .before .before .before .before .before .before .before .before in
+    let o = c .before .before in
+    let u = o .before .before .before in
+    let g = u .before in
+    let v = g .before .before .before .before .before in
     let w = v .before .before .before .before in
     let p = w .perform in
     let d = did w in
@@ -424,19 +444,28 @@ returns-5 c =
     let h = l .before .before .before .before .before .before .before .before .before .before .before .before .before .if1 .left in
     let e = editOf (a .args .call) in
     let x = tank-of l in
-    let o = c .before .before .before in
-    let g = o .before in
     let q = g .spots .result in
+    let pool = a .args .t3 in
     let y = tankMade x (p .last .0) (p .last .1 .0) (p .result) in
-    let z : v .edit-verdict .result ≡ 0 = omega (arith, c .before .before .before .before .before .before .before .before .if4 .left) in
-    let all : o .loop3 .k ≡ q .count = omega (arith, c .before .if6 .left, o .loop3 .inv .0) in
-    let laid-is : o .loop3 .pool ≡ poolWith (a .args .t3) (spotsOf (a .args .t2) t (y .runs)) y =
-    (rw all at (o .loop3 .inv .2)) ∙ part-all (a .args .t3) (q .at) _ (q .grows) (q .count) ∙ ap (λ (w : Spots). poolWith (a .args .t3) w y) (g .spots .ensures) in
-    let left : Parts = record { pool = o .loop3 .pool; head = record { touched = true; length = p .result .length; runs = p .result .runs; marks = p .result .marks }; number = 0; first = p .result .first; table = record { marks = c .table-left .result }; styles = c .before .before .before .before .before .before .before .styles-of2 .result } in
+    let f : ℕ → Run = runFrom pool y (q .from) (q .full) in
+    let z : v .edit-verdict .result ≡ 0 = omega (arith, g .before .before .before .before .if4 .left) in
+    let mine : o .loop4 .own ≡ y .runs = omega (arith, c .before .loop4-test .left, o .loop4 .inv .0) in
+    let past : u .loop3 .k ≡ q .behind = omega (arith, o .before .if6 .left, u .loop3 .inv .0) in
+    let first : u .loop3 .pool ≡ laid pool (q .at + y .runs) (λ j. f (y .runs + j)) (q .behind) =
+    (rw past at (u .loop3 .inv .3)) ∙ part-all pool (q .at + y .runs) _ (q .grows) (q .behind) in
+    let then : o .loop4 .pool ≡ laid (u .loop3 .pool) (q .at) f (y .runs) =
+    (rw mine at (o .loop4 .inv .2)) ∙ laid-cong (u .loop3 .pool) (q .at) _ f (y .runs) (λ j i. run-own pool y (q .from) (q .full) j i) in
+    let laid-is : o .loop4 .pool ≡ poolWith pool (spotsOf (a .args .t2) t (y .runs)) y =
+    then
+    ∙ ap (λ (r : List Run). laid r (q .at) f (y .runs)) first
+    ∙ laid-two pool (q .at) f (y .runs) (q .behind)
+    ∙ ap (λ (r : Spots). laid pool (r .at) (runFrom pool y (r .from) (r .full)) (y .runs + r .behind)) (g .spots .ensures)
+    ∙ all-written (a .args .t2) pool t y (omega (arith, sum-next (runsIn (a .args .t2)) t 8 h)) in
+    let left : Parts = record { pool = o .loop4 .pool; head = record { touched = true; length = p .result .length; runs = p .result .runs; marks = p .result .marks }; number = 0; first = p .result .first; table = record { marks = c .table-left .result }; styles = g .before .before .before .styles-of2 .result } in
     λ s ok r. subst (λ (u : ℕ). DoneAt s t e (doneWith s u left)) (sym (place-in t h))
-    (parts-done s t e ok h x (outcomeMade x (p .last .0) (p .last .1 .0) (p .result)) (performed-made d (not-false _ (c .before .before .before .before .before .if5 .left))) (v .edit-verdict .result) (known v (y .runs) refl s r) left z
-    (on-state (at-place t h r) (λ st hs pool table. o .loop3 .pool ≡ poolWith pool (spotsOf hs t (y .runs)) y) laid-is)
-    (ap (λ (ms : List Mark). record { marks = ms }) (c .table-left .ensures)) refl refl (c .before .before .before .before .before .before .before .styles-of2 .ensures) refl)
+    (parts-done s t e ok h x (outcomeMade x (p .last .0) (p .last .1 .0) (p .result)) (performed-made d (not-false _ (g .before .if5 .left))) (v .edit-verdict .result) (known v (y .runs) refl s r) left z
+    (on-state (at-place t h r) (λ st hs pool table. o .loop4 .pool ≡ poolWith pool (spotsOf hs t (y .runs)) y) laid-is)
+    (ap (λ (ms : List Mark). record { marks = ms }) (c .table-left .ensures)) refl refl (g .before .before .before .styles-of2 .ensures) refl)
 
 pub edit-parts-spec : {M : Type 1} → statement M
 edit-parts-spec =
@@ -448,6 +477,8 @@ edit-parts-spec =
     μ-loop2
     Inv-loop3
     μ-loop3
+    Inv-loop4
+    μ-loop4
     (λ c. search needs)
     (λ c κs. search needs)
     returns
@@ -525,13 +556,17 @@ edit-parts-spec =
     (λ c. search needs)
     (λ c. search needs)
     (λ c. search needs)
-    (λ c. search needs)
-    (λ c. search needs)
     loop3-again-2
+    loop4-holds
     (λ c. search needs)
     (λ c. search needs)
     (λ c. search needs)
     (λ c. search needs)
-    loop3-again-3
+    (λ c. search needs)
+    (λ c. search needs)
+    (λ c. search needs)
+    (λ c. search needs)
+    (λ c. search needs)
+    loop4-again
     table-left-requires
     returns-5)
