@@ -1,16 +1,17 @@
 -- An edit on the parts of a state: what it leaves, put back, is what the edit leaves of the state.
-use Prim.Native.Nat.{ℕ, _+_, _≤_, _<_}
+use Prim.Native.Nat.{ℕ, _+_, _≤_, _<_, _^_}
 use mathlib.Core.Path.{_≡_, refl, sym, ap, _∙_, subst}
 use mathlib.Core.Bool.{true, false}
 use mathlib.Core.List.{List, []}
 use native.Mathlib.Omega.{arith}
 use native.Mathlib.Decide.{ℕ-discrete, decLt}
 use borrow.Author.Tests.{lt-ltb, le-ltb}
-use lib.ListN.{length, getD, set, replicate, length-set}
+use lib.ListN.{length, getD, set, take, replicate, length-set}
 use lib.Seq.{getD-set-same, getD-set-other, ext-getD}
 use Rattle.laws.proofs.Lists.{stored}
 use Rattle.styles.specs.Answers.{stylesOf}
 use Rattle.styles.specs.Bits.{pick}
+use Rattle.styles.proofs.UnionLaws.{pick-none}
 use Rattle.tank.specs.declared.Tank.{Tank}
 use Rattle.tank.specs.declared.lent.Outline.{Outline}
 use Rattle.tank.specs.declared.lent.Left.{Left}
@@ -29,7 +30,7 @@ use Rattle.tanks.specs.declared.Done.{Done}
 use Rattle.tanks.specs.Settings.{shareOf, judgement}
 use Rattle.tanks.specs.House.{shareNumber, withTank}
 use Rattle.tanks.specs.Pool.{noRun, noHead, noTable, runsIn, runsBelow, meaning, tankIn, tankOf, headOf, tableIn, spotsOf, Sound}
-use Rattle.tanks.specs.Contracts.{placeOf, PartsOf, PartsOfSome, withParts, doneWith, CalledAt, EditsParts, Performed, PerformedAs, PerformsOn, DoneAt}
+use Rattle.tanks.specs.Contracts.{placeOf, PartsOf, PartsOfSome, withParts, shownOf, doneWith, CalledAt, EditsParts, Performed, PerformedAs, PerformsOn, DoneAt}
 use Rattle.tanks.proofs.LaidLaws.{laid}
 use Rattle.tanks.proofs.Put.{runFrom, puts}
 use Rattle.tanks.proofs.SettingLaws.{TakenOut, taken}
@@ -78,11 +79,15 @@ set-own d xs u h =
 
 -- the parts of a refused edit
 abbrev pub Unchanged : ℕ → List Run → Table → Head → Parts → Type 0
-Unchanged v pool table head r = (r .pool ≡ pool) × (r .table ≡ table) × (r .head ≡ head) × (r .number ≡ v) × (r .styles ≡ stylesOf []) × (r .first ≡ 0)
+Unchanged v pool table head r = (r .pool ≡ pool) × (r .table ≡ table) × (r .head ≡ head) × (r .number ≡ v) × (r .shown ≡ 0) × (r .first ≡ 0)
 
 with-same : (s : Tanks) (u : ℕ) (r : Parts) → Sound s → u < 8 → r .pool ≡ s .pool → r .table ≡ getD (s .tables) u noTable → r .head ≡ getD (s .heads) u noHead → withParts s u r ≡ s
 with-same s u r ok h a b c =
     rw (a, b, c, set-own noTable (s .tables) u (omega (arith, ok .tables-8)), set-own noHead (s .heads) u (omega (arith, ok .heads-8)))
+
+-- no bits show no marks
+shown-none : (s : Tanks) (u : ℕ) (r : Parts) → r .shown ≡ 0 → stylesOf (shownOf s u r) ≡ stylesOf []
+shown-none s u r e = ap stylesOf (ap (pick (take (getD (s .heads) u noHead .marks) (getD (s .tables) u noTable .marks))) e ∙ pick-none _)
 
 -- what the code knows of an edit of tank t on parts: the tank taken out, and the verdict
 abbrev pub Known : ℕ → Edit → Tank → ℕ → ℕ → ℕ → List Setting → List Head → List Run → Table → Type 0
@@ -146,7 +151,7 @@ module _ (s : Tanks) (t : ℕ) (e : Edit) (ok : Sound s) where
   parts-past r h is =
       let z = place-past t h in
       done-refused s t e 1 (doneWith s (placeOf t) r) (called-past s t e ok h) (omega arith)
-      (is .3, is .4, is .5, with-same s (placeOf t) r ok (omega (arith, z)) (is .0) (is .1) (rw z (is .2)))
+      (is .3, shown-none s (placeOf t) r (is .4), is .5, with-same s (placeOf t) r ok (omega (arith, z)) (is .0) (is .1) (rw z (is .2)))
 
   module _ (h : t < 8) (x : Tank) (p : Performed) (performed : PerformedAs e x p) (v : ℕ) (known : Known t e x (p .number) (p .tank .runs) v (s .settings) (s .heads) (s .pool) (getD (s .tables) t noTable)) where
     own : TakenOut s t x
@@ -157,20 +162,22 @@ module _ (s : Tanks) (t : ℕ) (e : Edit) (ok : Sound s) where
     parts-refused r g is =
         done-refused s t e v (doneWith s t r)
         (called-by s t e x (p .number) (p .tank) v s ok h own (performed .called) (tail-refused s t (ownBy s t e (p .number) (p .tank .runs)) (p .tank) v ok (known .1) g)) g
-        (is .3, is .4, is .5, with-same s t r ok h (is .0) (is .1) (is .2))
+        (is .3, shown-none s t r (is .4), is .5, with-same s t r ok h (is .0) (is .1) (is .2))
 
-    pub parts-done : (r : Parts) → v ≡ 0 → r .pool ≡ puts s t (p .tank) .pool → r .table ≡ tableIn (p .tank) → r .head ≡ headOf (p .tank) → r .number ≡ 0 → r .styles ≡ p .styles → r .first ≡ p .first
+    pub parts-done : (r : Parts) → v ≡ 0 → r .pool ≡ puts s t (p .tank) .pool → r .table ≡ tableIn (p .tank) → r .head ≡ headOf (p .tank) → r .number ≡ 0 → stylesOf (shownOf s t r) ≡ p .styles → r .first ≡ p .first
         → DoneAt s t e (doneWith s t r)
     unfolding puts
     parts-done r z a b c n d f =
         let k =
         called-by s t e x (p .number) (p .tank) 0 (puts s t (p .tank)) ok h own (performed .called)
         (tail-done s t (ownBy s t e (p .number) (p .tank .runs)) (p .tank) ok h (performed .called .formed) (sym (known .1) ∙ z)) in
-        rw (a, b, c, n, d, f) (done-by s t e x p (puts s t (p .tank)) h own performed k)
+        let same : record { number = 0; styles = p .styles; first = p .first; tanks = puts s t (p .tank) } ≡ doneWith s t r =
+        λ i. record { number = sym n i; styles = sym d i; first = sym f i; tanks = record { settings = s .settings; heads = set (s .heads) t (sym c i); tables = set (s .tables) t (sym b i); pool = sym a i } } in
+        subst (DoneAt s t e) same (done-by s t e x p (puts s t (p .tank)) h own performed k)
 
     -- nothing has changed: the parts as they were
     pub parts-same : (r : Parts) → v ≡ 0 → p .tank ≡ x → r .pool ≡ s .pool → r .table ≡ getD (s .tables) t noTable → r .head ≡ getD (s .heads) t noHead
-        → r .number ≡ 0 → r .styles ≡ p .styles → r .first ≡ p .first → DoneAt s t e (doneWith s t r)
+        → r .number ≡ 0 → stylesOf (shownOf s t r) ≡ p .styles → r .first ≡ p .first → DoneAt s t e (doneWith s t r)
     parts-same r z q a b c n d f =
         let k =
         called-by s t e x (p .number) (p .tank) 0 s ok h own (performed .called)
@@ -186,4 +193,10 @@ module _ (s : Tanks) (t u : ℕ) (place : u ≡ placeOf t) (ok : Sound s) where
   parts-some = record { state = s; sound = ok; parts = parts-own }
 
   pub parts-back : (e : Edit) (r : Parts) → EditsParts (s .settings) (s .heads) (s .pool) (getD (s .tables) u noTable) t e r → DoneAt s t e (doneWith s u r)
-  parts-back e r edits = subst (λ (k : ℕ). DoneAt s t e (doneWith s k r)) (sym place) (edits s ok parts-own)
+  parts-back e r edits = subst (λ (k : ℕ). DoneAt s t e (doneWith s k r)) (sym place) (edits .done s ok parts-own)
+
+  -- the bits that it shows are those of a table's marks
+  pub parts-shown : (e : Edit) (r : Parts) → EditsParts (s .settings) (s .heads) (s .pool) (getD (s .tables) u noTable) t e r
+      → (getD (s .heads) u noHead .marks ≤ 64) × (r .shown < 2 ^ getD (s .heads) u noHead .marks)
+  unfolding tankOf tankIn
+  parts-shown e r edits = (ok .each u (omega (arith, place, place-below t)) .laid .few, rw place (edits .fits))

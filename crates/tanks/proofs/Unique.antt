@@ -1,10 +1,10 @@
 -- One meaning, one state.
-use Prim.Native.Nat.{ℕ, zero, suc, _+_, _-_, _<_}
+use Prim.Native.Nat.{ℕ, zero, suc, _+_, _-_, _<_, _^_}
 use mathlib.Core.Path.{_≡_, refl, sym, ap, _∙_}
 use mathlib.Core.List.{List}
 use native.Mathlib.Omega.{arith}
 use native.Mathlib.Decide.{decLt}
-use lib.ListN.{getD}
+use lib.ListN.{length, length-take, getD, take}
 use lib.Seq.{ext-getD, getD-set-same}
 use Rattle.runs.specs.Positions.{sumBelow}
 use Rattle.tanks.specs.declared.Setting.{Setting}
@@ -14,6 +14,8 @@ use Rattle.tank.specs.declared.Tank.{Tank}
 use Rattle.styles.specs.declared.Identity.{Identity}
 use Rattle.styles.specs.declared.Party.{Party}
 use Rattle.styles.specs.Answers.{stylesOf}
+use Rattle.styles.proofs.AnswerLaws.{styles-inj}
+use Rattle.styles.proofs.SameLaws.{pick-inj}
 use Rattle.tank.specs.Rules.{freshView, Edit, inserting, removing}
 use Rattle.tank.proofs.Unique.{same-tank}
 use Rattle.tanks.specs.declared.Tanks.{Tanks}
@@ -140,16 +142,23 @@ one-done s t e r r′ p q =
 -- the parts that an edit leaves
 pub one-parts : (t : ℕ) (e : Edit) (st : List Setting) (hs : List Head) (pool : List Run) (table : Table) (p q : Parts) → PartsOfSome (placeOf t) st hs pool table
     → EditsParts st hs pool table t e p → EditsParts st hs pool table t e q → p ≡ q
+unfolding tankOf tankIn
 one-parts t e st hs pool table p q some l r =
     let s = some .state in
     let u = placeOf t in
     let h : u < 8 = place-below t in
-    let d = one-done s t e (doneWith s u p) (doneWith s u q) (l s (some .sound) (some .parts)) (r s (some .sound) (some .parts)) in
+    let d = one-done s t e (doneWith s u p) (doneWith s u q) (l .done s (some .sound) (some .parts)) (r .done s (some .sound) (some .parts)) in
     let a = ap (λ (x : Done). getD (x .tanks .heads) u noHead) d in
     let b = ap (λ (x : Done). getD (x .tanks .tables) u noTable) d in
     let head = sym (getD-set-same (s .heads) u (p .head) noHead (omega (arith, some .sound .heads-8))) ∙ a ∙ getD-set-same (s .heads) u (q .head) noHead (omega (arith, some .sound .heads-8)) in
     let marks = sym (getD-set-same (s .tables) u (p .table) noTable (omega (arith, some .sound .tables-8))) ∙ b ∙ getD-set-same (s .tables) u (q .table) noTable (omega (arith, some .sound .tables-8)) in
-    λ i. record { pool = d i .tanks .pool; table = marks i; head = head i; number = d i .number; styles = d i .styles; first = d i .first }
+    let own = some .sound .each u h .laid in
+    let n = getD (s .heads) u noHead .marks in
+    let ms = take n (getD (s .tables) u noTable .marks) in
+    let long : length ms ≡ n = omega (arith, length-take n (getD (s .tables) u noTable .marks), own .few, own .table-64) in
+    let small : (x : ℕ) → x < 2 ^ getD hs u noHead .marks → x < 2 ^ length ms = λ x b. rw (long, some .parts .heads-are) b in
+    let shown = pick-inj ms (p .shown) (q .shown) (own .sorted) (small (p .shown) (l .fits)) (small (q .shown) (r .fits)) (styles-inj _ _ (ap (λ (x : Done). x .styles) d)) in
+    λ i. record { pool = d i .tanks .pool; table = marks i; head = head i; number = d i .number; shown = shown i; first = d i .first }
 
 -- a tank taken out
 pub one-taken : (s : Tanks) (t : ℕ) (x x′ : Tank) → Taken s t x → Taken s t x′ → x ≡ x′

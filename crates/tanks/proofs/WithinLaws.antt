@@ -364,13 +364,13 @@ module _ (s : Tanks) (t : ℕ) (e : Edit) (ok : Sound s) (h : t < 8) where
       → r .table ≡ table
       → r .head ≡ record { touched = true; length = getD hs t noHead .length - q .less + q .more; runs = runsIn hs t; marks = getD hs t noHead .marks }
       → r .number ≡ 0
-      → r .styles ≡ stylesOf (shownBy e (pick (take (getD hs t noHead .marks) (table .marks)) (getD pool (at + (k + one - 2)) noRun .set)))
+      → pick (take (getD hs t noHead .marks) (table .marks)) (r .shown) ≡ shownBy e (pick (take (getD hs t noHead .marks) (table .marks)) (getD pool (at + (k + one - 2)) noRun .set))
       → r .first ≡ 0
       → DoneAt s t e (doneWith s t r)
 
   pub did-own : Did (s .settings) (s .heads) (s .pool) (getD (s .tables) t noTable)
   unfolding tankOf tankIn puts
-  did-own at k one q p z r pool-is table-is head-is number-is styles-are first-is =
+  did-own at k one q p z r pool-is table-is head-is number-is shown-are first-is =
       let hs = s .heads in
       let pool = s .pool in
       let table = getD (s .tables) t noTable in
@@ -388,4 +388,4 @@ module _ (s : Tanks) (t : ℕ) (e : Edit) (ok : Sound s) (h : t < 8) where
       ∙ pool-resized hs pool t i u (p .there) (sum-next (runsIn hs) t 8 h) (sound-held s ok) (ok .pool-512) (omega (arith, p .there, own .sound .within, own .sound .formed .laid .lens-514)) y refl refl refl in
       parts-done s t e ok h x (record { number = 0; styles = stylesOf (shownBy e (pick (state.tableOf x) (getD (x .sets) i 0))); first = 0; tank = y }) did 0 (refl, same-verdict s ok t h e) r refl
       (pool-is ∙ g) table-is head-is number-is
-      (styles-are ∙ ap (λ (b : ℕ). stylesOf (shownBy e (pick (state.tableOf x) b))) (sym (set-of hs pool table t (own .sound) (p .at-is) (p .there)))) first-is
+      (ap stylesOf shown-are ∙ ap (λ (b : ℕ). stylesOf (shownBy e (pick (state.tableOf x) b))) (sym (set-of hs pool table t (own .sound) (p .at-is) (p .there)))) first-is

@@ -1,15 +1,16 @@
 -- What the functions of this crate promise and ask.
-use Prim.Native.Nat.{ℕ, _≤_, _<_}
+use Prim.Native.Nat.{ℕ, _≤_, _<_, _^_}
 use mathlib.Core.Path.{_≡_}
 use mathlib.Core.Bool.{Bool, true, cond}
 use mathlib.Core.List.{List, [], _∷_}
 use lib.Dec.{ltb}
-use lib.ListN.{getD, set}
+use lib.ListN.{getD, set, take}
 use Rattle.styles.specs.declared.Identity.{Identity}
 use Rattle.styles.specs.declared.Mark.{Mark}
 use Rattle.styles.specs.declared.Party.{Party}
 use Rattle.styles.specs.declared.Styles.{Styles}
 use Rattle.styles.specs.Answers.{stylesOf}
+use Rattle.styles.specs.Bits.{pick}
 use Rattle.tank.specs.declared.Tank.{Tank}
 use Rattle.tank.specs.declared.lent.Left.{Left}
 use Rattle.tank.specs.Lending.{Leaves}
@@ -28,7 +29,7 @@ use Rattle.tanks.specs.declared.Count.{Count}
 use Rattle.tanks.specs.declared.YesNo.{YesNo}
 use Rattle.tanks.specs.Settings.{accepted, shareOf, limitOf, judgement}
 use Rattle.tanks.specs.House.{tankAt, held, withTank, openNumber, opening, refusalAt, afterAt, insertedSetAt, removedFirstAt, Call}
-use Rattle.tanks.specs.Pool.{noTable, runsIn, meaning, Sound}
+use Rattle.tanks.specs.Pool.{noHead, noTable, runsIn, meaning, Sound}
 
 -- ---- Public functions
 -- what opening hands back
@@ -105,13 +106,19 @@ pub record PartsOfSome (u : ℕ) (st : List Setting) (hs : List Head) (pool : Li
 abbrev pub withParts : Tanks → ℕ → Parts → Tanks
 withParts s u p = record { settings = s .settings; heads = set (s .heads) u (p .head); tables = set (s .tables) u (p .table); pool = p .pool }
 
+-- the marks of the set that an edit shows, by their bits in the table before it
+abbrev pub shownOf : Tanks → ℕ → Parts → List Mark
+shownOf s u p = pick (take (getD (s .heads) u noHead .marks) (getD (s .tables) u noTable .marks)) (p .shown)
+
 -- what the edit hands back once they are put back
 abbrev pub doneWith : Tanks → ℕ → Parts → Done
-doneWith s u p = record { number = p .number; styles = p .styles; first = p .first; tanks = withParts s u p }
+doneWith s u p = record { number = p .number; styles = stylesOf (shownOf s u p); first = p .first; tanks = withParts s u p }
 
--- an edit of tank t on the parts of a state: put back into any sound state that they are parts of, they are what the edit leaves of it
-abbrev pub EditsParts : List Setting → List Head → List Run → Table → ℕ → Edit → Parts → Type 0
-EditsParts st hs pool table t e p = (s : Tanks) → Sound s → PartsOf s (placeOf t) st hs pool table → DoneAt s t e (doneWith s (placeOf t) p)
+-- an edit of tank t on the parts of a state: what it shows are bits of the table's marks; and put back into any sound state that they are parts of,
+-- they are what the edit leaves of it
+pub record EditsParts (st : List Setting) (hs : List Head) (pool : List Run) (table : Table) (t : ℕ) (e : Edit) (p : Parts) : Type 0 where
+  pub fits : p .shown < 2 ^ getD hs (placeOf t) noHead .marks
+  pub done : (s : Tanks) → Sound s → PartsOf s (placeOf t) st hs pool table → DoneAt s t e (doneWith s (placeOf t) p)
 
 -- a tank taken out: it means what the house's tank t does, and is a fresh one where there is none
 pub record Taken (s : Tanks) (t : ℕ) (x : Tank) : Type 0 where

@@ -6,7 +6,6 @@ pub mod look; // look.rt: one tank read where it stands
 pub mod stretches; // stretches.rt: its stretches, likewise
 
 ghost use mathlib.Core.Path.{_≡_};
-ghost use mathlib.Core.List.{[]};
 ghost use Prim.Native.Nat.{_<_};
 ghost use Rattle.styles.specs.Answers.{stylesOf};
 ghost use Rattle.tank.specs.State as state;
@@ -134,15 +133,16 @@ pub struct Done {
     pub first: u64,
 }
 
-// What an edit leaves of the parts of a state that it has to do with, and what it hands back beside them. With the table right behind the
-// pool both would be copied once more as one piece.
+// What an edit leaves of the parts of a state that it has to do with, and what it hands back beside them: the set of an insertion by its bits in
+// the table before the call, since a set of marks is another table to copy. With the table right behind the pool both would be copied once
+// more as one piece.
 pub struct Parts {
     pub pool: [Run; 512],
     pub head: Head,
     pub number: u64,
     pub first: u64,
+    pub shown: u64,
     pub table: Table,
-    pub styles: Styles,
 }
 
 // A number that was asked for, or the refusal's.
@@ -232,15 +232,15 @@ fn perform(
 
 // A refused call: the parts as they were.
 fn unchanged(number: u64, pool: [Run; 512], table: Table, head: Head) -> Parts
-    ensures { λ r. ⌜ (r .pool ≡ pool) × (r .table ≡ table) × (r .head ≡ head) × (r .number ≡ number) × (r .styles ≡ stylesOf []) × (r .first ≡ 0) ⌝ }
+    ensures { λ r. ⌜ (r .pool ≡ pool) × (r .table ≡ table) × (r .head ≡ head) × (r .number ≡ number) × (r .shown ≡ 0) × (r .first ≡ 0) ⌝ }
 {
     Parts {
         pool: pool,
         head: head,
         number: number,
         first: 0,
+        shown: 0,
         table: table,
-        styles: styles::table::no_marks(),
     }
 }
 
@@ -290,7 +290,6 @@ pub fn edit_parts(
         let run = at + (k + pick - 2);
         let old = pool[run];
         let shown = shown_by(call, marks, h.marks, old.set);
-        let styles = styles::table::styles_of(marks, h.marks, shown);
         pool[run] = Run {
             len: old.len - q.less + q.more,
             set: old.set,
@@ -305,8 +304,8 @@ pub fn edit_parts(
             },
             number: 0,
             first: 0,
+            shown: shown,
             table: table,
-            styles: styles,
         };
     }
     let mut lens = [0u64; 514];
@@ -332,15 +331,14 @@ pub fn edit_parts(
     if 0 < number {
         return unchanged(number, pool, table, h);
     }
-    let styles = styles::table::styles_of(marks, h.marks, done.shown);
     if !done.changed {
         return Parts {
             pool: pool,
             head: h,
             number: 0,
             first: done.first,
+            shown: done.shown,
             table: table,
-            styles: styles,
         };
     }
     let s = spots(heads, t, m);
@@ -374,8 +372,8 @@ pub fn edit_parts(
         },
         number: 0,
         first: done.first,
+        shown: done.shown,
         table: Table { marks: next },
-        styles: styles,
     }
 }
 
@@ -406,9 +404,11 @@ impl Tanks {
         self.pool = next;
         let head = p.head;
         self.heads[t] = head;
-        let marks = p.table;
-        self.tables[t] = marks;
-        let styles = p.styles;
+        let left = p.table;
+        self.tables[t] = left;
+        let h = heads[t];
+        let marks = table.marks;
+        let styles = styles::table::styles_of(marks, h.marks, p.shown);
         Done {
             number: p.number,
             styles: styles,

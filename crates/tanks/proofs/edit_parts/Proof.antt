@@ -7,10 +7,12 @@ use Prim.Native.Nat.{ℕ, _+_, _-_, _≤_, _<_, _^_}
 use mathlib.Core.Path.{_≡_, refl, sym, ap, _∙_, subst}
 use mathlib.Core.Bool.{true}
 use mathlib.Core.List.{List, []}
-use lib.ListN.{length, getD, set, replicate, length-set}
+use lib.ListN.{length, getD, set, take, replicate, length-set}
+use lib.Pow.{pow-pos}
 use Rattle.laws.proofs.Lists.{stored}
 use Rattle.styles.specs.declared.Mark.{Mark}
 use Rattle.styles.specs.Answers.{stylesOf}
+use Rattle.styles.specs.Bits.{pick}
 use Rattle.runs.proofs.SumLaws.{sum-next}
 use Rattle.tank.specs.declared.Tank.{Tank}
 use Rattle.tank.specs.declared.lent.Left.{Left}
@@ -94,24 +96,24 @@ made-of h marks olens osets done = tankMade (tankOn (outlined h) [] [] marks) ol
 
 -- the runs behind the tank's own are written first
 abbrev Inv-loop3 : tie.InvT-loop3
-Inv-loop3 tank pool₀ t h n marks at k from to here next pick olens osets i done m number styles s k₀ pool k' =
+Inv-loop3 tank pool₀ t h n marks at k from to here next pick olens osets i done m number s k₀ pool k' =
     (k' ≤ s .behind)
     × Inside (made-of h marks olens osets done) m (s .at) (s .from) (s .full) (s .count) (s .grows)
     × Beyond m (s .full) (s .count) (s .left) (s .behind)
     × (pool ≡ part pool₀ (s .at + m) (λ j. runFrom pool₀ (made-of h marks olens osets done) (s .from) (s .full) (m + j)) (lowest (s .grows) (s .behind) k') k')
 
 abbrev μ-loop3 : tie.MeasureT-loop3
-μ-loop3 tank pool₀ t h n marks at k from to here next pick olens osets i done m number styles s k₀ pool k' = s .behind - k'
+μ-loop3 tank pool₀ t h n marks at k from to here next pick olens osets i done m number s k₀ pool k' = s .behind - k'
 
 -- then its own
 abbrev Inv-loop4 : tie.InvT-loop4
-Inv-loop4 tank pool₁ t h n marks at k from to here next pick olens osets i done m number styles s k' own₀ pool own =
+Inv-loop4 tank pool₁ t h n marks at k from to here next pick olens osets i done m number s k' own₀ pool own =
     (own ≤ m)
     × Inside (made-of h marks olens osets done) m (s .at) (s .from) (s .full) (s .count) (s .grows)
     × (pool ≡ laid pool₁ (s .at) (runOf olens osets) own)
 
 abbrev μ-loop4 : tie.MeasureT-loop4
-μ-loop4 tank pool₁ t h n marks at k from to here next pick olens osets i done m number styles s k' own₀ pool own = m - own
+μ-loop4 tank pool₁ t h n marks at k from to here next pick olens osets i done m number s k' own₀ pool own = m - own
 
 -- ---- what is known on the way
 -- the tanks of the state hold no more than the pool has
@@ -166,11 +168,11 @@ known c n g s q =
     (known-by t e (w .perform .result .number) (a .args .settings) (a .args .t2) (a .args .t3) (a .args .table) (taken-is l) g (c .edit-verdict .ensures))
 
 -- no refusal: the places of the second loop are inside the arrays
-places : (c : tie.After-spots Inv-loop μ-loop Inv-loop2 μ-loop2 Inv-loop3 μ-loop3 Inv-loop4 μ-loop4) → let w = c .before .before .before .before .before .before .before .before .before in let a = w .before .before .before .before .before .before .before .before .before .before .before .before .before .before .before .before .before .before .before in let p = w .perform in let r = c .spots .result in
+places : (c : tie.After-spots Inv-loop μ-loop Inv-loop2 μ-loop2 Inv-loop3 μ-loop3 Inv-loop4 μ-loop4) → let w = c .before .before .before .before .before .before .before .before in let a = w .before .before .before .before .before .before .before .before .before .before .before .before .before .before .before .before .before .before .before in let p = w .perform in let r = c .spots .result in
     let x = made-of (getD (a .args .t2) (a .args .tank) noHead) (a .args .table .marks) (p .last .0) (p .last .1 .0) (p .result) in
     Inside x (x .runs) (r .at) (r .from) (r .full) (r .count) (r .grows)
 places c =
-    let v = c .before .before .before .before .before in
+    let v = c .before .before .before .before in
     let w = v .before .before .before .before in
     let p = w .perform in
     let d = did w in
@@ -182,7 +184,7 @@ places c =
     let x = tank-of l in
     let s = a .pre .state in
     let y = tankMade x (p .last .0) (p .last .1 .0) (p .result) in
-    let z : v .edit-verdict .result ≡ 0 = omega (arith, c .before .before .before .before .if4 .left) in
+    let z : v .edit-verdict .result ≡ 0 = omega (arith, c .before .before .before .if4 .left) in
     let f = performed-made d (not-false _ (c .before .if5 .left)) .called .formed in
     inside s t (ownBy s t e (p .result .number) (y .runs)) y (a .pre .sound) h f (sym (known v (y .runs) refl s (a .pre .parts) .1) ∙ z) _
     (on-state (at-place t h (a .pre .parts)) (λ st hs pool table. c .spots .result ≡ spotsOf hs t (y .runs)) (c .spots .ensures))
@@ -224,10 +226,17 @@ facts c =
     (c .before .before .before .before .before .before .before .resize-of .ensures) (c .before .before .before .before .if2 .left) (ap (λ (j : ℕ). getD pool j noRun .set) (b .place-before .ensures)) (ap (λ (j : ℕ). getD pool j noRun .set) (c .before .before .place-within .ensures)) (c .if3 .taken) (c .before .choose .ensures (c .if3 .taken))
 
 -- ---- what is asked for
+-- no bits are bits of any marks
+none-fits : (x k : ℕ) → x ≡ 0 → x < 2 ^ k
+none-fits x k e = omega (arith, e, pow-pos k)
+
 returns : tie.Need-returns Inv-loop μ-loop Inv-loop2 μ-loop2 Inv-loop3 μ-loop3 Inv-loop4 μ-loop4
 returns c =
     let a = c .before .before .before in
-    λ s ok q. parts-past s (a .args .tank) (editOf (a .args .call)) ok _ (c .before .before .if1 .taken) (on-state q (λ st hs pool table. Unchanged 1 pool table (getD hs 0 noHead) (c .unchanged .result)) (c .unchanged .ensures))
+    record {
+      fits = none-fits _ _ (c .unchanged .ensures .4);
+      done = λ s ok q. parts-past s (a .args .tank) (editOf (a .args .call)) ok _ (c .before .before .if1 .taken) (on-state q (λ st hs pool table. Unchanged 1 pool table (getD hs 0 noHead) (c .unchanged .result)) (c .unchanged .ensures));
+    }
 
 start-requires : tie.Need-start-requires Inv-loop μ-loop Inv-loop2 μ-loop2 Inv-loop3 μ-loop3 Inv-loop4 μ-loop4
 start-requires c κs = (omega (arith, c .before .before .if1 .left), held (c .before .before .before))
@@ -258,18 +267,10 @@ shown-by-requires c κs =
     let s = whole-tank a h in
     (tank-few (a .args .t2) (a .args .t3) (a .args .table) (a .args .tank) s, set-small (a .args .t2) (a .args .t3) (a .args .table) (a .args .tank) s (facts d .at-is) (facts d .there))
 
-styles-of-requires : tie.Need-styles-of-requires Inv-loop μ-loop Inv-loop2 μ-loop2 Inv-loop3 μ-loop3 Inv-loop4 μ-loop4
-styles-of-requires c κs =
-    let d = c .before .before in
-    let a = d .before .before .before .before .before .before .before .before .before .before .before .before in
-    let h = d .before .before .before .before .before .before .before .before .before .before .before .if1 .left in
-    (tank-few (a .args .t2) (a .args .t3) (a .args .table) (a .args .tank) (whole-tank a h), c .shown-by .ensures .0)
-
 -- one run has changed
 returns-2 : tie.Need-returns-2 Inv-loop μ-loop Inv-loop2 μ-loop2 Inv-loop3 μ-loop3 Inv-loop4 μ-loop4
 returns-2 c =
-    let d = c .before .before .before .before .before .before in
-    let f = d .before in
+    let f = c .before .before .before .before .before .before in
     let v = f .before .before in
     let a = v .before .before .before .before .before .before .before .before .before .before .before .before in
     let t = a .args .tank in
@@ -281,10 +282,13 @@ returns-2 c =
     let one = v .before .choose .result in
     let x = getD (a .args .t2) t noHead in
     let y = getD (a .args .t3) (at + (l .k + one - 2)) noRun in
-    let left : Parts = record { pool = set (a .args .t3) (at + (l .k + one - 2)) (record { len = y .len - q .less + q .more; set = y .set }); head = record { touched = true; length = x .length - q .less + q .more; runs = x .runs; marks = x .marks }; number = 0; first = 0; table = a .args .table; styles = d .styles-of .result } in
-    λ s ok r. subst (λ (u : ℕ). DoneAt s t e (doneWith s u left)) (sym (place-in t h))
-    (on-parts (at-place t h r) (Did s t e ok h) (did-own s t e ok h) at (l .k) one q (facts v) (v .before .before .before .before .before .before .before .resize-of .ensures) left refl refl refl refl
-    (d .styles-of .ensures ∙ ap stylesOf (f .shown-by .ensures .1)) refl)
+    let left : Parts = record { pool = set (a .args .t3) (at + (l .k + one - 2)) (record { len = y .len - q .less + q .more; set = y .set }); head = record { touched = true; length = x .length - q .less + q .more; runs = x .runs; marks = x .marks }; number = 0; first = 0; shown = f .shown-by .result; table = a .args .table } in
+    record {
+      fits = subst (λ (u : ℕ). f .shown-by .result < 2 ^ getD (a .args .t2) u noHead .marks) (sym (place-in t h)) (f .shown-by .ensures .0);
+      done = λ s ok r. subst (λ (u : ℕ). DoneAt s t e (doneWith s u left)) (sym (place-in t h))
+          (on-parts (at-place t h r) (Did s t e ok h) (did-own s t e ok h) at (l .k) one q (facts v) (v .before .before .before .before .before .before .before .resize-of .ensures) left refl refl refl refl
+          (f .shown-by .ensures .1) refl);
+    }
 
 loop2-holds : tie.Need-loop2-holds Inv-loop μ-loop Inv-loop2 μ-loop2 Inv-loop3 μ-loop3 Inv-loop4 μ-loop4
 loop2-holds c =
@@ -320,16 +324,16 @@ returns-3 c =
     let e = editOf (a .args .call) in
     let x = tank-of l in
     let r = c .unchanged2 .result in
-    λ s ok q. subst (λ (u : ℕ). DoneAt s t e (doneWith s u r)) (sym (place-in t h))
-    (parts-refused s t e ok h x (outcome x (p .last .0) (p .last .1 .0) (p .result)) (performed d) (v .edit-verdict .result) (known v _ (d .runs-are) s q) r (c .before .if4 .taken)
-    (on-state (at-place t h q) (λ st hs pool table. Unchanged (v .edit-verdict .result) pool table (getD hs t noHead) r) (c .unchanged2 .ensures)))
-
-styles-of-requires-2 : tie.Need-styles-of-requires-2 Inv-loop μ-loop Inv-loop2 μ-loop2 Inv-loop3 μ-loop3 Inv-loop4 μ-loop4
-styles-of-requires-2 c κs = let w = c .before .before .before .before .before in (own (w .before .before .before .before .before) .sound .formed .laid .few, did w .shown-fits)
+    record {
+      fits = none-fits _ _ (c .unchanged2 .ensures .4);
+      done = λ s ok q. subst (λ (u : ℕ). DoneAt s t e (doneWith s u r)) (sym (place-in t h))
+          (parts-refused s t e ok h x (outcome x (p .last .0) (p .last .1 .0) (p .result)) (performed d) (v .edit-verdict .result) (known v _ (d .runs-are) s q) r (c .before .if4 .taken)
+          (on-state (at-place t h q) (λ st hs pool table. Unchanged (v .edit-verdict .result) pool table (getD hs t noHead) r) (c .unchanged2 .ensures)));
+    }
 
 returns-4 : tie.Need-returns-4 Inv-loop μ-loop Inv-loop2 μ-loop2 Inv-loop3 μ-loop3 Inv-loop4 μ-loop4
 returns-4 c =
-    let v = c .before .before .before .before in
+    let v = c .before .before .before in
     let w = v .before .before .before .before in
     let p = w .perform in
     let d = did w in
@@ -339,24 +343,27 @@ returns-4 c =
     let h = l .before .before .before .before .before .before .before .before .before .before .before .before .before .if1 .left in
     let e = editOf (a .args .call) in
     let x = tank-of l in
-    let z : v .edit-verdict .result ≡ 0 = omega (arith, c .before .before .before .if4 .left) in
-    let left : Parts = record { pool = a .args .t3; head = getD (a .args .t2) t noHead; number = 0; first = p .result .first; table = a .args .table; styles = c .before .before .styles-of2 .result } in
-    λ s ok r. let q = at-place t h r in
-    subst (λ (u : ℕ). DoneAt s t e (doneWith s u left)) (sym (place-in t h))
-    (parts-same s t e ok h x (outcome x (p .last .0) (p .last .1 .0) (p .result)) (performed d) (v .edit-verdict .result) (known v _ (d .runs-are) s r) left z
-    (left-same x (p .last .0) (p .last .1 .0) (p .result) (not-true _ (c .if5 .taken)))
-    (sym (q .pool-is)) (sym (q .table-is)) (ap (λ (hs : List Head). getD hs t noHead) (sym (q .heads-are))) refl (c .before .before .styles-of2 .ensures) refl)
+    let z : v .edit-verdict .result ≡ 0 = omega (arith, c .before .before .if4 .left) in
+    let left : Parts = record { pool = a .args .t3; head = getD (a .args .t2) t noHead; number = 0; first = p .result .first; shown = p .result .shown; table = a .args .table } in
+    record {
+      fits = subst (λ (u : ℕ). p .result .shown < 2 ^ getD (a .args .t2) u noHead .marks) (sym (place-in t h)) (d .shown-fits);
+      done = λ s ok r. let q = at-place t h r in
+          subst (λ (u : ℕ). DoneAt s t e (doneWith s u left)) (sym (place-in t h))
+          (parts-same s t e ok h x (outcome x (p .last .0) (p .last .1 .0) (p .result)) (performed d) (v .edit-verdict .result) (known v _ (d .runs-are) s r) left z
+          (left-same x (p .last .0) (p .last .1 .0) (p .result) (not-true _ (c .if5 .taken)))
+          (sym (q .pool-is)) (sym (q .table-is)) (ap (λ (hs : List Head). getD hs t noHead) (sym (q .heads-are))) refl (on-state q (λ st hs pool table. stylesOf (pick (take (getD hs t noHead .marks) (table .marks)) (p .result .shown)) ≡ stylesOf (pick (state.tableOf x) (p .result .shown))) refl) refl);
+    }
 
 spots-requires : tie.Need-spots-requires Inv-loop μ-loop Inv-loop2 μ-loop2 Inv-loop3 μ-loop3 Inv-loop4 μ-loop4
 spots-requires c κs =
-    let w = c .before .before .before .before .before .before .before .before in
+    let w = c .before .before .before .before .before .before .before in
     let o = w .before .before .before .before .before .before .before .before .before .before .before .before .before .before .before .before .before .before in
     (o .if1 .left, performed-made (did w) (not-false _ (c .if5 .left)) .called .formed .laid .most, held (o .before))
 
 loop3-holds : tie.Need-loop3-holds Inv-loop μ-loop Inv-loop2 μ-loop2 Inv-loop3 μ-loop3 Inv-loop4 μ-loop4
 unfolding laid
 loop3-holds c =
-    let w = c .before .before .before .before .before .before .before .before .before in
+    let w = c .before .before .before .before .before .before .before .before in
     let a = w .before .before .before .before .before .before .before .before .before .before .before .before .before .before .before .before .before .before .before in
     (omega arith, places c, beyond (a .args .t2) (a .args .tank) (w .perform .result .runs) (c .spots .result) (c .spots .ensures), refl)
 
@@ -366,7 +373,7 @@ loop3-again c =
     let l = c .before .before .before .before .before .before .before .before in
     let g = l .before in
     let q = g .spots .result in
-    let w = g .before .before .before .before .before .before .before .before .before in
+    let w = g .before .before .before .before .before .before .before .before in
     let a = w .before .before .before .before .before .before .before .before .before .before .before .before .before .before .before .before .before .before .before in
     let p = w .perform in
     let x = made-of (getD (a .args .t2) (a .args .tank) noHead) (a .args .table .marks) (p .last .0) (p .last .1 .0) (p .result) in
@@ -391,7 +398,7 @@ loop3-again-2 c =
     let l = c .before .before .before .before .before .before in
     let g = l .before in
     let q = g .spots .result in
-    let w = g .before .before .before .before .before .before .before .before .before in
+    let w = g .before .before .before .before .before .before .before .before in
     let a = w .before .before .before .before .before .before .before .before .before .before .before .before .before .before .before .before .before .before .before in
     let p = w .perform in
     let x = made-of (getD (a .args .t2) (a .args .tank) noHead) (a .args .table .marks) (p .last .0) (p .last .1 .0) (p .result) in
@@ -418,7 +425,7 @@ loop4-again c =
     let l = c .before .before in
     let g = l .before .before .before .before in
     let q = g .spots .result in
-    let p = g .before .before .before .before .before .before .before .before .before .perform in
+    let p = g .before .before .before .before .before .before .before .before .perform in
     let f : ℕ → Run = runOf (p .last .0) (p .last .1 .0) in (
       omega (arith, c .before .loop4-test .taken),
       l .loop4 .inv .1,
@@ -426,7 +433,7 @@ loop4-again c =
     )
 
 table-left-requires : tie.Need-table-left-requires Inv-loop μ-loop Inv-loop2 μ-loop2 Inv-loop3 μ-loop3 Inv-loop4 μ-loop4
-table-left-requires c κs = let w = c .before .before .before .before .before .before .before .before .before .before .before .before .before .before in (own (w .before .before .before .before .before) .sound .formed .laid .few, did w .table-fits)
+table-left-requires c κs = let w = c .before .before .before .before .before .before .before .before .before .before .before .before .before in (own (w .before .before .before .before .before) .sound .formed .laid .few, did w .table-fits)
 
 returns-5 : tie.Need-returns-5 Inv-loop μ-loop Inv-loop2 μ-loop2 Inv-loop3 μ-loop3 Inv-loop4 μ-loop4
 unfolding puts
@@ -434,7 +441,7 @@ returns-5 c =
     let o = c .before .before in
     let u = o .before .before .before in
     let g = u .before in
-    let v = g .before .before .before .before .before in
+    let v = g .before .before .before .before in
     let w = v .before .before .before .before in
     let p = w .perform in
     let d = did w in
@@ -448,7 +455,7 @@ returns-5 c =
     let pool = a .args .t3 in
     let y = tankMade x (p .last .0) (p .last .1 .0) (p .result) in
     let f : ℕ → Run = runFrom pool y (q .from) (q .full) in
-    let z : v .edit-verdict .result ≡ 0 = omega (arith, g .before .before .before .before .if4 .left) in
+    let z : v .edit-verdict .result ≡ 0 = omega (arith, g .before .before .before .if4 .left) in
     let mine : o .loop4 .own ≡ y .runs = omega (arith, c .before .loop4-test .left, o .loop4 .inv .0) in
     let past : u .loop3 .k ≡ q .behind = omega (arith, o .before .if6 .left, u .loop3 .inv .0) in
     let first : u .loop3 .pool ≡ laid pool (q .at + y .runs) (λ j. f (y .runs + j)) (q .behind) =
@@ -461,11 +468,14 @@ returns-5 c =
     ∙ laid-two pool (q .at) f (y .runs) (q .behind)
     ∙ ap (λ (r : Spots). laid pool (r .at) (runFrom pool y (r .from) (r .full)) (y .runs + r .behind)) (g .spots .ensures)
     ∙ all-written (a .args .t2) pool t y (omega (arith, sum-next (runsIn (a .args .t2)) t 8 h)) in
-    let left : Parts = record { pool = o .loop4 .pool; head = record { touched = true; length = p .result .length; runs = p .result .runs; marks = p .result .marks }; number = 0; first = p .result .first; table = record { marks = c .table-left .result }; styles = g .before .before .before .styles-of2 .result } in
-    λ s ok r. subst (λ (u : ℕ). DoneAt s t e (doneWith s u left)) (sym (place-in t h))
-    (parts-done s t e ok h x (outcomeMade x (p .last .0) (p .last .1 .0) (p .result)) (performed-made d (not-false _ (g .before .if5 .left))) (v .edit-verdict .result) (known v (y .runs) refl s r) left z
-    (on-state (at-place t h r) (λ st hs pool table. o .loop4 .pool ≡ poolWith pool (spotsOf hs t (y .runs)) y) laid-is)
-    (ap (λ (ms : List Mark). record { marks = ms }) (c .table-left .ensures)) refl refl (g .before .before .before .styles-of2 .ensures) refl)
+    let left : Parts = record { pool = o .loop4 .pool; head = record { touched = true; length = p .result .length; runs = p .result .runs; marks = p .result .marks }; number = 0; first = p .result .first; shown = p .result .shown; table = record { marks = c .table-left .result } } in
+    record {
+      fits = subst (λ (u : ℕ). p .result .shown < 2 ^ getD (a .args .t2) u noHead .marks) (sym (place-in t h)) (d .shown-fits);
+      done = λ s ok r. subst (λ (u : ℕ). DoneAt s t e (doneWith s u left)) (sym (place-in t h))
+          (parts-done s t e ok h x (outcomeMade x (p .last .0) (p .last .1 .0) (p .result)) (performed-made d (not-false _ (g .before .if5 .left))) (v .edit-verdict .result) (known v (y .runs) refl s r) left z
+          (on-state (at-place t h r) (λ st hs pool table. o .loop4 .pool ≡ poolWith pool (spotsOf hs t (y .runs)) y) laid-is)
+          (ap (λ (ms : List Mark). record { marks = ms }) (c .table-left .ensures)) refl refl (on-state (at-place t h r) (λ st hs pool table. stylesOf (pick (take (getD hs t noHead .marks) (table .marks)) (p .result .shown)) ≡ stylesOf (pick (state.tableOf x) (p .result .shown))) refl) refl);
+    }
 
 pub edit-parts-spec : {M : Type 1} → statement M
 edit-parts-spec =
@@ -509,13 +519,12 @@ edit-parts-spec =
     (λ c. omega (arith, facts c))
     (λ c. omega (arith, facts c))
     shown-by-requires
-    styles-of-requires
+    (λ c. omega (arith, facts (c .before .before .before .before)))
     (λ c. omega (arith, facts (c .before .before .before .before .before)))
-    (λ c. omega (arith, facts (c .before .before .before .before .before .before)))
-    (λ c. omega (arith, facts (c .before .before .before .before .before .before)))
-    (λ c. omega (arith, facts (c .before .before .before .before .before .before)))
+    (λ c. omega (arith, facts (c .before .before .before .before .before)))
+    (λ c. omega (arith, facts (c .before .before .before .before .before)))
+    (λ c. omega (arith, facts (c .before .before .before .before .before .before .before)))
     (λ c. omega (arith, facts (c .before .before .before .before .before .before .before .before)))
-    (λ c. omega (arith, facts (c .before .before .before .before .before .before .before .before .before)))
     returns-2
     loop2-holds
     (λ c. search needs)
@@ -536,7 +545,6 @@ edit-parts-spec =
     edit-verdict-requires
     (λ c κs. search needs)
     returns-3
-    styles-of-requires-2
     returns-4
     spots-requires
     loop3-holds
