@@ -1,8 +1,8 @@
 // Equal windows over a tank's positions: for each, which of eight keys is the first that shows a value in it. Here is what a walk over runs that
 // fills them does with one run, by the masks of the keys; the walk itself stands where the runs are.
 ghost use mathlib.Core.Path.{_≡_};
-ghost use Prim.Native.Nat.{ℕ, _+_, _<_, _≤_, min, max};
-ghost use lib.Dec.{ltb};
+ghost use Prim.Native.Nat.{ℕ, _+_, _*_, _^_, _<_, _≤_, min, max};
+ghost use lib.Dec.{ltb, eqb};
 ghost use lib.ListN.{getD, take};
 ghost use mathlib.Core.Bool.{cond};
 ghost use Rattle.styles.specs.Marks.{keyIs};
@@ -66,16 +66,43 @@ pub fn plus(a: u64, b: u64) -> u64
     a + b
 }
 
-// The bits of the marks with each of eight keys.
+// A mask with a bit more below those it has: whether a key is the one that is looked for.
+fn with_bit(mask: u64, key: u16, wanted: u16) -> u64
+    requires { ⌜ mask < 2 ^ 63 ⌝ }
+    ensures { λ r. ⌜ r ≡ mask * 2 + cond (eqb key wanted) 1 0 ⌝ }
+{
+    if key == wanted {
+        return mask * 2 + 1;
+    }
+    mask * 2
+}
+
+// Eight masks with such a bit more, for a key of which each looks for its own.
+fn with_bits(before: [u64; 8], keys: [u16; 8], key: u16) -> [u64; 8]
+    requires { ⌜ ((j : ℕ) → j < 8 → getD before j 0 < 2 ^ 63) ⌝ }
+    ensures { λ r. ⌜ ((j : ℕ) → j < 8 → getD r j 0 ≡ getD before j 0 * 2 + cond (eqb key (getD keys j 0)) 1 0) ⌝ }
+{
+    let mut out: [u64; 8] = [0; 8];
+    let mut j = 0;
+    while j < 8 {
+        out[j] = with_bit(before[j], key, keys[j]);
+        j += 1;
+    }
+    out
+}
+
+// The bits of the marks with each of eight keys. One walk finds them all: a function that walks the table for one key copies it.
 pub fn masks(table: [Mark; 64], n: usize, keys: [u16; 8]) -> [u64; 8]
     requires { ⌜ n ≤ 64 ⌝ }
     ensures { λ r. ⌜ ((j : ℕ) → j < 8 → MaskOf (keyIs (getD keys j 0)) (take n table) (getD r j 0)) ⌝ }
 {
     let mut out: [u64; 8] = [0; 8];
-    let mut j = 0;
-    while j < 8 {
-        out[j] = styles::table::key_bits(table, n, keys[j]);
-        j += 1;
+    let mut i = n;
+    while 0 < i {
+        i -= 1;
+        let m = table[i];
+        let next = with_bits(out, keys, m.key);
+        out = next;
     }
     out
 }
