@@ -1,6 +1,7 @@
 // The questions and lists of eight tanks, with the tank's number in front.
 pub mod parts; // parts.rt: questions of one tank, on the parts of a state that it stands in
 pub mod listed; // listed.rt: lists of one tank, likewise
+pub mod windowed; // windowed.rt: what shows in equal windows over one tank, likewise
 
 ghost use mathlib.Core.Path.{_≡_};
 ghost use mathlib.Core.List.{[]};
@@ -177,11 +178,11 @@ pub fn first_shown(
     ensures { λ r. ⌜ r ≡ askNumber tank ⌝ }
     ensures { λ r. ⌜ now (out .exit) ≡ askAt (meaning s) tank who (now (out .entry)) (λ v. windows v keys start k (length (now (out .entry)))) ⌝ }
 {
-    if 8 <= tank {
-        return 1;
-    }
-    windows::first_shown(shown(s, tank, who), keys, start, k, out);
-    0
+    let heads = s.heads;
+    let pool = s.pool;
+    let tables = s.tables;
+    let table = tables[tanks::place(tank)];
+    windowed::first_shown(heads, pool, table, tank, who, keys, start, k, out)
 }
 
 // No such tank: no list.

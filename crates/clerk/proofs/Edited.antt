@@ -7,6 +7,7 @@ use Rattle.tanks.specs.declared.Done.{Done}
 use Rattle.tanks.specs.declared.Edit.{Edit}
 use Rattle.tanks.specs.declared.Tanks.{Tanks}
 use Rattle.tanks.specs.Contracts.{editOf, DoneAt}
+use Rattle.script.specs.declared.Both.{Both}
 use Rattle.script.specs.declared.Call.{Call}
 use Rattle.script.specs.declared.Change.{Change}
 use Rattle.script.specs.declared.Listing.{Listing}
@@ -17,7 +18,7 @@ use Rattle.answers.specs.Replies.{orRefused, acceptedSays, stylesSay, firstSays
 use Rattle.answers.proofs.Laws.{adds-as}
 use Rattle.clerk.specs.declared.Kind.{Kind}
 use Rattle.clerk.specs.declared.Side.{Side}
-use Rattle.clerk.specs.Calls.{tankFor, changed, changeSays, questionKind, listingKind, changeKind, kindOf, editSays}
+use Rattle.clerk.specs.Calls.{tankFor, changed, changeSays, questionKind, listingKind, changeKind, bothKind, kindOf, editSays}
 use Rattle.clerk.specs.Desk.{Settled, afterOp, sideAfter, saysOf, Performs}
 
 -- of `answered`
@@ -43,7 +44,7 @@ module _ (s : Tanks) (side : Side) (c : Call) (body d : List ℕ) (at : ℕ) (ou
   change-serves Change.Remove = λ r k done says. record { sound = done .called .sound; settled = kept; is = done .called .is; keeps = refl; answer = adds-as (ap₂ firstSays (done .called .number-is) (done .first-is)) says }
   change-serves Change.Age = tt
 
-  -- no question is one of them, and no list
+  -- no question is one of them, no list and no strip
   question-serves : (q : Question) → Serves s side c body d at out (Op.Question q) (questionKind q)
   unfolding questionKind
   question-serves Question.Length = tt
@@ -70,6 +71,12 @@ module _ (s : Tanks) (side : Side) (c : Call) (body d : List ℕ) (at : ℕ) (ou
   listing-serves Listing.Save = tt
   listing-serves Listing.SaveNeeded = tt
 
+  both-serves : (b : Both) → Serves s side c body d at out (Op.Both b) (bothKind b)
+  unfolding bothKind
+  both-serves Both.OpenSet = tt
+  both-serves Both.Plan = tt
+  both-serves Both.Strip = tt
+
   serves : (op : Op) → Serves s side c body d at out op (kindOf op (side .party) c)
   unfolding kindOf
   serves Op.Nothing = tt
@@ -78,7 +85,7 @@ module _ (s : Tanks) (side : Side) (c : Call) (body d : List ℕ) (at : ℕ) (ou
   serves (Op.Listing l) = listing-serves l
   serves (Op.Text x) = tt
   serves (Op.Desk x) = tt
-  serves (Op.Both b) = tt
+  serves (Op.Both b) = both-serves b
 
 pub edited : (s : Tanks) (side : Side) (c : Call) (body : List ℕ) {d out : List ℕ} {at : ℕ} {e : Edit} → kindOf (c .op) (side .party) c ≡ Kind.Edits e → Settled side → (r : Done) (k : ℕ) → DoneAt s (tankFor c) (editOf e) r
     → Adds d at (editSays e (r .number) (r .styles) (r .first)) k out → Performs (c .op) s side c body d at (record { tanks = r .tanks; side = side; at = k }) out

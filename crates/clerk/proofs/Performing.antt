@@ -25,7 +25,7 @@ use Rattle.clerk.specs.declared.Look.{Look}
 use Rattle.clerk.specs.declared.Moved.{Moved}
 use Rattle.clerk.specs.declared.Noted.{Noted}
 use Rattle.clerk.specs.declared.Side.{Side}
-use Rattle.clerk.specs.Calls.{changed, changeSays, answerSays, listingSays, questionKind, listingKind, changeKind, kindOf, askingSays, Changes}
+use Rattle.clerk.specs.Calls.{changed, changeSays, answerSays, listingSays, questionKind, listingKind, changeKind, bothKind, kindOf, askingSays, Changes}
 use Rattle.clerk.specs.Desk.{Settled, textHouse, textSide, textSays, deskSide, deskSays, bothHouse, bothSide, bothSays, afterOp, sideAfter, saysOf, Notes, Moves, Performs}
 
 -- ---- What a call is
@@ -87,6 +87,13 @@ change-asks-not Change.Insert who c = refl
 change-asks-not Change.Delete who c = refl
 change-asks-not Change.Remove who c = refl
 change-asks-not Change.Age who c = refl
+
+-- nor is what has to do with the tanks and with what is kept
+both-asks-not : (b : Both) → isAsks (bothKind b) ≡ false
+unfolding bothKind
+both-asks-not Both.OpenSet = refl
+both-asks-not Both.Plan = refl
+both-asks-not Both.Strip = refl
 
 -- ---- The arms of each group
 -- of `change`
@@ -150,7 +157,7 @@ module _ (s : Tanks) (side : Side) (c : Call) (body : List ℕ) {d out : List �
   only-asks (Op.Listing l) e ok kept says = record { sound = ok; settled = kept; is = refl; keeps = refl; answer = says }
   only-asks (Op.Text x) e ok kept says = absurd (false≢true e)
   only-asks (Op.Desk x) e ok kept says = absurd (false≢true e)
-  only-asks (Op.Both b) e ok kept says = absurd (false≢true e)
+  only-asks (Op.Both b) e ok kept says = absurd (false≢true (sym (both-asks-not b) ∙ e))
 
   pub told : {k : ℕ} → kindOf (c .op) (side .party) c ≡ Kind.Asks → Sound s → Settled side → Adds d at (askingSays (c .op) (meaning s) (side .party) c) k out → Performs (c .op) s side c body d at (record { tanks = s; side = side; at = k }) out
   told e = only-asks (c .op) (ap isAsks e)
@@ -193,6 +200,15 @@ module _ (who : Party) (c : Call) {op : Op} (other : kindOf op who c ≡ Kind.Ot
   pub other-change : {e : Change} → op ≡ Op.Change e → changeKind e who c ≡ Kind.Other
   unfolding kindOf
   other-change e = sym (ap (λ (o : Op). kindOf o who c) e) ∙ other
+
+  -- and where it has to do with both, no strip
+  pub other-both : {b : Both} → op ≡ Op.Both b → bothKind b ≡ Kind.Other
+  unfolding kindOf
+  other-both e = sym (ap (λ (o : Op). kindOf o who c) e) ∙ other
+
+pub no-strip : {b : Both} → b ≡ Both.Strip → bothKind b ≡ Kind.Other → {P : Type 0} → P
+unfolding bothKind
+no-strip e other = absurd (true≢false (sym (ap isOther other) ∙ ap (λ (b : Both). isOther (bothKind b)) e))
 
 -- a question that is asked of the state is none of those that are asked of one tank
 pub state-question : (who : Party) (c : Call) {op : Op} {q : Question} → kindOf op who c ≡ Kind.Asks → op ≡ Op.Question q → questionKind q ≡ Kind.Asks

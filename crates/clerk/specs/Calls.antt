@@ -5,6 +5,7 @@ use Prim.Native.Nat.{ℕ, _+_}
 use mathlib.Core.Bool.{false}
 use lib.ListN.{length}
 use Rattle.styles.specs.declared.Party.{Party}
+use Rattle.styles.specs.declared.Party.the-variants.{Plant}
 use Rattle.styles.specs.declared.Styles.{Styles}
 use Rattle.styles.specs.Answers.{stylesOf}
 use Rattle.questions.specs.declared.Asked.{Asked}
@@ -21,6 +22,7 @@ use Rattle.tanks.specs.declared.Setting.{Setting}
 use Rattle.tanks.specs.declared.Table.{Table}
 use Rattle.tanks.specs.declared.Tanks.{Tanks}
 use Rattle.tanks.specs.House.{House, tankAt, held, openNumber, opening, askNumber, refusalAt, afterAt, insertedSetAt, removedFirstAt}
+use Rattle.tanks.specs.Looks.{shownIn}
 use Rattle.tanks.specs.Pool.{meaning, Sound}
 use Rattle.tanks.specs.Contracts.{counts, says}
 use Rattle.night.specs.Ageings.{ageNumberBy, agedHouseBy, droppedBy, remainingBy}
@@ -28,6 +30,9 @@ use Rattle.night.specs.Proposing.{proposalAt}
 use Rattle.ask.specs.Asks.{askAt, noList, valueAsked, marksAsked, markAsked, stretchAsked, inheritAsked, inheritedAsked, keyAsked, allValueAsked, sameAsked, rangeNeededAsked, wholeNeededAsked}
 use Rattle.ask.specs.Parts.{askIn}
 use Rattle.saved.specs.Writes.{written, writeNumber}
+use Rattle.strip.specs.declared.legend.Legend.{Legend}
+use Rattle.strip.specs.Strip.{strip, stripNumber}
+use Rattle.script.specs.declared.Both.{Both}
 use Rattle.script.specs.declared.Call.{Call}
 use Rattle.script.specs.declared.Change.{Change}
 use Rattle.script.specs.declared.Listing.{Listing}
@@ -36,7 +41,7 @@ use Rattle.script.specs.declared.Question.{Question}
 use Rattle.script.specs.Args.{numberAt, keyAt, markOf, identityOf}
 use Rattle.text.specs.Bytes.{bytes}
 use Rattle.answers.specs.Waiting.{Pieces, Adds}
-use Rattle.answers.specs.Replies.{lineSays, refusedSays, orRefused, acceptedSays, stylesSay, firstSays, agedSays, countSays, touchedSays, toldSays, shownSays, askedSays, setSays, sharedSays, extentSays, proposalSays, neededSays, listSays, anchorsSay, bytesSay}
+use Rattle.answers.specs.Replies.{lineSays, refusedSays, orRefused, acceptedSays, stylesSay, firstSays, agedSays, countSays, touchedSays, toldSays, shownSays, askedSays, setSays, sharedSays, extentSays, proposalSays, neededSays, listSays, anchorsSay, stripSays, bytesSay}
 use Rattle.clerk.specs.declared.Done.{Done}
 use Rattle.clerk.specs.declared.Kind.{Kind}
 use Rattle.clerk.specs.declared.Look.{Look}
@@ -178,10 +183,16 @@ listLookSays Listing.Anchors hs pool table who c = []
 listLookSays Listing.Save hs pool table who c = []
 listLookSays Listing.SaveNeeded hs pool table who c = []
 
--- of a question or a list
-unfoldable pub looksSay : Look → List Head → List Run → Table → Party → Call → Pieces
-looksSay (Look.Question q) hs pool table who c = lookSays q hs pool table who c
-looksSay (Look.Listing l) hs pool table who c = listLookSays l hs pool table who c
+-- of a strip with a legend, as the plant is shown the tank, from these parts
+unfoldable pub stripLook : List Head → List Run → Table → Legend → Call → Pieces
+stripLook hs pool table l c =
+    stripSays (stripNumber (tankFor c) (numberAt c 2) (numberAt c 3)) (strip (shownIn hs pool table (tankFor c) Plant) (l .keys) (l .letters) (numberAt c 1) (numberAt c 2))
+
+-- of a question, a list or a strip
+unfoldable pub looksSay : Look → List Head → List Run → Table → Legend → Party → Call → Pieces
+looksSay (Look.Question q) hs pool table legend who c = lookSays q hs pool table who c
+looksSay (Look.Listing l) hs pool table legend who c = listLookSays l hs pool table who c
+looksSay Look.Strip hs pool table legend who c = stripLook hs pool table legend c
 
 -- ---- Any op, by a party: a question, of one tank where it stands or of the state, an edit of one tank as the code has it, or any other call
 -- a question; the length, the touch and the runs are in the heads, and a proposal is made of a tank taken out
@@ -219,6 +230,12 @@ changeKind Change.Delete who c = Kind.Edits (code.Edit.Delete who (startIn c) (e
 changeKind Change.Remove who c = Kind.Edits (code.Edit.Remove (identityOf who c) (numberAt c 4))
 changeKind Change.Age who c = Kind.Other
 
+-- a call that has to do with the tanks and with what is kept; a strip changes neither
+unfoldable pub bothKind : Both → Kind
+bothKind Both.OpenSet = Kind.Other
+bothKind Both.Plan = Kind.Other
+bothKind Both.Strip = Kind.Looks Look.Strip
+
 -- any call
 unfoldable pub kindOf : Op → Party → Call → Kind
 kindOf Op.Nothing who c = Kind.Other
@@ -227,7 +244,7 @@ kindOf (Op.Question q) who c = questionKind q
 kindOf (Op.Listing l) who c = listingKind l
 kindOf (Op.Text x) who c = Kind.Other
 kindOf (Op.Desk d) who c = Kind.Other
-kindOf (Op.Both b) who c = Kind.Other
+kindOf (Op.Both b) who c = bothKind b
 
 -- the answer to an edit, from what it hands back: its number, and beside it the marks that an insertion takes over or the first position that a removal gives
 unfoldable pub editSays : code.Edit → ℕ → Styles → ℕ → Pieces

@@ -18,7 +18,7 @@ ghost use Rattle.tanks.specs.Pool.{Sound, meaning};
 ghost use Rattle.answers.specs.Waiting.{Adds, pieceRoom};
 ghost use Rattle.clerk.specs.declared.Kind as kinds;
 ghost use Rattle.ask.specs.Parts.{CanAsk};
-ghost use Rattle.clerk.specs.Calls.{tankFor, changeKind, answerSays, listingSays, looksSay, questionKind, listingKind, kindOf, askingSays, Changes};
+ghost use Rattle.clerk.specs.Calls.{tankFor, changeKind, answerSays, listingSays, looksSay, questionKind, listingKind, bothKind, kindOf, askingSays, Changes};
 ghost use Rattle.clerk.specs.Desk.{emptySide, Settled, textHouse, textSide, textSays, deskSide, deskSays, bothHouse, bothSide, bothSays, Notes, Moves, Performs};
 ghost use Rattle.clerk.specs.Course.{malformedSays, Eats, Closes, Reads, Runs, RunsWhole};
 use answers::say;
@@ -53,6 +53,7 @@ use tanks::Tanks;
 pub enum Look {
     Question(Question),
     Listing(Listing),
+    Strip,
 }
 
 // What the loop over calls does with one: it tells what is asked of the state, or of one tank where that stands, makes an edit of one
@@ -271,16 +272,16 @@ fn at_desk(side: Side, d: Desk, call: Call, out: &mut [u8], at: usize) -> Noted
     }
 }
 
-// One that has to do with both.
+// One that has to do with both and changes one of them. A strip is not painted here, but from the parts of the state.
 fn on_both(s: Tanks, side: Side, b: Both, call: Call, out: &mut [u8], at: usize) -> Moved
-    requires { ⌜ Sound s × Settled side ⌝ }
+    requires { ⌜ (Sound s) × Settled side × (bothKind b ≡ kinds.Kind.Other) ⌝ }
     requires { ⌜ pieceRoom ≤ length (now out) ⌝ }
     ensures { λ r. ⌜ Moves (bothHouse b (meaning s) side call) (bothSide b (meaning s) side call) (bothSays b (meaning s) side call) (now (out .entry)) at r (now (out .exit)) ⌝ }
 {
     match b {
         Both::OpenSet => desk::open_set(s, side, call, out, at),
         Both::Plan => desk::plan(s, side, call, out, at),
-        Both::Strip => strips::strip(s, side, call, out, at),
+        Both::Strip => moving(s, side, at),
     }
 }
 
@@ -296,16 +297,18 @@ fn kind_of(who: Party, call: Call) -> Kind
         Op::Listing(l) => listing::listing_kind(l),
         Op::Text(_) => Kind::Other,
         Op::Desk(_) => Kind::Other,
-        Op::Both(_) => Kind::Other,
+        Op::Both(b) => strips::both_kind(b),
     }
 }
 
-// One that is asked of one tank, by a party: the answer comes from the parts of a state that the tank stands in.
+// One that is asked of one tank, by a party: the answer comes from the parts of a state that the tank stands in. A strip has a legend too, and is
+// the plant's.
 fn at_tank(
     heads: [Head; 8],
     pool: [Run; 512],
     table: Table,
     look: Look,
+    legend: Legend,
     who: Party,
     call: Call,
     out: &mut [u8],
@@ -313,11 +316,12 @@ fn at_tank(
 ) -> usize
     requires { ⌜ CanAsk heads pool table (tankFor call) ⌝ }
     requires { ⌜ pieceRoom ≤ length (now out) ⌝ }
-    ensures { λ r. ⌜ Adds (now (out .entry)) at (looksSay look heads pool table who call) r (now (out .exit)) ⌝ }
+    ensures { λ r. ⌜ Adds (now (out .entry)) at (looksSay look heads pool table legend who call) r (now (out .exit)) ⌝ }
 {
     match look {
         Look::Question(q) => asking::looked(heads, pool, table, q, who, call, out, at),
         Look::Listing(l) => listing::looked(heads, pool, table, l, who, call, out, at),
+        Look::Strip => strips::strip(heads, pool, table, legend, call, out, at),
     }
 }
 
@@ -376,8 +380,8 @@ fn put_bad(out: &mut [u8], at: usize, r: Reader) -> usize
 
 // The bytes of one read, a line or a part of a body to a turn. The tanks go through a call once a group, and never once a
 // line. An edit of one tank is made here and not in a function of its own, for a function that takes the tanks copies them:
-// the parts that it has to do with are handed over, and what comes is put back in their place. So are those that a question or
-// a list of one tank has to do with, for an index that is not known beforehand copies all eight tables where they are handed on.
+// the parts that it has to do with are handed over, and what comes is put back in their place. So are those that a question, a
+// list or a strip of one tank has to do with, for an index that is not known beforehand copies all eight tables where they are handed on.
 pub fn eat(bytes: &[u8], s: Tanks, stand: Stand, body: &mut [u8], out: &mut [u8]) -> Eaten
     requires { ⌜ (Sound s) × Settled (stand .side) × Fits (stand .inlet) (now body) × (stand .over ≡ false) ⌝ }
     requires { ⌜ (mostBody ≤ length (now body)) × (pieceRoom ≤ length (now out)) ⌝ }
@@ -414,7 +418,8 @@ pub fn eat(bytes: &[u8], s: Tanks, stand: Stand, body: &mut [u8], out: &mut [u8]
                         let heads = tanks.heads;
                         let pool = tanks.pool;
                         let table = tanks.tables[u];
-                        at = at_tank(heads, pool, table, look, who, call, out, at);
+                        let legend = side.legend;
+                        at = at_tank(heads, pool, table, look, legend, who, call, out, at);
                     }
                     Kind::Edits(edit) => {
                         let n = call.numbers;

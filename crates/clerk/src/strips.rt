@@ -2,21 +2,25 @@
 ghost use mathlib.Core.Path.{_≡_};
 ghost use Prim.Native.Nat.{_≤_, _<_, _%_, _^_};
 ghost use lib.ListN.{length};
-ghost use Rattle.script.specs.declared.Both as boths;
 ghost use Rattle.script.specs.declared.Desk as desks;
 ghost use Rattle.script.specs.Args.{numberAt};
-ghost use Rattle.tanks.specs.Pool.{Sound, meaning};
 ghost use Rattle.answers.specs.Waiting.{Adds, pieceRoom};
-ghost use Rattle.clerk.specs.Desk.{Settled, withLegend, stripFor, deskSide, deskSays, bothHouse, bothSide, bothSays, Notes, Moves};
-use super::Moved;
+ghost use Rattle.ask.specs.Parts.{CanAsk};
+ghost use Rattle.clerk.specs.Calls.{tankFor, stripLook, bothKind};
+ghost use Rattle.clerk.specs.Desk.{Settled, withLegend, deskSide, deskSays, Notes};
+use super::Kind;
+use super::Look;
 use super::Noted;
 use super::Side;
 use answers::accept;
 use answers::refuse;
 use answers::strip_or;
+use script::Both;
 use script::Call;
 use strip::legend::Legend;
-use tanks::Tanks;
+use tanks::Head;
+use tanks::Run;
+use tanks::Table;
 
 // Another legend, and all else as it was.
 fn with_legend(side: Side, legend: Legend) -> Side
@@ -57,57 +61,97 @@ pub fn legend(side: Side, call: Call, out: &mut [u8], at: usize) -> Noted
 }
 
 // A strip with room for it: it takes 96 bytes.
-fn painted(s: Tanks, legend: Legend, call: Call, out: &mut [u8], at: usize) -> usize
-    requires { ⌜ (Sound s) × (96 ≤ numberAt call 3) ⌝ }
+fn painted(
+    heads: [Head; 8],
+    pool: [Run; 512],
+    table: Table,
+    legend: Legend,
+    call: Call,
+    out: &mut [u8],
+    at: usize,
+) -> usize
+    requires { ⌜ (CanAsk heads pool table (tankFor call)) × (96 ≤ numberAt call 3) ⌝ }
     requires { ⌜ pieceRoom ≤ length (now out) ⌝ }
-    ensures { λ r. ⌜ Adds (now (out .entry)) at (stripFor (meaning s) legend call) r (now (out .exit)) ⌝ }
+    ensures { λ r. ⌜ Adds (now (out .entry)) at (stripLook heads pool table legend call) r (now (out .exit)) ⌝ }
 {
     let n = call.numbers;
     let keys = legend.keys;
     let letters = legend.letters;
     let mut cells: [u8; 96] = [0; 96];
-    let number = strip::paint(s, n[0], n[1], n[2], keys, letters, &mut cells);
+    let number = strip::paint_parts(
+        heads,
+        pool,
+        table,
+        n[0],
+        n[1],
+        n[2],
+        keys,
+        letters,
+        &mut cells,
+    );
     strip_or(out, at, number, &cells)
 }
 
 // One without: a byte is as much too short as any room that is.
-fn unpainted(s: Tanks, legend: Legend, call: Call, out: &mut [u8], at: usize) -> usize
-    requires { ⌜ (Sound s) × (numberAt call 3 < 96) ⌝ }
+fn unpainted(
+    heads: [Head; 8],
+    pool: [Run; 512],
+    table: Table,
+    legend: Legend,
+    call: Call,
+    out: &mut [u8],
+    at: usize,
+) -> usize
+    requires { ⌜ (CanAsk heads pool table (tankFor call)) × (numberAt call 3 < 96) ⌝ }
     requires { ⌜ pieceRoom ≤ length (now out) ⌝ }
-    ensures { λ r. ⌜ Adds (now (out .entry)) at (stripFor (meaning s) legend call) r (now (out .exit)) ⌝ }
+    ensures { λ r. ⌜ Adds (now (out .entry)) at (stripLook heads pool table legend call) r (now (out .exit)) ⌝ }
 {
     let n = call.numbers;
     let keys = legend.keys;
     let letters = legend.letters;
     let mut short: [u8; 1] = [0; 1];
-    let number = strip::paint(s, n[0], n[1], n[2], keys, letters, &mut short);
+    let number = strip::paint_parts(
+        heads,
+        pool,
+        table,
+        n[0],
+        n[1],
+        n[2],
+        keys,
+        letters,
+        &mut short,
+    );
     refuse(out, at, number)
 }
 
-// A strip, where the call has room for it.
-fn answer(s: Tanks, legend: Legend, call: Call, out: &mut [u8], at: usize) -> usize
-    requires { ⌜ Sound s ⌝ }
+// A strip, where the call has room for it, from the parts of a state that its tank stands in.
+pub fn strip(
+    heads: [Head; 8],
+    pool: [Run; 512],
+    table: Table,
+    legend: Legend,
+    call: Call,
+    out: &mut [u8],
+    at: usize,
+) -> usize
+    requires { ⌜ CanAsk heads pool table (tankFor call) ⌝ }
     requires { ⌜ pieceRoom ≤ length (now out) ⌝ }
-    ensures { λ r. ⌜ Adds (now (out .entry)) at (stripFor (meaning s) legend call) r (now (out .exit)) ⌝ }
+    ensures { λ r. ⌜ Adds (now (out .entry)) at (stripLook heads pool table legend call) r (now (out .exit)) ⌝ }
 {
     let n = call.numbers;
     if n[3] < 96 {
-        return unpainted(s, legend, call, out, at);
+        return unpainted(heads, pool, table, legend, call, out, at);
     }
-    painted(s, legend, call, out, at)
+    painted(heads, pool, table, legend, call, out, at)
 }
 
-// A strip leaves the tanks and what is kept as they were.
-pub fn strip(s: Tanks, side: Side, call: Call, out: &mut [u8], at: usize) -> Moved
-    requires { ⌜ Sound s × Settled side ⌝ }
-    requires { ⌜ pieceRoom ≤ length (now out) ⌝ }
-    ensures { λ r. ⌜ Moves (bothHouse boths.Both.Strip (meaning s) side call) (bothSide boths.Both.Strip (meaning s) side call) (bothSays boths.Both.Strip (meaning s) side call) (now (out .entry)) at r (now (out .exit)) ⌝ }
+// What a call is that has to do with the tanks and with what is kept: a strip is painted of one tank where it stands.
+pub fn both_kind(b: Both) -> Kind
+    ensures { λ r. ⌜ r ≡ bothKind b ⌝ }
 {
-    let legend = side.legend;
-    let k = answer(s, legend, call, out, at);
-    Moved {
-        tanks: s,
-        side: side,
-        at: k,
+    match b {
+        Both::OpenSet => Kind::Other,
+        Both::Plan => Kind::Other,
+        Both::Strip => Kind::Looks(Look::Strip),
     }
 }

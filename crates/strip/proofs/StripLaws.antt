@@ -14,6 +14,7 @@ use Rattle.runs.proofs.SeekLaws.{seek-is}
 use Rattle.windows.specs.Windows.{listFrom, showsAt, shownIn, firstIn, windowAt, windows}
 use Rattle.windows.proofs.WalkLaws.{length-from, at-from, stored-front}
 use Rattle.tank.specs.Rules.{View, whenAccepted}
+use Rattle.tanks.specs.House.{noTank}
 use Rattle.strip.specs.Strip.{dot, letterFrom, cellAt, strip, stripNumber}
 use Rattle.strip.specs.Cells.{letterOf, lettersOf}
 
@@ -111,6 +112,15 @@ beside n m x y e = rw (e, ne-eqb (suc m) 0 (λ z. omega arith)) refl
 
 pub beside-0 : {A : Type 0} (n : ℕ) (x y : A) → n ≡ 0 → x ≡ whenAccepted n x y
 beside-0 n x y e = rw e refl
+
+-- where there is no such tank it is the refused
+pub by-tank : {A : Type 0} (t k room : ℕ) (x y : A) → whenAccepted (stripNumber t k room) x y ≡ cond (noTank t) y (whenAccepted (stripNumber t k room) x y)
+unfolding stripNumber
+by-tank t k room x y = go (noTank t) (cond (eqb k 0) 3 (cond (ltb room 96) 11 0))
+  where
+    go : (b : Bool) (n : ℕ) → whenAccepted (cond b 1 n) x y ≡ cond b y (whenAccepted (cond b 1 n) x y)
+    go true n = refl
+    go false n = refl
 
 -- a buffer of 96 bytes is the strip
 pub strip-whole : (v : View) (keys letters : List ℕ) (start k : ℕ) (out : List ℕ) → length out ≡ 96 → inFront (strip v keys letters start k) out ≡ strip v keys letters start k

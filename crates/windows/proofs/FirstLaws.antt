@@ -6,7 +6,7 @@ use native.Mathlib.Omega.{arith}
 use native.Mathlib.Decide.{decLt, decLe}
 use Rattle.runs.specs.Positions.{anyAt, seekFrom}
 use Rattle.runs.proofs.ScanLaws.{any-yes, any-no, any-none, any-some}
-use Rattle.runs.proofs.SeekLaws.{seek-from, seek-to, seek-is}
+use Rattle.runs.proofs.SeekLaws.{seek-from, seek-is}
 
 -- ---- the first of either of two is the smaller of their firsts
 or-step : (a b : Bool) (j x y z : ℕ) → suc j ≤ x → suc j ≤ y → z ≡ min x y → cond (a || b) j z ≡ min (cond a j x) (cond b j y)

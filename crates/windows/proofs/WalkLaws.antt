@@ -1,182 +1,153 @@
--- A turn of the walk over the runs, its end, and the windows one by one.
+-- A turn of a walk over runs that fills windows: a run passed, a window closed. What a run is here is that its positions have one number of bits.
 use Prim.Native.Nat.{ℕ, zero, suc, _+_, _*_, _≤_, _<_, _^_, min, max}
 use mathlib.Core.Path.{_≡_, refl, sym, ap, ap₂, _∙_}
-use mathlib.Core.Bool.{Bool, true, false, cond, not, _&&_, _||_}
-use mathlib.Core.List.{List, [], _∷_, _++_, append-nil}
+use mathlib.Core.Bool.{Bool, false, cond, _||_}
+use mathlib.Core.List.{List, _++_, append-nil}
 use native.Mathlib.Omega.{arith}
 use native.Mathlib.Decide.{decLt}
 use lib.Dec.{ltb}
 use lib.ListN.{length, getD, take, drop, set, length-set, drop-of-length-le}
 use lib.Seq.{take-all}
 use borrow.Author.Tests.{lt-ltb, le-ltb}
-use Rattle.laws.proofs.Lists.{stored, stored-is, length-stored}
-use Rattle.runs.specs.Positions.{anyAt, seekFrom}
-use Rattle.runs.specs.Runs.{runs, total, setAt}
-use Rattle.runs.specs.Scan.{CanLook}
-use Rattle.runs.proofs.Laws.{total-more, total-mono, at-past}
-use Rattle.runs.proofs.ScanLaws.{at-run}
+use Rattle.laws.proofs.Lists.{stored, stored-is}
+use Rattle.runs.specs.Positions.{anyAt}
 use Rattle.runs.proofs.SeekLaws.{seek-to}
-use Rattle.windows.specs.declared.Walk.{Walk}
-use Rattle.windows.specs.Windows.{listFrom, showsBits, firstOfSet, firstOver, overWindow, Stands, CanWalk, Walked}
+use Rattle.windows.specs.Windows.{listFrom, showsBits, firstOfSet, firstOver, overWindow}
 use Rattle.windows.proofs.FirstLaws.{seek-or, seek-ext, seek-none, any-empty, any-grow, any-same, any-behind, any-cap}
 
 -- no set shows nothing
 pub none-shown : (keyed nulls : ℕ) → showsBits keyed nulls 0 ≡ false
 none-shown keyed nulls = refl
 
--- ---- the runs looked at so far, from `from` up to where run i begins
-pub record Looking (lens sets : List ℕ) (n : ℕ) (keyed : List ℕ) (nulls from to i at first : ℕ) : Type 0 where
-  pub stands : Stands lens sets n i at to
-  pub seen : first ≡ firstOver keyed nulls (setAt (runs lens sets n)) from at
-
-pub begin : {lens sets : List ℕ} {n : ℕ} (keyed : List ℕ) (nulls : ℕ) {index start from to : ℕ} → CanWalk lens sets n index start from to
-    → Looking lens sets n keyed nulls from to index start 8
-begin {lens} {sets} {n} keyed nulls {index} {start} {from} {to} c =
-    let s = c .stands in
-    let r = s .reached in
-    let u = c .up in
-    record {
-      stands = record { within = s .within; begun = s .begun; reached = omega arith };
-      seen =
-          sym
-          (seek-none (λ j. anyAt (λ p. showsBits (getD keyed j 0) nulls (setAt (runs lens sets n) p)) from start) 0 8
-          (λ j. any-empty (λ p. showsBits (getD keyed j 0) nulls (setAt (runs lens sets n) p)) from start r));
-    }
-
-module _ {lens sets : List ℕ} {n : ℕ} {keyed : List ℕ} {nulls from to i at first : ℕ} (inv : Looking lens sets n keyed nulls from to i at first) where
+-- ---- what is seen from `from` on, by the masks of the keys and the bits of each position
+module _ (keyed : List ℕ) (nulls : ℕ) (bits : ℕ → ℕ) where
   shown : ℕ → ℕ → Bool
-  shown j p = showsBits (getD keyed j 0) nulls (setAt (runs lens sets n) p)
+  shown j p = showsBits (getD keyed j 0) nulls (bits p)
 
-  reaching : ℕ → ℕ
-  reaching b = seekFrom (λ j. anyAt (shown j) from b) 0 8
+  -- in no position
+  pub nothing-yet : (from at : ℕ) → at ≤ from → 8 ≡ firstOver keyed nulls bits from at
+  unfolding shown
+  nothing-yet from at h = sym (seek-none (λ j. anyAt (shown j) from at) 0 8 (λ j. any-empty (shown j) from at h))
 
-  few : first ≤ 8
-  few = omega (arith, inv .seen, seek-to (λ j. anyAt (λ p. showsBits (getD keyed j 0) nulls (setAt (runs lens sets n) p)) from at) 0 8)
+  -- with positions that have no bits
+  pub seen-behind : (from at to : ℕ) → at ≤ to → ((p : ℕ) → at ≤ p → bits p ≡ 0) → firstOver keyed nulls bits from to ≡ firstOver keyed nulls bits from at
+  unfolding shown
+  seen-behind from at to h none =
+      seek-ext (λ j. anyAt (shown j) from to) (λ j. anyAt (shown j) from at) 0 8
+      (λ j. any-behind (shown j) from at to h (λ p a. ap (showsBits (getD keyed j 0) nulls) (none p a) ∙ none-shown (getD keyed j 0) nulls))
 
-  module _ (in-turn : i < n) where
-    -- what is seen with run i, as far as it is asked
-    pub turn : min first (cond (ltb (max from at) (min to (at + getD lens i 0))) (firstOfSet keyed nulls (getD sets i 0)) 8)
-        ≡ firstOver keyed nulls (setAt (runs lens sets n)) from (min to (at + getD lens i 0))
-    unfolding shown reaching
-    turn =
-        let b : ℕ = min to (at + getD lens i 0) in
-        let s : ℕ = getD sets i 0 in
-        let begun = inv .stands .begun in
-        let reached = inv .stands .reached in
+  -- with numbers past the largest, behind which no position has bits
+  pub seen-cap : (all : ℕ) → all ≤ 18446744073709551615 → ((p : ℕ) → all ≤ p → bits p ≡ 0) → (a b : ℕ)
+      → firstOver keyed nulls bits (min a 18446744073709551615) (min b 18446744073709551615) ≡ firstOver keyed nulls bits a b
+  unfolding shown
+  seen-cap all fits none a b =
+      seek-ext _ _ 0 8
+      (λ j. any-cap (shown j) all 18446744073709551615 fits (λ p h. ap (showsBits (getD keyed j 0) nulls) (none p h) ∙ none-shown (getD keyed j 0) nulls) a b)
+
+  -- with a run from `at` to `end`, as far as it is asked
+  module _ (from to at end first s : ℕ) (is : first ≡ firstOver keyed nulls bits from at) (reached : at ≤ to) (up : at ≤ end) (on : (p : ℕ) → at ≤ p → p < end → bits p ≡ s) where
+    few : first ≤ 8
+    few = omega (arith, is, seek-to (λ j. anyAt (λ p. showsBits (getD keyed j 0) nulls (bits p)) from at) 0 8)
+
+    pub seen-run : min first (cond (ltb (max from at) (min to end)) (firstOfSet keyed nulls s) 8) ≡ firstOver keyed nulls bits from (min to end)
+    unfolding shown
+    seen-run =
+        let b : ℕ = min to end in
         elim (decLt (max from at) b) [
           | yes h ↦
               ap (λ (x : Bool). min first (cond x (firstOfSet keyed nulls s) 8)) (lt-ltb (max from at) b h)
-              ∙ ap (λ (x : ℕ). min x (firstOfSet keyed nulls s)) (inv .seen)
+              ∙ ap (λ (x : ℕ). min x (firstOfSet keyed nulls s)) is
               ∙ sym (seek-or (λ j. anyAt (shown j) from at) (λ j. showsBits (getD keyed j 0) nulls s) 0 8)
               ∙ sym
               (seek-ext (λ j. anyAt (shown j) from b) (λ j. anyAt (shown j) from at || showsBits (getD keyed j 0) nulls s) 0 8
               (λ j. any-grow (shown j) from at b (showsBits (getD keyed j 0) nulls s) (omega arith) h
-              (λ p a c. ap (showsBits (getD keyed j 0) nulls) (at-run lens sets n i p in-turn (omega arith) (omega arith)))))
+              (λ p a c. ap (showsBits (getD keyed j 0) nulls) (on p (omega arith) (omega arith)))))
           | no h ↦
               let f = few in
               let e : min first 8 ≡ first = omega arith in
               ap (λ (x : Bool). min first (cond x (firstOfSet keyed nulls s) 8)) (le-ltb (max from at) b (omega arith))
               ∙ e
-              ∙ inv .seen
+              ∙ is
               ∙ sym (seek-ext (λ j. anyAt (shown j) from b) (λ j. anyAt (shown j) from at) 0 8 (λ j. any-same (shown j) from at b (omega arith) (omega arith)))
         ]
 
-    module _ (now : ℕ) (is : now ≡ firstOver keyed nulls (setAt (runs lens sets n)) from (min to (at + getD lens i 0))) where
-      -- the run ends by `to`
-      pub on : at + getD lens i 0 ≤ to → Looking lens sets n keyed nulls from to (i + 1) (at + getD lens i 0) now
-      on h =
-          let b = inv .stands .begun in
-          let e : min to (at + getD lens i 0) ≡ at + getD lens i 0 = omega arith in
-          record {
-            stands = record { within = omega arith; begun = omega (arith, total-more lens sets i); reached = h };
-            seen = is ∙ ap (firstOver keyed nulls (setAt (runs lens sets n)) from) e;
-          }
-
-      -- it reaches further: the walk stands at it
-      pub stop : to < at + getD lens i 0 → Walked lens sets n keyed nulls from to (record { index = i; start = at; first = now })
-      stop h =
-          let e : min to (at + getD lens i 0) ≡ to = omega arith in
-          record { stands = inv .stands; seen = is ∙ ap (firstOver keyed nulls (setAt (runs lens sets n)) from) e }
-
-  -- behind the last run nothing is shown
-  pub over : n ≤ i → Walked lens sets n keyed nulls from to (record { index = i; start = at; first = first })
-  unfolding shown
-  over h =
-      let w = inv .stands .within in
-      let b = inv .stands .begun in
-      let r = inv .stands .reached in
-      let e : i ≡ n = omega arith in
-      let t = ap (λ (x : ℕ). total (runs lens sets x)) e in
-      record {
-        stands = inv .stands;
-        seen =
-            inv .seen
-            ∙ sym
-            (seek-ext (λ j. anyAt (shown j) from to) (λ j. anyAt (shown j) from at) 0 8
-            (λ j. any-behind (shown j) from at to r (λ p a. ap (showsBits (getD keyed j 0) nulls) (at-past (runs lens sets n) p (omega arith)) ∙ none-shown (getD keyed j 0) nulls)));
-      }
-
 -- ---- the windows
-abbrev most : ℕ
-most = 18446744073709551615
+-- w windows are written; the next begins at `from`, and of it the positions before `at` have been seen, where a run begins
+pub record Filling (keyed : List ℕ) (nulls : ℕ) (bits : ℕ → ℕ) (start k : ℕ) (entry out : List ℕ) (at from first w : ℕ) : Type 0 where
+  pub from-is : from ≡ min (start + w * k) 18446744073709551615
+  pub reached : at ≤ min (from + k) 18446744073709551615
+  pub seen : first ≡ firstOver keyed nulls bits from at
+  pub few : w ≤ length entry
+  pub room : length out ≡ length entry
+  pub is : out ≡ stored (overWindow keyed nulls bits start k) entry w
 
--- sums past the largest number are past the end
-pub over-cap : {lens sets : List ℕ} {n : ℕ} (keyed : List ℕ) (nulls a b : ℕ) → CanLook lens sets n
-    → firstOver keyed nulls (setAt (runs lens sets n)) (min a 18446744073709551615) (min b 18446744073709551615) ≡ firstOver keyed nulls (setAt (runs lens sets n)) a b
-over-cap {lens} {sets} {n} keyed nulls a b can =
-    let small = can .small in
-    seek-ext _ _ 0 8
-    (λ j.
-    any-cap (λ p. showsBits (getD keyed j 0) nulls (setAt (runs lens sets n) p)) (total (runs lens sets n)) 18446744073709551615 (omega arith)
-    (λ p h. ap (showsBits (getD keyed j 0) nulls) (at-past (runs lens sets n) p h) ∙ none-shown (getD keyed j 0) nulls) a b)
-
--- i windows are written, and the next begins at `from`
-pub record Filling (lens sets : List ℕ) (n : ℕ) (keyed : List ℕ) (nulls start k : ℕ) (first out : List ℕ) (index at from i : ℕ) : Type 0 where
-  pub stands : Stands lens sets n index at from
-  pub from-is : from ≡ min (start + i * k) 18446744073709551615
-  pub few : i ≤ length first
-  pub room : length out ≡ length first
-  pub is : out ≡ stored (overWindow keyed nulls (setAt (runs lens sets n)) start k) first i
-
-pub filling-none : {lens sets : List ℕ} {n : ℕ} (keyed : List ℕ) (nulls start k : ℕ) (first : List ℕ) → start < 2 ^ 64
-    → Filling lens sets n keyed nulls start k first first 0 0 start 0
-unfolding runs total
-filling-none keyed nulls start k first h =
+pub filling-none : (keyed : List ℕ) (nulls : ℕ) (bits : ℕ → ℕ) (start k : ℕ) (entry : List ℕ) → start < 2 ^ 64
+    → Filling keyed nulls bits start k entry entry 0 start 8 0
+filling-none keyed nulls bits start k entry h =
     record {
-      stands = record { within = omega arith; begun = refl; reached = omega arith };
       from-is = omega arith;
+      reached = omega arith;
+      seen = nothing-yet keyed nulls bits start 0 (omega arith);
       few = omega arith;
       room = refl;
       is = refl;
     }
 
-module _ {lens sets : List ℕ} {n : ℕ} {keyed : List ℕ} {nulls start k : ℕ} {first out : List ℕ} {index at from i : ℕ} (can : CanLook lens sets n)
-    (inv : Filling lens sets n keyed nulls start k first out index at from i) where
-  next-is : (to : ℕ) → to ≡ min (from + k) 18446744073709551615 → to ≡ min (start + suc i * k) 18446744073709551615
-  next-is to e =
+module _ {keyed : List ℕ} {nulls : ℕ} {bits : ℕ → ℕ} {start k : ℕ} {entry out : List ℕ} {at from first w : ℕ} (inv : Filling keyed nulls bits start k entry out at from first w) {to : ℕ}
+    (to-is : to ≡ min (from + k) 18446744073709551615) where
+  next-is : to ≡ min (start + suc w * k) 18446744073709551615
+  next-is =
       let f = inv .from-is in
-      let z : start + suc i * k ≡ start + i * k + k = omega arith in
+      let z : start + suc w * k ≡ start + w * k + k = omega arith in
       omega (arith, z)
 
-  pub can-look : (to : ℕ) → to ≡ min (from + k) 18446744073709551615 → CanWalk lens sets n index at from to
-  can-look to e =
-      let f = inv .from-is in
-      record { look = can; stands = inv .stands; up = omega arith }
+  -- a window closed: its first key is known, and the run that reaches further is the next window's
+  module _ (all : ℕ) (fits : all ≤ 18446744073709551615) (none : (p : ℕ) → all ≤ p → bits p ≡ 0) (more : w < length entry) where
+    closed : {x : ℕ} → x ≡ firstOver keyed nulls bits from to → Filling keyed nulls bits start k entry (set out w x) at to 8 (w + 1)
+    closed {x} e =
+        let f : ℕ → ℕ = overWindow keyed nulls bits start k in
+        let s : w + 1 ≡ suc w = omega arith in
+        let r = inv .reached in
+        let here : x ≡ f w =
+        e ∙ ap₂ (firstOver keyed nulls bits) (inv .from-is) next-is ∙ seen-cap keyed nulls bits all fits none (start + w * k) (start + suc w * k) in
+        record {
+          from-is = next-is ∙ ap (λ (j : ℕ). min (start + j * k) 18446744073709551615) (sym s);
+          reached = omega arith;
+          seen = nothing-yet keyed nulls bits to at (omega arith);
+          few = omega arith;
+          room = length-set out w x ∙ inv .room;
+          is = ap₂ (λ (xs : List ℕ) (y : ℕ). set xs w y) (inv .is) here ∙ ap (stored f entry) (sym s);
+        }
 
-  pub filling-on : (to : ℕ) (w : Walk) → to ≡ min (from + k) 18446744073709551615 → i < length first → Walked lens sets n keyed nulls from to w
-      → Filling lens sets n keyed nulls start k first (set out i (w .first)) (w .index) (w .start) to (i + 1)
-  filling-on to w e h g =
-      let t = next-is to e in
-      let f : ℕ → ℕ = overWindow keyed nulls (setAt (runs lens sets n)) start k in
-      let s : i + 1 ≡ suc i = omega arith in
-      let here : w .first ≡ f i =
-      g .seen ∙ ap₂ (firstOver keyed nulls (setAt (runs lens sets n))) (inv .from-is) t ∙ over-cap keyed nulls (start + i * k) (start + suc i * k) can in
+    -- behind the last run
+    pub closed-behind : ((p : ℕ) → at ≤ p → bits p ≡ 0) → Filling keyed nulls bits start k entry (set out w first) at to 8 (w + 1)
+    closed-behind past =
+        let r = inv .reached in
+        closed (inv .seen ∙ sym (seen-behind keyed nulls bits from at to (omega arith) past))
+
+    -- within one
+    pub closed-within : {end s x : ℕ} → at ≤ end → ((p : ℕ) → at ≤ p → p < end → bits p ≡ s) → to < end
+        → x ≡ min first (cond (ltb (max from at) (min to end)) (firstOfSet keyed nulls s) 8)
+        → Filling keyed nulls bits start k entry (set out w x) at to 8 (w + 1)
+    closed-within {end} {s} up on h e =
+        let r = inv .reached in
+        let z : min to end ≡ to = omega arith in
+        closed (e ∙ seen-run keyed nulls bits from to at end first s (inv .seen) (omega arith) up on ∙ ap (firstOver keyed nulls bits from) z)
+
+  -- a run passed that ends within the window
+  pub passed : {end s x : ℕ} → at ≤ end → ((p : ℕ) → at ≤ p → p < end → bits p ≡ s) → end ≤ to
+      → x ≡ min first (cond (ltb (max from at) (min to end)) (firstOfSet keyed nulls s) 8)
+      → Filling keyed nulls bits start k entry out end from x w
+  passed {end} {s} up on h e =
+      let r = inv .reached in
+      let z : min to end ≡ end = omega arith in
       record {
-        stands = g .stands;
-        from-is = t ∙ ap (λ (j : ℕ). min (start + j * k) 18446744073709551615) (sym s);
-        few = omega arith;
-        room = length-set out i (w .first) ∙ inv .room;
-        is = ap₂ (λ (xs : List ℕ) (x : ℕ). set xs i x) (inv .is) here ∙ ap (stored f first) (sym s);
+        from-is = inv .from-is;
+        reached = omega arith;
+        seen = e ∙ seen-run keyed nulls bits from to at end first s (inv .seen) (omega arith) up on ∙ ap (firstOver keyed nulls bits from) z;
+        few = inv .few;
+        room = inv .room;
+        is = inv .is;
       }
 
 -- ---- a list of numbers, one by one
@@ -203,12 +174,12 @@ module _ (f : ℕ → ℕ) where
   stored-all ys =
       stored-front ys (length ys) (omega arith) ∙ ap (λ (xs : List ℕ). listFrom f 0 (length ys) ++ xs) (drop-of-length-le ys {i = length ys} (omega arith)) ∙ append-nil (listFrom f 0 (length ys))
 
-pub filling-all : {lens sets : List ℕ} {n : ℕ} {keyed : List ℕ} {nulls start k : ℕ} {first out : List ℕ} {index at from i : ℕ}
-    → Filling lens sets n keyed nulls start k first out index at from i → length out ≤ i
-    → out ≡ listFrom (overWindow keyed nulls (setAt (runs lens sets n)) start k) 0 (length first)
-filling-all {lens} {sets} {n} {keyed} {nulls} {start} {k} {first} {i = i} inv h =
-    let f : ℕ → ℕ = overWindow keyed nulls (setAt (runs lens sets n)) start k in
-    let w = inv .few in
+pub filling-all : {keyed : List ℕ} {nulls : ℕ} {bits : ℕ → ℕ} {start k : ℕ} {entry out : List ℕ} {at from first w : ℕ}
+    → Filling keyed nulls bits start k entry out at from first w → length out ≤ w
+    → out ≡ listFrom (overWindow keyed nulls bits start k) 0 (length entry)
+filling-all {keyed} {nulls} {bits} {start} {k} {entry} {w = w} inv h =
+    let f : ℕ → ℕ = overWindow keyed nulls bits start k in
+    let g = inv .few in
     let r = inv .room in
-    let e : i ≡ length first = omega arith in
-    inv .is ∙ ap (stored f first) e ∙ stored-all f first
+    let e : w ≡ length entry = omega arith in
+    inv .is ∙ ap (stored f entry) e ∙ stored-all f entry

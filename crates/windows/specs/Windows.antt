@@ -1,17 +1,14 @@
 -- Equal windows over a tank's positions, and the first of some keys that shows a value in each: from what the question for a position's value
 -- says, so that what a null shows, and that positions past the length show nothing, is said there.
-use Prim.Native.Nat.{ℕ, zero, suc, _+_, _*_, _≤_}
-use mathlib.Core.Path.{_≡_}
+use Prim.Native.Nat.{ℕ, zero, suc, _+_, _*_}
 use mathlib.Core.Bool.{Bool, true, false, not, _&&_}
 use mathlib.Core.List.{List, [], _∷_}
 use lib.ListN.{getD}
 use Rattle.runs.specs.Positions.{anyAt, seekFrom}
-use Rattle.runs.specs.Runs.{runs, total, setAt}
-use Rattle.runs.specs.Scan.{meets, shows, CanLook}
+use Rattle.runs.specs.Scan.{meets, shows}
 use Rattle.questions.specs.declared.Shown.{Shown}
 use Rattle.questions.specs.Questions.{valueAt}
 use Rattle.tank.specs.Rules.{View}
-use Rattle.windows.specs.declared.Walk.{Walk}
 
 -- ---- What a caller is told
 -- the answer is a value
@@ -61,20 +58,3 @@ firstOver keyed nulls at from to = seekFrom (λ j. anyAt (λ p. showsBits (getD 
 -- in window i
 abbrev pub overWindow : List ℕ → ℕ → (ℕ → ℕ) → ℕ → ℕ → ℕ → ℕ
 overWindow keyed nulls at start k i = firstOver keyed nulls at (start + i * k) (start + suc i * k)
-
--- run `index` of n begins at `start`, which is not past `pos`
-pub record Stands (lens sets : List ℕ) (n index start pos : ℕ) : Type 0 where
-  pub within : index ≤ n
-  pub begun : start ≡ total (runs lens sets index)
-  pub reached : start ≤ pos
-
--- what a look from there over the positions from .. to asks
-pub record CanWalk (lens sets : List ℕ) (n index start from to : ℕ) : Type 0 where
-  pub look : CanLook lens sets n
-  pub stands : Stands lens sets n index start from
-  pub up : from ≤ to
-
--- what it hands back: where the walk stands then, and the first key seen
-pub record Walked (lens sets : List ℕ) (n : ℕ) (keyed : List ℕ) (nulls from to : ℕ) (w : Walk) : Type 0 where
-  pub stands : Stands lens sets n (w .index) (w .start) to
-  pub seen : w .first ≡ firstOver keyed nulls (setAt (runs lens sets n)) from to

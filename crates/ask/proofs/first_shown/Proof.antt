@@ -1,37 +1,27 @@
--- `first_shown` meets its contract: no such tank, or the tank taken out answers.
-use Prim.Native.Nat.{ℕ}
-use mathlib.Core.Path.{refl, sym, ap}
-use mathlib.Core.Bool.{Bool, cond}
+-- `first_shown` meets its contract: the parts of the state that the tank stands in are walked for it.
+use mathlib.Core.Path.{_∙_}
 use lib.ListN.{length}
 use borrow.Author.Needs.{needs}
-use borrow.Author.Tests.{le-leb, lt-leb}
 use Rattle.windows.specs.Windows.{windows}
-use Rattle.ask.proofs.AskLaws.{past, inside}
+use Rattle.ask.proofs.Standing.{can-ask, asked-there}
 use Rattle.ask.proofs.first_shown.Statement.{statement}
 use Rattle.ask.proofs.first_shown.Tie as tie
 
-abbrev numbered : Bool → ℕ
-numbered b = cond b 1 0
+first-shown-requires : tie.Need-first-shown-requires
+first-shown-requires c κs =
+    let p = c .before .before in
+    let s = p .before .before .before .before .before in
+    can-ask (s .args .s) (s .args .tank) (p .place .result) (p .place .ensures .0) (s .pre)
 
 returns : tie.Need-returns
 returns c =
-    let s = c .before .before in
-    let a = s .args in (
-      sym (ap numbered (le-leb 8 (a .tank) (c .if1 .taken))),
-      past (a .s) (a .tank) (a .who) (a .out .now) (λ v. windows v (a .keys) (a .start) (a .k) (length (a .out .now))) (c .if1 .taken) refl,
-    )
-
-returns-2 : tie.Need-returns-2
-returns-2 c =
     let w = c .before .before in
-    let k = w .before .before in
-    let e = k .before in
-    let s = e .before .before in
-    let a = s .args in (
-      sym (ap numbered (lt-leb 8 (a .tank) (e .if1 .left))),
-      inside (a .s) (a .tank) (a .who) (a .out .now) (λ v. windows v (a .keys) (a .start) (a .k) (length (a .out .now))) (e .if1 .left) (k .shown .ensures) (w .first-shown .ensures),
+    let p = w .before .before .before in
+    let a = p .before .before .before .before .before .args in (
+      w .first-shown .ensures .0,
+      w .first-shown .ensures .1
+          ∙ asked-there (a .s) (a .tank) (p .place .result) (p .place .ensures .0) (a .who) (a .out .now) (λ v. windows v (a .keys) (a .start) (a .k) (length (a .out .now))),
     )
 
 pub first-shown-spec : {M : Type 1} → statement M
-first-shown-spec =
-    tie.close (tie.spec returns (λ c κs. search needs) (λ c κs. search needs) (λ c. search needs) returns-2)
+first-shown-spec = tie.close (tie.spec (λ c κs. search needs) (λ c. search needs) (λ c. search needs) first-shown-requires (λ c. search needs) returns)

@@ -75,23 +75,23 @@ loop-again-2 c =
 loop-less-2 : tie.Need-loop-less-2 Inv-loop μ-loop
 loop-less-2 c = let p = c .before .before .before .before .before .before .before .before .before .before .before .before .before .take .ensures in omega (arith, p .further, p .inside)
 
--- ---- A question or a list of one tank
+-- ---- A question, a list or a strip of one tank
 at-tank-requires : tie.Need-at-tank-requires Inv-loop μ-loop
 at-tank-requires c κs =
-    let w = c .before .before .before .before .before .before .before .before .before .before .before .before .before .before .before .before .before .before .before .loop in
-    let u = c .before .before .before .before in
-    (can-ask (w .tanks) (tankFor (c .before .before .before .before .before .before .before .before .before .before .before .before .before .before .before .before .take .result .call)) (u .place .result) (u .place .ensures .0) (w .inv .3), omega (arith, c .before .before .before .before .before .before .before .before .before .before .before .before .before .before .before .before .before .before .before .before .before .before .before .before .before .pre .1 .1, c .before .before .before .before .before .before .before .before .before .before .before .before .before .before .before .before .before .before .before .loop .inv .2))
+    let w = c .before .before .before .before .before .before .before .before .before .before .before .before .before .before .before .before .before .before .before .before .loop in
+    let u = c .before .before .before .before .before in
+    (can-ask (w .tanks) (tankFor (c .before .before .before .before .before .before .before .before .before .before .before .before .before .before .before .before .before .take .result .call)) (u .place .result) (u .place .ensures .0) (w .inv .3), omega (arith, c .before .before .before .before .before .before .before .before .before .before .before .before .before .before .before .before .before .before .before .before .before .before .before .before .before .before .pre .1 .1, c .before .before .before .before .before .before .before .before .before .before .before .before .before .before .before .before .before .before .before .before .loop .inv .2))
 
 loop-again-3 : tie.Need-loop-again-3 Inv-loop μ-loop
 loop-again-3 c =
-    let w = c .before .before .before .before .before .before .before .before .before .before .before .before .before .before .before .before .before .before .before .before .before .before .loop in
-    let p = c .before .before .before .before .before .before .before .before .before .before .before .before .before .before .before .before .before .before .before .take .ensures in
-    let u = c .before .before .before .before .before .before .before in
-    let r = looked (w .tanks) (u .place .result) (w .side) (c .before .before .before .before .before .before .before .before .before .before .before .before .before .before .before .before .before .before .before .take .result .call) _ _ _ _ (u .place .ensures .0) (w .inv .3) (w .inv .4) (sym (c .before .before .before .before .before .before .before .before .before .before .before .before .kind-of .ensures) ∙ c .before .before .before .before .before .before .before .before .before .before .kind .given .1) _ (c .before .before .at-tank .ensures) in
-    (p .inside, search needs, search needs, w .inv .3, w .inv .4, p .fits, left-then (turn-call (w .tanks) (w .side) (w .at) (w .out) (c .before .before .before .before .before .before .before .before .before .before .before .before .before .before .before .before .before .before .before .before .before .loop-test .taken) p (c .before .before .before .before .before .before .before .before .before .before .before .before .before .before .enum-told3 .given .1) r) (w .inv .6))
+    let w = c .before .before .before .before .before .before .before .before .before .before .before .before .before .before .before .before .before .before .before .before .before .before .before .loop in
+    let p = c .before .before .before .before .before .before .before .before .before .before .before .before .before .before .before .before .before .before .before .before .take .ensures in
+    let u = c .before .before .before .before .before .before .before .before in
+    let r = looked (w .tanks) (u .place .result) (w .side) (c .before .before .before .before .before .before .before .before .before .before .before .before .before .before .before .before .before .before .before .before .take .result .call) _ _ _ _ (u .place .ensures .0) (w .inv .3) (w .inv .4) (sym (c .before .before .before .before .before .before .before .before .before .before .before .before .before .kind-of .ensures) ∙ c .before .before .before .before .before .before .before .before .before .before .before .kind .given .1) _ (c .before .before .at-tank .ensures) in
+    (p .inside, search needs, search needs, w .inv .3, w .inv .4, p .fits, left-then (turn-call (w .tanks) (w .side) (w .at) (w .out) (c .before .before .before .before .before .before .before .before .before .before .before .before .before .before .before .before .before .before .before .before .before .before .loop-test .taken) p (c .before .before .before .before .before .before .before .before .before .before .before .before .before .before .before .enum-told3 .given .1) r) (w .inv .6))
 
 loop-less-3 : tie.Need-loop-less-3 Inv-loop μ-loop
-loop-less-3 c = let p = c .before .before .before .before .before .before .before .before .before .before .before .before .before .before .before .before .before .before .before .take .ensures in omega (arith, p .further, p .inside)
+loop-less-3 c = let p = c .before .before .before .before .before .before .before .before .before .before .before .before .before .before .before .before .before .before .before .before .take .ensures in omega (arith, p .further, p .inside)
 
 -- ---- An edit
 edit-parts-requires : tie.Need-edit-parts-requires Inv-loop μ-loop

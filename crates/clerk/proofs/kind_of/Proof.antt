@@ -32,7 +32,7 @@ returns-6 c = rw (c .enum-told3 .given .1)
 
 returns-7 : tie.Need-returns-7
 unfolding kindOf
-returns-7 c = rw (c .enum-told4 .given .1)
+returns-7 c = let a = c .before .before .before .before .args in c .both-kind .ensures ∙ sym (ap (λ (o : Op). kindOf o (a .who) (a .call)) (c .before .before .op4 .given .1))
 
 pub kind-of-spec : {M : Type 1} → statement M
 kind-of-spec =
@@ -48,6 +48,7 @@ kind-of-spec =
     (λ c. search needs)
     (λ c. search needs)
     (λ c. search needs)
+    (λ c κs. search needs)
     returns
     returns-2
     returns-3

@@ -1,5 +1,5 @@
 -- By the op: one that asks is not performed here, nor is an edit of one tank.
-use Rattle.clerk.proofs.Performing.{as-moved, changes, texted, noted, both, none, no-question, no-listing, other-change}
+use Rattle.clerk.proofs.Performing.{as-moved, changes, texted, noted, both, none, no-question, no-listing, other-change, other-both}
 use borrow.Author.Needs.{needs}
 use Rattle.clerk.proofs.perform.Statement.{statement}
 use Rattle.clerk.proofs.perform.Tie as tie
@@ -36,7 +36,12 @@ change-requires c κs =
     let s = c .before .before .before .before .before .before in
     ((s .pre .0 .0, other-change _ _ (s .pre .0 .2) (c .before .before .op .given .1)), search needs)
 
+on-both-requires : tie.Need-on-both-requires
+on-both-requires c κs =
+    let s = c .before .before .before .before .before .before in
+    ((s .pre .0 .0, s .pre .0 .1, other-both _ _ (s .pre .0 .2) (c .before .before .op4 .given .1)), search needs)
+
 pub perform-spec : {M : Type 1} → statement M
 perform-spec =
     tie.close
-    (tie.spec (λ c. search needs) (λ c κs. search needs) (λ c. search needs) change-requires (λ c κs. search needs) (λ c. search needs) (λ c κs. search needs) (λ c. search needs) (λ c κs. search needs) (λ c. search needs) (λ c κs. search needs) (λ c. search needs) (λ c κs. search needs) (λ c κs. search needs) (λ c. search needs) (λ c κs. search needs) returns (λ c. search needs) returns-2 returns-3 returns-4 (λ c. search needs) returns-5 (λ c. search needs) returns-6 (λ c. search needs) returns-7)
+    (tie.spec (λ c. search needs) (λ c κs. search needs) (λ c. search needs) change-requires (λ c κs. search needs) (λ c. search needs) (λ c κs. search needs) (λ c. search needs) (λ c κs. search needs) (λ c. search needs) (λ c κs. search needs) (λ c. search needs) (λ c κs. search needs) (λ c κs. search needs) (λ c. search needs) on-both-requires returns (λ c. search needs) returns-2 returns-3 returns-4 (λ c. search needs) returns-5 (λ c. search needs) returns-6 (λ c. search needs) returns-7)
