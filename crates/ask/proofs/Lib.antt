@@ -1,5 +1,6 @@
 pub mod AskLaws
 pub mod Standing
+pub mod Borders
 pub mod Most
 pub mod Ranges
 pub mod Examples

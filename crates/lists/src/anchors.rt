@@ -37,7 +37,7 @@ pub enum NextAnchor {
 }
 
 // The bits of a set that another lacks.
-fn lacking(set: u64, other: u64) -> u64
+pub fn lacking(set: u64, other: u64) -> u64
     ensures { λ r. ⌜ r ≡ lackingBits set other ⌝ }
 {
     set - (set & other)
