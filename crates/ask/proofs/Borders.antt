@@ -2,7 +2,7 @@
 -- have all the anchors that the party is shown.
 use Prim.Native.Nat.{ℕ, zero, suc, _+_, _-_, _*_, _≤_, _<_, _^_}
 use mathlib.Core.Path.{_≡_, refl, sym, ap, ap₂, _∙_}
-use mathlib.Core.List.{List, [], _++_}
+use mathlib.Core.List.{List, [], _++_, append-nil}
 use native.Mathlib.Omega.{arith}
 use native.Mathlib.Numerals.{add-one}
 use lib.Bits.{bitAnd, and-zero-l, and-zero-r}
@@ -14,6 +14,7 @@ use Rattle.styles.specs.declared.Party.{Party}
 use Rattle.styles.specs.Bits.{pick, lackingBits, MaskOf}
 use Rattle.styles.specs.Marks.{isOf}
 use Rattle.styles.proofs.CountLaws.{pick-length, ones-none}
+use Rattle.styles.proofs.MaskLaws.{pick-short}
 use Rattle.runs.specs.Positions.{sumBelow}
 use Rattle.runs.specs.Runs as runs
 use Rattle.runs.proofs.Laws.{at-past}
@@ -21,14 +22,14 @@ use Rattle.runs.proofs.SumLaws.{sum-more}
 use Rattle.richtext.specs.declared.AnchorType.the-variants.{Start, End}
 use Rattle.tank.proofs.Unique.{table-length}
 use Rattle.lists.specs.declared.anchors.Anchor.{Anchor}
-use Rattle.lists.specs.Anchors.{anchorOf, anchorsOf, boundaries, anchors}
-use Rattle.lists.proofs.AnchorLaws.{between, bitsBefore, ByBits, run-more, run-before, anchors-end}
+use Rattle.lists.specs.Anchors.{anchorOf, anchorsOf, boundaries, anchors, between}
+use Rattle.lists.proofs.AnchorLaws.{between-same, bitsBefore, ByBits, run-more, run-before, anchors-end}
 use Rattle.tanks.specs.declared.Head.{Head}
 use Rattle.tanks.specs.declared.Run.{Run}
 use Rattle.tanks.specs.declared.Table.{Table}
 use Rattle.tanks.specs.Pool.{noRun, noHead, runsIn, runsBelow, tankIn}
 use Rattle.tanks.specs.Looks.{runList, Stands, shownIn}
-use Rattle.tanks.proofs.LookLaws.{lenFrom, Walked, walk-begins, can-walk, sorted-in, seen-marks, seen-small, shown-length}
+use Rattle.tanks.proofs.LookLaws.{lenFrom, Walked, walk-begins, walk-on, can-walk, sorted-in, seen-marks, seen-small, shown-length}
 use Rattle.tanks.proofs.RangeLaws.{from-in, some-from, on-run, walked-all, total-in}
 use Rattle.tanks.proofs.ReachLaws.{bitsFrom}
 
@@ -127,6 +128,68 @@ module _ {hs : List Head} {pool : List Run} {table : Table} {t : ℕ} (ok : Stan
       anchors-end seen-by l
       (walked-all (walked-to n (omega arith)) (omega arith) ∙ ap runs.total (from-in hs pool t e) ∙ total-in ok ∙ sym (shown-length hs pool table t who))
       ∙ ap₂ (λ (xs : List Anchor) (s : ℕ). xs ++ between (marksIn hs table t) l s 0) (borders-are n (omega arith)) (sym (prior-is n (omega arith)))
+
+-- ---- a walk that writes them, over the whole of a table: bits past the tank's marks are not in its sets
+between-short : (n : ℕ) (ms : List Mark) (p x y : ℕ) → x < 2 ^ n → y < 2 ^ n → between ms p x y ≡ between (take n ms) p x y
+between-short n ms p x y a b =
+    ap₂ (λ (xs ys : List Mark). anchorsOf (p - 1) End xs ++ anchorsOf p Start ys) (pick-short n ms (lackingBits x y) (omega arith)) (pick-short n ms (lackingBits y x) (omega arith))
+
+-- i of n runs are passed and end at `end`, behind the bits `last`
+pub record Trail (pool : List Run) (at n own i end last : ℕ) : Type 0 where
+  pub walked : Walked pool at n i end
+  pub prior : last ≡ bitsPrior pool at own i
+
+pub trail-begins : {hs : List Head} {pool : List Run} {table : Table} {t at : ℕ} → Stands hs pool table t → at ≡ runsBelow hs t → (own : ℕ) → Trail pool at (runsIn hs t) own 0 0 0
+trail-begins {hs} {pool} {table} {t} {at} ok e own = record { walked = walk-begins hs pool t (can-walk ok) e; prior = prior-first pool at own }
+
+module _ (ms : List Mark) {pool : List Run} {at n own i end last : ℕ} (w : Trail pool at n own i end last) where
+  -- the next run's boundary
+  pub borders-more : bordersTo ms pool at own i ++ between ms end last (bitsAt pool at own i) ≡ bordersTo ms pool at own (i + 1)
+  unfolding bordersTo
+  borders-more = rw add-one (ap₂ (λ (p x : ℕ). bordersTo ms pool at own i ++ between ms p x (bitsAt pool at own i)) (w .walked .begun) (w .prior))
+
+  -- a run with the same bits has none
+  pub borders-same : bitsAt pool at own i ≡ last → bordersTo ms pool at own i ≡ bordersTo ms pool at own (i + 1)
+  borders-same e =
+      sym (append-nil (bordersTo ms pool at own i))
+      ∙ ap (λ (xs : List Anchor). bordersTo ms pool at own i ++ xs) (sym (between-same ms end last) ∙ ap (between ms end last) (sym e))
+      ∙ borders-more
+
+module _ {pool : List Run} {at n own i end last : ℕ} (w : Trail pool at n own i end last) (h : i < n) where
+  pub trail-new : Trail pool at n own (i + 1) (end + lenFrom pool at i) (bitsAt pool at own i)
+  trail-new = record { walked = walk-on (w .walked) h; prior = prior-next pool at own i }
+
+  pub trail-same : bitsAt pool at own i ≡ last → Trail pool at n own (i + 1) (end + lenFrom pool at i) last
+  trail-same e = record { walked = walk-on (w .walked) h; prior = sym e ∙ prior-next pool at own i }
+
+pub borders-none : (ms : List Mark) (pool : List Run) (at own : ℕ) → [] ≡ bordersTo ms pool at own 0
+unfolding bordersTo
+borders-none ms pool at own = refl
+
+pub table-full : {hs : List Head} {pool : List Run} {table : Table} {t : ℕ} → Stands hs pool table t → length (table .marks) ≡ 64
+unfolding tankIn
+table-full ok = ok .formed .laid .table-64
+
+module _ {hs : List Head} {pool : List Run} {table : Table} {t : ℕ} (ok : Stands hs pool table t) (who : Party) {own : ℕ}
+    (m : MaskOf (isOf who) (marksIn hs table t) own) {at : ℕ} (e : at ≡ runsBelow hs t) where
+  whole-table : (i : ℕ) → i ≤ runsIn hs t → bordersTo (table .marks) pool at own i ≡ bordersTo (marksIn hs table t) pool at own i
+  unfolding bordersTo
+  whole-table zero h = refl
+  whole-table (suc i) h =
+      ap₂ (λ (xs ys : List Anchor). xs ++ ys) (whole-table i (omega arith))
+      (between-short (getD hs t noHead .marks) (table .marks) (sumBelow (lenFrom pool at) i) (bitsPrior pool at own i) (bitsAt pool at own i) (prior-small ok who m e i (omega arith)) (at-small ok who m e i (omega arith)))
+
+  pub borders-all : {i end last : ℕ} → Trail pool at (runsIn hs t) own i end last → runsIn hs t ≤ i
+      → bordersTo (table .marks) pool at own i ++ between (table .marks) end last 0 ≡ anchors (shownIn hs pool table t who)
+  borders-all {i} {end} {last} w h =
+      let within = w .walked .within in
+      let z : i ≡ runsIn hs t = omega arith in
+      let n = runsIn hs t in
+      ap₂ (λ (p x : ℕ). bordersTo (table .marks) pool at own i ++ between (table .marks) p x 0) (w .walked .begun) (w .prior)
+      ∙ ap (λ (j : ℕ). bordersTo (table .marks) pool at own j ++ between (table .marks) (sumBelow (lenFrom pool at) j) (bitsPrior pool at own j) 0) z
+      ∙ ap₂ (λ (xs ys : List Anchor). xs ++ ys) (whole-table n (omega arith))
+      (between-short (getD hs t noHead .marks) (table .marks) (sumBelow (lenFrom pool at) n) (bitsPrior pool at own n) 0 (prior-small ok who m e n (omega arith)) (pow-pos (getD hs t noHead .marks)))
+      ∙ sym (all-borders ok who m e)
 
 -- ---- how many they are
 module _ (ms : List Mark) (p x y : ℕ) where

@@ -25,7 +25,7 @@ use Rattle.richtext.specs.declared.AnchorType.the-variants.{Start, End}
 use Rattle.tank.specs.Rules.{View}
 use Rattle.tank.specs.State.{runsOf, tableOf, viewOf, view, Laid}
 use Rattle.tank.proofs.Counted.{at-inside}
-use Rattle.lists.specs.Anchors.{lacking, marksBefore, marksBehind, anchorsOf, boundary, boundaries, anchors}
+use Rattle.lists.specs.Anchors.{lacking, marksBefore, marksBehind, anchorsOf, boundary, boundaries, anchors, between}
 
 -- ---- the marks that another set lacks, by bits
 lacking-keep : (b c d : ℕ) (m : Mark) (xs ys : List Mark) → b < 2 → c < 2 → d ≡ b - min b c → Above (idOf m) xs → Above (idOf m) ys
@@ -67,10 +67,6 @@ split-first : (j n : ℕ) (v : View) → boundaries 0 (j + n) v ≡ boundaries 0
 split-first j n v = let e : 0 + j ≡ j = omega arith in split 0 j n v ∙ ap (λ p. boundaries 0 j v ++ boundaries p n v) e
 
 -- ---- a boundary by bits
--- the anchors between a set x and a set y, over a table
-abbrev pub between : List Mark → ℕ → ℕ → ℕ → List Anchor
-between ms p x y = anchorsOf (p - 1) End (pick ms (lackingBits x y)) ++ anchorsOf p Start (pick ms (lackingBits y x))
-
 -- the bits before a boundary, where each position has some
 abbrev pub bitsBefore : (ℕ → ℕ) → ℕ → ℕ
 bitsBefore bits zero = 0

@@ -11,8 +11,8 @@ use Rattle.runs.proofs.Laws.{at-in, at-last, at-past}
 use Rattle.tank.specs.Rules.{View}
 use Rattle.tank.specs.State.{viewOf}
 use Rattle.lists.specs.declared.anchors.Anchor.{Anchor}
-use Rattle.lists.specs.Anchors.{boundary, boundaries, anchors}
-use Rattle.lists.proofs.AnchorLaws.{between, setBefore, ByBits, run-more, anchors-end, runs-by}
+use Rattle.lists.specs.Anchors.{boundaries, anchors, between}
+use Rattle.lists.proofs.AnchorLaws.{setBefore, ByBits, run-more, anchors-end, runs-by}
 
 -- the anchors of the boundaries that runs begin at
 unfoldable pub edges : List Mark → List Run → List Anchor
