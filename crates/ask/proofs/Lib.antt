@@ -1,6 +1,7 @@
 pub mod AskLaws
 pub mod Standing
 pub mod WindowLaws
+pub mod Borders
 pub mod Most
 pub mod Ranges
 pub mod Examples

@@ -2,6 +2,7 @@
 pub mod parts; // parts.rt: questions of one tank, on the parts of a state that it stands in
 pub mod listed; // listed.rt: lists of one tank, likewise
 pub mod windowed; // windowed.rt: what shows in equal windows over one tank, likewise
+pub mod anchored; // anchored.rt: how many anchors it has, likewise
 
 ghost use mathlib.Core.Path.{_≡_};
 ghost use mathlib.Core.List.{[]};
@@ -234,10 +235,11 @@ pub fn anchors_needed(s: Tanks, tank: u64, who: Party) -> Listed
     requires { ⌜ Sound s ⌝ }
     ensures { λ r. ⌜ r ≡ anchorsNeededAsked (meaning s) tank who ⌝ }
 {
-    if 8 <= tank {
-        return no_list();
-    }
-    counted(lists::anchors::anchors_needed(shown(s, tank, who)))
+    let heads = s.heads;
+    let pool = s.pool;
+    let tables = s.tables;
+    let table = tables[tanks::place(tank)];
+    anchored::anchors_needed(heads, pool, table, tank, who)
 }
 
 // The stretches over start .. end, at the front of a lent buffer.

@@ -1,19 +1,27 @@
 -- What lists say: a buffer of 1,536 numbers is as good as any, and anchors go out one by one.
 use mathlib.Core.Path.{_≡_, refl, sym, ap, ap₂, _∙_}
 use mathlib.Core.Bool.{Bool, true, false, cond}
-use mathlib.Core.List.{List, [], _∷_, _++_, flatMap}
-use Prim.Native.Nat.{ℕ, zero, suc, _-_, _≤_, _<_, min}
+use mathlib.Core.List.{List, [], _∷_, _++_, append-assoc, append-nil, flatMap}
+use Prim.Native.Nat.{ℕ, _-_, _≤_, _<_, _^_, min}
 use native.Mathlib.Decide.{decLt}
 use native.Mathlib.Omega.{arith}
+use lib.Count.{trailingZeros}
 use lib.Dec.{eqb, ltb}
-use lib.ListN.{length, take, length-take}
+use lib.ListN.{length, getD, take, length-take}
 use borrow.Author.Tests.{lt-ltb, le-ltb, le-leb, lt-leb}
+use Rattle.styles.specs.declared.Mark.{Mark}
 use Rattle.styles.specs.declared.Party.{Party}
+use Rattle.styles.specs.Bits.{pick, lackingBits, withoutBit}
+use Rattle.styles.specs.Marks.{blank}
+use Rattle.styles.proofs.UnionLaws.{pick-none}
+use Rattle.richtext.specs.declared.AnchorType.{AnchorType}
+use Rattle.richtext.specs.declared.AnchorType.the-variants.{Start, End}
 use Rattle.runs.specs.Stretches.{inFront}
 use Rattle.lists.specs.declared.Listed.{Listed}
 use Rattle.lists.specs.declared.anchors.Anchor.{Anchor}
 use Rattle.lists.specs.Lists.{rangeList, wholeList, rangeRefusal, listRefusal, rangeNumber, wholeNumber, unlessRefused, filledBeside}
-use Rattle.lists.specs.Anchors.{anchors, anchorsNeeded, anchorsNumber}
+use Rattle.lists.specs.Anchors.{anchorOf, anchorsOf, anchors, anchorsNeeded, anchorsNumber, between}
+use Rattle.lists.proofs.CursorLaws.{first-taken}
 use Rattle.lists.proofs.ListLaws.{empty-list, handed-part, handed-count}
 use Rattle.runs.proofs.SumLaws.{sum-next}
 use Rattle.tank.specs.Rules.{View, runsHeld}
@@ -24,14 +32,16 @@ use Rattle.tank.proofs.Unique.{runs-held}
 use Rattle.tanks.specs.declared.Head.{Head}
 use Rattle.tanks.specs.declared.Run.{Run}
 use Rattle.tanks.specs.declared.Table.{Table}
-use Rattle.tanks.specs.House.{House, noTank, shownAt}
+use Rattle.tanks.specs.House.{noTank}
 use Rattle.tanks.specs.Looks.{Stands, shownIn}
 use Rattle.tanks.specs.Pool.{runsIn, tankIn}
-use Rattle.ask.specs.Asks.{askAt, noList}
+use Rattle.ask.specs.Asks.{noList}
 use Rattle.ask.specs.Parts.{askIn}
 use Rattle.ask.proofs.Most.{list-few}
 use Rattle.ask.proofs.Standing.{ListedIn}
+use Rattle.answers.specs.Waiting.{Pieces, Adds}
 use Rattle.answers.specs.Replies.{refusedSays, orRefused, listSays, anchorSays, anchorsSay}
+use Rattle.answers.proofs.Laws.{adds-as, and-then}
 use Rattle.clerk.specs.Calls.{allAnchorsSay}
 
 -- ---- room
@@ -105,28 +115,62 @@ module _ (hs : List Head) (pool : List Run) (table : Table) (t : ℕ) (who : Par
   list-inside = inside-by (noTank t) (near (shownIn hs pool table t who)) (xs (shownIn hs pool table t who)) out last l (said .0) (said .1)
 
 -- ---- anchors
--- one anchor more is said
-pub anchor-more : (i : ℕ) (left : List Anchor) (a : Anchor) (more : List Anchor) → 0 < i → left ≡ a ∷ more → anchorsSay (take i left) ≡ anchorSays a ++ anchorsSay (take (i - 1) more)
+pub anchors-append : (xs ys : List Anchor) → anchorsSay (xs ++ ys) ≡ anchorsSay xs ++ anchorsSay ys
 unfolding flatMap
-anchor-more zero left a more h e = absurd (omega arith)
-anchor-more (suc i) left a more h e =
-    let less : i ≡ suc i - 1 = omega arith in
-    ap (λ (l : List Anchor). anchorsSay (take (suc i) l)) e ∙ ap (λ (j : ℕ). anchorSays a ++ anchorsSay (take j more)) less
+anchors-append [] ys = refl
+anchors-append (a ∷ xs) ys =
+    ap (λ (said : Pieces). anchorSays a ++ said) (anchors-append xs ys) ∙ sym (append-assoc (anchorSays a) (anchorsSay xs) (anchorsSay ys))
+
+-- one side of a boundary: the lowest bit's anchor, and those of the bits that are left
+pub side-more : (ms : List Mark) (pos : ℕ) (side : AnchorType) (s i u : ℕ) → length ms ≡ 64 → s < 2 ^ 64 → 0 < s → i ≡ trailingZeros 64 s → u ≡ withoutBit i s
+    → anchorsSay (anchorsOf pos side (pick ms s)) ≡ anchorSays (anchorOf pos side (getD ms i blank)) ++ anchorsSay (anchorsOf pos side (pick ms u))
+unfolding flatMap anchorsOf
+side-more ms pos side s i u long small some e g = rw g (ap (λ (xs : List Mark). anchorsSay (anchorsOf pos side xs)) (first-taken ms s i long small some e))
 
 -- none is left
-pub anchor-none : (left : List Anchor) → left ≡ [] → anchorsSay left ≡ []
+pub side-none : (ms : List Mark) (pos : ℕ) (side : AnchorType) (s : ℕ) → s ≡ 0 → anchorsSay (anchorsOf pos side (pick ms s)) ≡ []
+unfolding flatMap anchorsOf
+side-none ms pos side s e = rw (e, pick-none ms)
+
+-- a boundary: both sides, or one where the other has none
+module _ (ms : List Mark) (pos x y : ℕ) {p e s : ℕ} (place : p ≡ pos - 1) (ends : e ≡ lackingBits x y) (starts : s ≡ lackingBits y x) where
+  pub both-sides : anchorsSay (anchorsOf p End (pick ms e)) ++ anchorsSay (anchorsOf pos Start (pick ms s)) ≡ anchorsSay (between ms pos x y)
+  both-sides =
+      sym (anchors-append (anchorsOf p End (pick ms e)) (anchorsOf pos Start (pick ms s)))
+      ∙ (λ i. anchorsSay (anchorsOf (place i) End (pick ms (ends i)) ++ anchorsOf pos Start (pick ms (starts i))))
+
+  pub starts-alone : e ≡ 0 → anchorsSay (anchorsOf pos Start (pick ms s)) ≡ anchorsSay (between ms pos x y)
+  starts-alone z = ap (λ (said : Pieces). said ++ anchorsSay (anchorsOf pos Start (pick ms s))) (sym (side-none ms p End e z)) ∙ both-sides
+
+  pub ends-alone : s ≡ 0 → anchorsSay (anchorsOf p End (pick ms e)) ≡ anchorsSay (between ms pos x y)
+  ends-alone z =
+      sym (append-nil (anchorsSay (anchorsOf p End (pick ms e))))
+      ∙ ap (λ (said : Pieces). anchorsSay (anchorsOf p End (pick ms e)) ++ said) (sym (side-none ms pos Start s z))
+      ∙ both-sides
+
+-- none
+pub anchors-none : (xs : List Anchor) → [] ≡ xs → [] ≡ anchorsSay xs
 unfolding flatMap
-anchor-none left e = ap anchorsSay e
+anchors-none xs e = ap anchorsSay e
 
--- no such tank
-pub anchors-1 : (who : Party) (h : House) (t room : ℕ) → 8 ≤ t → refusedSays 1 ≡ askAt h t who (refusedSays 1) (λ v. orRefused (anchorsNumber room v) (allAnchorsSay v))
-anchors-1 who h t room k = rw (le-leb 8 t k)
+-- anchors, and those behind them
+pub anchors-then : {d e o : List ℕ} {at k r : ℕ} (xs ys : List Anchor) {zs : List Anchor} → xs ++ ys ≡ zs → Adds d at (anchorsSay xs) k e → Adds e k (anchorsSay ys) r o
+    → Adds d at (anchorsSay zs) r o
+anchors-then xs ys e a b = adds-as (sym (anchors-append xs ys) ∙ ap anchorsSay e) (and-then a b)
 
--- too little room, or all of them
-module _ (who : Party) (h : House) (t : ℕ) (l : Listed) (k : t < 8) (said : l ≡ askAt h t who noList anchorsNeeded) where
-  pub counted : l .count ≡ length (anchors (shownAt h who t))
-  counted = ap (λ (x : Listed). x .count) (said ∙ ap (λ (b : Bool). cond b noList (anchorsNeeded (shownAt h who t))) (lt-leb 8 t k))
+module _ (hs : List Head) (pool : List Run) (table : Table) (who : Party) (t : ℕ) where
+  -- no such tank
+  pub anchors-1 : (room : ℕ) → 8 ≤ t → refusedSays 1 ≡ askIn hs pool table t who (refusedSays 1) (λ v. orRefused (anchorsNumber room v) (allAnchorsSay v))
+  anchors-1 room k = rw (le-leb 8 t k)
 
-  pub anchors-by : (room : ℕ) (b : Bool) → ltb room (l .count) ≡ b → orRefused (cond b 11 0) (allAnchorsSay (shownAt h who t)) ≡ askAt h t who (refusedSays 1) (λ v. orRefused (anchorsNumber room v) (allAnchorsSay v))
-  unfolding listRefusal
-  anchors-by room b e = sym (ap₂ (λ (none little : Bool). cond none (refusedSays 1) (orRefused (cond little 11 0) (allAnchorsSay (shownAt h who t)))) (lt-leb 8 t k) (ap (ltb room) (sym counted) ∙ e))
+  -- too little room, or all of them
+  module _ (l : Listed) (k : t < 8) (said : l ≡ askIn hs pool table t who noList anchorsNeeded) where
+    pub counted : l .count ≡ length (anchors (shownIn hs pool table t who))
+    counted = ap (λ (x : Listed). x .count) (said ∙ ap (λ (b : Bool). cond b noList (anchorsNeeded (shownIn hs pool table t who))) (lt-leb 8 t k))
+
+    pub anchors-by : (room : ℕ) (b : Bool) → ltb room (l .count) ≡ b
+        → orRefused (cond b 11 0) (allAnchorsSay (shownIn hs pool table t who)) ≡ askIn hs pool table t who (refusedSays 1) (λ v. orRefused (anchorsNumber room v) (allAnchorsSay v))
+    unfolding listRefusal
+    anchors-by room b e =
+        sym
+        (ap₂ (λ (none little : Bool). cond none (refusedSays 1) (orRefused (cond little 11 0) (allAnchorsSay (shownIn hs pool table t who)))) (lt-leb 8 t k) (ap (ltb room) (sym counted) ∙ e))

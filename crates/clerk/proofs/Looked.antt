@@ -10,6 +10,7 @@ use Rattle.questions.specs.declared.Shown.{Shown}
 use Rattle.questions.specs.declared.Told.{Told}
 use Rattle.questions.specs.Questions.{setOf, sharedOf, extentOf, valueAt, stylesAt, styleAt, stretchAt, stylesForInsert, styleForInsert, rangeContainsKey, rangeHasKeyValue, stylesOfRange}
 use Rattle.lists.specs.Lists.{rangeList, wholeList, rangeNeeded, wholeNeeded, rangeNumber, wholeNumber}
+use Rattle.lists.specs.Anchors.{anchorsNumber}
 use Rattle.tank.specs.Rules.{View}
 use Rattle.tanks.specs.declared.Head.{Head}
 use Rattle.tanks.specs.declared.Run.{Run}
@@ -39,7 +40,7 @@ use Rattle.answers.proofs.Laws.{adds-as}
 use Rattle.clerk.specs.declared.Kind.{Kind}
 use Rattle.clerk.specs.declared.Look.{Look}
 use Rattle.clerk.specs.declared.Side.{Side}
-use Rattle.clerk.specs.Calls.{tankFor, startIn, endIn, answerSays, listingSays, wholeSays, lookSays, wholeLook, listLookSays, stripLook, looksSay, questionKind, listingKind, changeKind, bothKind, kindOf}
+use Rattle.clerk.specs.Calls.{tankFor, startIn, endIn, answerSays, listingSays, wholeSays, allAnchorsSay, lookSays, wholeLook, listLookSays, stripLook, looksSay, questionKind, listingKind, changeKind, bothKind, kindOf}
 use Rattle.clerk.specs.Desk.{Settled, stripFor, bothHouse, bothSide, bothSays, afterOp, sideAfter, saysOf, Performs}
 
 -- of `looked`
@@ -107,7 +108,7 @@ module _ (s : Tanks) (u : ℕ) (side : Side) (c : Call) (body d : List ℕ) (at 
   listing-looks Listing.StretchesNeeded = listed Listing.StretchesNeeded (ap neededSays (there noList (rangeNeeded (startIn c) (endIn c))))
   listing-looks Listing.Whole = listed Listing.Whole (there (refusedSays 1) (λ v. orRefused (wholeNumber (numberAt c 1) v) (listSays (tankFor c) (wholeList v))))
   listing-looks Listing.WholeNeeded = listed Listing.WholeNeeded (ap neededSays (there noList wholeNeeded))
-  listing-looks Listing.Anchors = tt
+  listing-looks Listing.Anchors = listed Listing.Anchors (there (refusedSays 1) (λ v. orRefused (anchorsNumber (numberAt c 1) v) (allAnchorsSay v)))
   listing-looks Listing.Save = tt
   listing-looks Listing.SaveNeeded = tt
 

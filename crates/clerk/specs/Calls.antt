@@ -173,13 +173,13 @@ listingSays Listing.SaveNeeded h who c = saveNeededSays h
 unfoldable pub wholeLook : List Head → List Run → Table → Party → ℕ → ℕ → Pieces
 wholeLook hs pool table who t room = askIn hs pool table t who (refusedSays 1) (λ v. orRefused (wholeNumber room v) (listSays t (wholeList v)))
 
--- of a list of one tank's stretches, from these parts: the same rows; the other lists are not among these
+-- of a list of one tank, from these parts: the same rows; the text of all tanks is not among these
 unfoldable pub listLookSays : Listing → List Head → List Run → Table → Party → Call → Pieces
 listLookSays Listing.Stretches hs pool table who c = askIn hs pool table (tankFor c) who (refusedSays 1) (λ v. orRefused (rangeNumber (startIn c) (endIn c) (numberAt c 3) v) (listSays (tankFor c) (rangeList (startIn c) (endIn c) v)))
 listLookSays Listing.StretchesNeeded hs pool table who c = neededSays (askIn hs pool table (tankFor c) who noList (rangeNeeded (startIn c) (endIn c)))
 listLookSays Listing.Whole hs pool table who c = wholeLook hs pool table who (tankFor c) (numberAt c 1)
 listLookSays Listing.WholeNeeded hs pool table who c = neededSays (askIn hs pool table (tankFor c) who noList wholeNeeded)
-listLookSays Listing.Anchors hs pool table who c = []
+listLookSays Listing.Anchors hs pool table who c = askIn hs pool table (tankFor c) who (refusedSays 1) (λ v. orRefused (anchorsNumber (numberAt c 1) v) (allAnchorsSay v))
 listLookSays Listing.Save hs pool table who c = []
 listLookSays Listing.SaveNeeded hs pool table who c = []
 
@@ -211,13 +211,13 @@ questionKind Question.Inherited = Kind.Looks (Look.Question Question.Inherited)
 questionKind Question.Find = Kind.Looks (Look.Question Question.Find)
 questionKind Question.Propose = Kind.Asks
 
--- a list; anchors are made of a tank taken out, and a text is of the state
+-- a list; a text is of the state
 unfoldable pub listingKind : Listing → Kind
 listingKind Listing.Stretches = Kind.Looks (Look.Listing Listing.Stretches)
 listingKind Listing.StretchesNeeded = Kind.Looks (Look.Listing Listing.StretchesNeeded)
 listingKind Listing.Whole = Kind.Looks (Look.Listing Listing.Whole)
 listingKind Listing.WholeNeeded = Kind.Looks (Look.Listing Listing.WholeNeeded)
-listingKind Listing.Anchors = Kind.Asks
+listingKind Listing.Anchors = Kind.Looks (Look.Listing Listing.Anchors)
 listingKind Listing.Save = Kind.Asks
 listingKind Listing.SaveNeeded = Kind.Asks
 

@@ -3,6 +3,7 @@ mod editing; // editing.rt: the four edits of one tank
 mod changes; // changes.rt: other calls that change the state
 mod asking; // asking.rt: calls that ask
 mod listing; // listing.rt: stretches and anchors
+mod borders; // borders.rt: the anchors written, boundary by boundary
 mod desk; // desk.rt: calls that have to do with what is kept beside the tanks
 mod strips; // strips.rt: strips, and their legend
 mod texts; // texts.rt: the text of all tanks
@@ -210,7 +211,7 @@ fn answer(s: Tanks, q: Question, who: Party, call: Call, out: &mut [u8], at: usi
     }
 }
 
-// One that asks for anchors, or for the text of all tanks. A list of one tank's stretches is not made here, but from the parts of the state.
+// One that asks for the text of all tanks. A list of one tank is not made here, but from the parts of the state.
 fn listed(s: Tanks, l: Listing, who: Party, call: Call, out: &mut [u8], at: usize) -> usize
     requires { ⌜ Sound s × (listingKind l ≡ kinds.Kind.Asks) ⌝ }
     requires { ⌜ pieceRoom ≤ length (now out) ⌝ }
@@ -222,7 +223,7 @@ fn listed(s: Tanks, l: Listing, who: Party, call: Call, out: &mut [u8], at: usiz
         Listing::StretchesNeeded => at,
         Listing::Whole => at,
         Listing::WholeNeeded => at,
-        Listing::Anchors => listing::anchors(s, who, call, out, at),
+        Listing::Anchors => at,
         Listing::Save => texts::save(s, n[0], out, at),
         Listing::SaveNeeded => texts::save_needed(s, out, at),
     }

@@ -1,30 +1,25 @@
 // Calls that ask for a list: stretches, the whole tank, anchors, and what they take.
 ghost use mathlib.Core.Path.{_≡_};
 ghost use Prim.Native.Nat.{_≤_, min};
-ghost use lib.ListN.{length, take};
+ghost use lib.ListN.{length};
 ghost use Rattle.script.specs.declared.Listing as listings;
 ghost use Rattle.script.specs.Args.{numberAt};
-ghost use Rattle.tank.specs.State as state;
-ghost use Rattle.tanks.specs.House.{shownAt};
 ghost use Rattle.tanks.specs.Pool.{Sound, meaning};
-ghost use Rattle.lists.specs.Anchors.{anchors, Stands, rest};
+ghost use Rattle.tanks.specs.Looks.{Stands, shownIn};
+ghost use Rattle.lists.specs.Anchors.{anchors};
 ghost use Rattle.answers.specs.Waiting.{Adds, pieceRoom};
-ghost use Rattle.answers.specs.Replies.{anchorsSay};
 ghost use Rattle.ask.specs.Parts.{CanAsk};
-ghost use Rattle.clerk.specs.Calls.{tankFor, listingSays, wholeSays, wholeLook, listLookSays, listingKind, allAnchorsSay};
+ghost use Rattle.clerk.specs.Calls.{tankFor, wholeSays, wholeLook, listLookSays, listingKind, allAnchorsSay};
 use super::Kind;
 use super::Look;
-use answers::put_anchor;
+use super::borders::put_anchors;
 use answers::put_list;
 use answers::put_needed;
 use answers::refuse;
 use answers::say;
-use lists::anchors::AnchorCursor;
-use lists::anchors::NextAnchor;
 use script::Call;
 use script::Listing;
 use styles::Party;
-use tank::Tank;
 use tanks::Head;
 use tanks::Run;
 use tanks::Table;
@@ -220,7 +215,54 @@ fn whole_called(
     whole_there(heads, pool, table, who, n[0], n[1], out, at)
 }
 
-// A list of one tank's stretches, made from the parts of a state that it stands in; the others are not among these.
+// The anchors of a tank that is there, of which the count is known.
+fn all_anchors(
+    heads: [Head; 8],
+    pool: [Run; 512],
+    table: Table,
+    who: Party,
+    tank: u64,
+    count: usize,
+    out: &mut [u8],
+    at: usize,
+) -> usize
+    requires { ⌜ (Stands heads pool table tank) × (count ≡ length (anchors (shownIn heads pool table tank who))) ⌝ }
+    requires { ⌜ pieceRoom ≤ length (now out) ⌝ }
+    ensures { λ r. ⌜ Adds (now (out .entry)) at (allAnchorsSay (shownIn heads pool table tank who)) r (now (out .exit)) ⌝ }
+{
+    let k = say(out, at, b"anchors=", text::wide(count));
+    put_anchors(heads, pool, table, tank as usize, who, out, k)
+}
+
+// The anchors, written one by one as the walk comes to them: the room that the call names is judged, and nothing is lent.
+fn anchors(
+    heads: [Head; 8],
+    pool: [Run; 512],
+    table: Table,
+    who: Party,
+    call: Call,
+    out: &mut [u8],
+    at: usize,
+) -> usize
+    requires { ⌜ CanAsk heads pool table (tankFor call) ⌝ }
+    requires { ⌜ pieceRoom ≤ length (now out) ⌝ }
+    ensures { λ r. ⌜ Adds (now (out .entry)) at (listLookSays listings.Listing.Anchors heads pool table who call) r (now (out .exit)) ⌝ }
+{
+    let n = call.numbers;
+    let tank = n[0];
+    let room = n[1];
+    if 8 <= tank {
+        return refuse(out, at, 1);
+    }
+    let l = ask::anchored::anchors_needed(heads, pool, table, tank, who);
+    let count = l.count;
+    if room < text::wide(count) {
+        return refuse(out, at, 11);
+    }
+    all_anchors(heads, pool, table, who, tank, count, out, at)
+}
+
+// A list of one tank, made from the parts of a state that it stands in; the text of all tanks is not among these.
 pub fn looked(
     heads: [Head; 8],
     pool: [Run; 512],
@@ -240,7 +282,7 @@ pub fn looked(
         Listing::StretchesNeeded => stretches_needed(heads, pool, table, who, call, out, at),
         Listing::Whole => whole_called(heads, pool, table, who, call, out, at),
         Listing::WholeNeeded => whole_needed(heads, pool, table, who, call, out, at),
-        Listing::Anchors => at,
+        Listing::Anchors => anchors(heads, pool, table, who, call, out, at),
         Listing::Save => at,
         Listing::SaveNeeded => at,
     }
@@ -255,60 +297,8 @@ pub fn listing_kind(l: Listing) -> Kind
         Listing::StretchesNeeded => Kind::Looks(Look::Listing(Listing::StretchesNeeded)),
         Listing::Whole => Kind::Looks(Look::Listing(Listing::Whole)),
         Listing::WholeNeeded => Kind::Looks(Look::Listing(Listing::WholeNeeded)),
-        Listing::Anchors => Kind::Asks,
+        Listing::Anchors => Kind::Looks(Look::Listing(Listing::Anchors)),
         Listing::Save => Kind::Asks,
         Listing::SaveNeeded => Kind::Asks,
     }
-}
-
-// The anchors of a tank from a cursor on, as many as are left.
-fn put_anchors(out: &mut [u8], at: usize, t: Tank, from: AnchorCursor, left: usize) -> usize
-    requires { ⌜ pieceRoom ≤ length (now out) ⌝ }
-    requires { ⌜ (state.Sound t) × Stands t from ⌝ }
-    ensures { λ r. ⌜ Adds (now (out .entry)) at (anchorsSay (take left (rest t from))) r (now (out .exit)) ⌝ }
-{
-    let mut k = at;
-    let mut c = from;
-    let mut i = left;
-    while 0 < i {
-        let NextAnchor::Found(a, next) = lists::anchors::next_anchor(t, c) else {
-            return k;
-        };
-        k = put_anchor(out, k, a);
-        c = next;
-        i -= 1;
-    }
-    k
-}
-
-// The anchors of a tank, of which the count is known.
-fn all_anchors(s: Tanks, who: Party, tank: u64, count: usize, out: &mut [u8], at: usize) -> usize
-    requires { ⌜ (Sound s) × (count ≡ length (anchors (shownAt (meaning s) who tank))) ⌝ }
-    requires { ⌜ pieceRoom ≤ length (now out) ⌝ }
-    ensures { λ r. ⌜ Adds (now (out .entry)) at (allAnchorsSay (shownAt (meaning s) who tank)) r (now (out .exit)) ⌝ }
-{
-    let t = ask::shown(s, tank, who);
-    let c = lists::anchors::first_anchor(t);
-    let k = say(out, at, b"anchors=", text::wide(count));
-    put_anchors(out, k, t, c, count)
-}
-
-// The anchors, written one by one as the cursor comes to them: the room that the call names is judged, and nothing is lent.
-pub fn anchors(s: Tanks, who: Party, call: Call, out: &mut [u8], at: usize) -> usize
-    requires { ⌜ Sound s ⌝ }
-    requires { ⌜ pieceRoom ≤ length (now out) ⌝ }
-    ensures { λ r. ⌜ Adds (now (out .entry)) at (listingSays listings.Listing.Anchors (meaning s) who call) r (now (out .exit)) ⌝ }
-{
-    let n = call.numbers;
-    let tank = n[0];
-    let room = n[1];
-    if 8 <= tank {
-        return refuse(out, at, 1);
-    }
-    let l = ask::anchors_needed(s, tank, who);
-    let count = l.count;
-    if room < text::wide(count) {
-        return refuse(out, at, 11);
-    }
-    all_anchors(s, who, tank, count, out, at)
 }

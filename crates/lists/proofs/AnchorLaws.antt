@@ -2,7 +2,7 @@
 use Prim.Native.Nat.{ℕ, zero, suc, _+_, _-_, _*_, _/_, _%_, _≤_, _<_, _^_, min}
 use mathlib.Core.Path.{_≡_, refl, sym, ap, ap₂, _∙_, subst}
 use mathlib.Core.Bool.{Bool, not}
-use mathlib.Core.List.{List, [], _++_, append-assoc}
+use mathlib.Core.List.{List, [], _++_, append-assoc, append-nil}
 use native.Mathlib.Omega.{arith}
 use native.Mathlib.Decide.{decLt}
 use native.Mathlib.Numerals.{add-one}
@@ -25,7 +25,7 @@ use Rattle.richtext.specs.declared.AnchorType.the-variants.{Start, End}
 use Rattle.tank.specs.Rules.{View}
 use Rattle.tank.specs.State.{runsOf, tableOf, viewOf, view, Laid}
 use Rattle.tank.proofs.Counted.{at-inside}
-use Rattle.lists.specs.Anchors.{lacking, marksBefore, marksBehind, anchorsOf, boundary, boundaries}
+use Rattle.lists.specs.Anchors.{lacking, marksBefore, marksBehind, anchorsOf, boundary, boundaries, anchors, between}
 
 -- ---- the marks that another set lacks, by bits
 lacking-keep : (b c d : ℕ) (m : Mark) (xs ys : List Mark) → b < 2 → c < 2 → d ≡ b - min b c → Above (idOf m) xs → Above (idOf m) ys
@@ -53,7 +53,7 @@ pub lack-self : (s : ℕ) → lackingBits s s ≡ 0
 lack-self s = omega (arith, and-self s)
 
 -- ---- boundaries, and those behind them
-pub split : (p j n : ℕ) (v : View) → boundaries p (j + n) v ≡ boundaries p j v ++ boundaries (p + j) n v
+split : (p j n : ℕ) (v : View) → boundaries p (j + n) v ≡ boundaries p j v ++ boundaries (p + j) n v
 unfolding boundaries
 split p zero n v = let e : p + 0 ≡ p = omega arith in let g : 0 + n ≡ n = omega arith in rw (e, g)
 split p (suc j) n v =
@@ -63,47 +63,52 @@ split p (suc j) n v =
     (ap (λ (l : List Anchor). boundary p v ++ l) (split (suc p) j n v)
     ∙ sym (append-assoc (boundary p v) (boundaries (suc p) j v) (boundaries (suc p + j) n v)))
 
--- ---- a boundary by bits
--- the anchors between a set x and a set y, over a table
-abbrev pub between : List Mark → ℕ → ℕ → ℕ → List Anchor
-between ms p x y = anchorsOf (p - 1) End (pick ms (lackingBits x y)) ++ anchorsOf p Start (pick ms (lackingBits y x))
+split-first : (j n : ℕ) (v : View) → boundaries 0 (j + n) v ≡ boundaries 0 j v ++ boundaries j n v
+split-first j n v = let e : 0 + j ≡ j = omega arith in split 0 j n v ∙ ap (λ p. boundaries 0 j v ++ boundaries p n v) e
 
--- the set before a boundary
+-- ---- a boundary by bits
+-- the bits before a boundary, where each position has some
+abbrev pub bitsBefore : (ℕ → ℕ) → ℕ → ℕ
+bitsBefore bits zero = 0
+bitsBefore bits (suc p) = bits p
+
+-- of runs, the set before it
 abbrev pub setBefore : List Run → ℕ → ℕ
-setBefore rs zero = 0
-setBefore rs (suc p) = setAt rs p
+setBefore rs = bitsBefore (setAt rs)
 
 pub between-same : (ms : List Mark) (p x : ℕ) → between ms p x x ≡ []
 unfolding anchorsOf
 between-same ms p x = rw (lack-self x, pick-none ms)
 
--- runs over a table, of whatever length they sum to
-module _ (touched : Bool) (l : ℕ) (ms : List Mark) (rs : List Run) (sorted : Sorted ms) (sum : l ≡ total rs) where
-  abbrev meant : View
-  meant = viewOf touched l ms rs
+-- a view whose positions carry the marks of their bits
+pub record ByBits (ms : List Mark) (bits : ℕ → ℕ) (v : View) : Type 0 where
+  pub sorted : Sorted ms
+  pub carried : (p : ℕ) → v .at p ≡ pick ms (bits p)
+  pub none-past : (p : ℕ) → v .length ≤ p → bits p ≡ 0
 
-  before-is : (p : ℕ) → marksBefore p meant ≡ pick ms (setBefore rs p)
+module _ {ms : List Mark} {bits : ℕ → ℕ} {v : View} (by : ByBits ms bits v) where
+  before-is : (p : ℕ) → marksBefore p v ≡ pick ms (bitsBefore bits p)
   unfolding marksBefore
   before-is zero = sym (pick-none ms)
-  before-is (suc p) = refl
+  before-is (suc p) = by .carried p
 
-  behind-is : (p : ℕ) → marksBehind p meant ≡ pick ms (setAt rs p)
+  behind-is : (p : ℕ) → marksBehind p v ≡ pick ms (bits p)
   unfolding marksBehind
   behind-is p =
-      elim (decLt p l) [
-        | yes h ↦ rw (lt-ltb p l h)
-        | no h ↦ rw (le-ltb p l (omega arith)) (sym (ap (pick ms) (at-past rs p (omega (arith, sum))) ∙ pick-none ms))
+      elim (decLt p (v .length)) [
+        | yes h ↦ rw (lt-ltb p (v .length) h) (by .carried p)
+        | no h ↦ rw (le-ltb p (v .length) (omega arith)) (sym (ap (pick ms) (by .none-past p (omega arith)) ∙ pick-none ms))
       ]
 
-  pub boundary-on : (p : ℕ) → boundary p (viewOf touched l ms rs) ≡ between ms p (setBefore rs p) (setAt rs p)
+  pub boundary-on : (p : ℕ) → boundary p v ≡ between ms p (bitsBefore bits p) (bits p)
   unfolding boundary
   boundary-on p =
-      let x = setBefore rs p in
-      let y = setAt rs p in
-      rw (before-is p, behind-is p, pick-lacking ms x y sorted, pick-lacking ms y x sorted)
+      let x = bitsBefore bits p in
+      let y = bits p in
+      rw (before-is p, behind-is p, pick-lacking ms x y (by .sorted), pick-lacking ms y x (by .sorted))
 
   -- where one set goes on no boundary has an anchor
-  pub flat : (p n s : ℕ) → ((q : ℕ) → p ≤ q → q ≤ p + n → setAt rs q ≡ s) → boundaries (suc p) n (viewOf touched l ms rs) ≡ []
+  pub flat : (p n s : ℕ) → ((q : ℕ) → p ≤ q → q ≤ p + n → bits q ≡ s) → boundaries (suc p) n v ≡ []
   unfolding boundaries
   flat p zero s h = refl
   flat p (suc n) s h =
@@ -111,9 +116,44 @@ module _ (touched : Bool) (l : ℕ) (ms : List Mark) (rs : List Run) (sorted : S
       (boundary-on (suc p) ∙ ap₂ (between ms (suc p)) (h p (omega arith) (omega arith)) (h (suc p) (omega arith) (omega arith)) ∙ between-same ms (suc p) s)
       (flat (suc p) n s (λ q a b. h q (omega arith) (omega arith)))
 
-pub boundary-is : {t : Tank} → Laid t → (p : ℕ) → boundary p (view t) ≡ between (tableOf t) p (setBefore (runsOf t) p) (setAt (runsOf t) p)
+  -- so positions with one set have the anchors of the boundary that they begin at
+  run-on : (p n s : ℕ) → 0 < n → ((q : ℕ) → p ≤ q → q < p + n → bits q ≡ s) → boundaries p n v ≡ between ms p (bitsBefore bits p) s
+  unfolding boundaries
+  run-on p n s some h =
+      let e : n ≡ suc (n - 1) = omega arith in
+      ap (λ k. boundaries p k v) e
+      ∙ ap₂ (λ (xs ys : List Anchor). xs ++ ys)
+      (boundary-on p ∙ ap (between ms p (bitsBefore bits p)) (h p (omega arith) (omega arith)))
+      (flat p (n - 1) s (λ q a b. h q a (omega arith)))
+      ∙ append-nil _
+
+  -- behind those before them
+  pub run-more : (p n s : ℕ) → 0 < n → ((q : ℕ) → p ≤ q → q < p + n → bits q ≡ s) → boundaries 0 (p + n) v ≡ boundaries 0 p v ++ between ms p (bitsBefore bits p) s
+  run-more p n s some h = split-first p n v ∙ ap (λ (xs : List Anchor). boundaries 0 p v ++ xs) (run-on p n s some h)
+
+  -- and the bits before the next boundary are theirs
+  pub run-before : (p n s : ℕ) → 0 < n → ((q : ℕ) → p ≤ q → q < p + n → bits q ≡ s) → s ≡ bitsBefore bits (p + n)
+  run-before p n s some h = let e : p + n ≡ suc (p + n - 1) = omega arith in rw e (sym (h (p + n - 1) (omega arith) (omega arith)))
+
+  -- what the last of them carry ends behind them
+  pub anchors-end : (l : ℕ) → l ≡ v .length → anchors v ≡ boundaries 0 l v ++ between ms l (bitsBefore bits l) 0
+  unfolding anchors boundaries
+  anchors-end l is =
+      let e : suc (v .length) ≡ l + 1 = omega arith in
+      ap (λ n. boundaries 0 n v) e ∙ split-first l 1 v
+      ∙ ap (λ (xs : List Anchor). boundaries 0 l v ++ xs)
+      (append-nil _ ∙ boundary-on l ∙ ap (between ms l (bitsBefore bits l)) (by .none-past l (omega arith)))
+
+-- runs over a table, of whatever length they sum to
+pub runs-by : (touched : Bool) (l : ℕ) (ms : List Mark) (rs : List Run) → Sorted ms → l ≡ total rs → ByBits ms (setAt rs) (viewOf touched l ms rs)
+runs-by touched l ms rs sorted sum = record { sorted = sorted; carried = λ p. refl; none-past = λ p h. at-past rs p (omega (arith, sum)) }
+
+laid-by : {t : Tank} → Laid t → ByBits (tableOf t) (setAt (runsOf t)) (view t)
 unfolding view
-boundary-is {t} f p = boundary-on (t .touched) (t .length) (tableOf t) (runsOf t) (f .sorted) (f .sum) p
+laid-by {t} f = runs-by (t .touched) (t .length) (tableOf t) (runsOf t) (f .sorted) (f .sum)
+
+pub boundary-is : {t : Tank} → Laid t → (p : ℕ) → boundary p (view t) ≡ between (tableOf t) p (setBefore (runsOf t) p) (setAt (runsOf t) p)
+boundary-is f p = boundary-on (laid-by f) p
 
 -- ---- runs in joined form
 module _ (lens sets : List ℕ) where
@@ -185,7 +225,7 @@ module _ {t : Tank} (f : Laid t) (k p : ℕ) (in-runs : k < t .runs) (at-is : p 
       ap (λ n. boundaries (suc p) n (view t)) e
       ∙ split (suc p) (l - 1) (suc (t .length - (p + l))) (view t)
       ∙ ap₂ (λ (xs : List Anchor) q. xs ++ boundaries q (suc (t .length - (p + l))) (view t))
-      (flat (t .touched) (t .length) (tableOf t) (runsOf t) (f .sorted) (f .sum) p (l - 1) _ (λ q a b. here q a (omega (arith, run-some)))) g
+      (flat (laid-by f) p (l - 1) _ (λ q a b. here q a (omega (arith, run-some)))) g
       ∙ ap (λ (l′ : List Anchor). l′ ++ boundaries (suc (p + l)) (t .length - (p + l)) (view t)) at-next
 
   -- where a run begins at the next boundary, it has an anchor

@@ -118,12 +118,19 @@ ones-some : (n s : ℕ) → s < 2 ^ n → ones s ≡ 0 → s ≡ 0
 ones-some zero s h e = omega arith
 ones-some (suc n) s h e = omega (arith, ones-step s, ones-some n (s / 2) (half-less n s h) (omega (arith, ones-step s)))
 
+-- the lowest bit of one that is not empty is one of its bits
+pub lowest-in : (n s : ℕ) → n ≤ 64 → s < 2 ^ n → 0 < s → trailingZeros 64 s < n
+lowest-in n s few inside has =
+    lowest-less n 64 s few inside (elim (decLt 0 (ones s)) [ yes k ↦ k | no k ↦ absurd (omega (arith, ones-some n s inside (omega arith))) ])
+
+-- of a set over a whole table the lowest bit's mark comes first
+pub first-taken : (ms : List Mark) (s i : ℕ) → length ms ≡ 64 → s < 2 ^ 64 → 0 < s → i ≡ trailingZeros 64 s → pick ms s ≡ getD ms i blank ∷ pick ms (withoutBit i s)
+first-taken ms s i long small some e = rw e (pick-first 64 ms s blank (omega arith) (omega (arith, lowest-in 64 s (omega arith) small some)))
+
 module _ {t : Tank} (f : Laid t) (s : ℕ) (inside : s < 2 ^ t .marks) (has : 0 < s) where
   -- the lowest bit is one of the table's marks
   pub lowest-mark : trailingZeros 64 s < t .marks
-  lowest-mark =
-      lowest-less (t .marks) 64 s (f .few) inside
-      (elim (decLt 0 (ones s)) [ yes k ↦ k | no k ↦ absurd (omega (arith, ones-some (t .marks) s inside (omega arith))) ])
+  lowest-mark = lowest-in (t .marks) s (f .few) inside has
 
   pub mark-64 : (i : ℕ) → i ≡ trailingZeros 64 s → i < 64
   mark-64 i e = let l = f .few in omega (arith, lowest-mark)

@@ -8,7 +8,7 @@ use lib.ListN.{length}
 use Rattle.styles.specs.declared.Mark.{Mark}
 use Rattle.styles.specs.Order.{idOf}
 use Rattle.styles.specs.Marks.{member, only}
-use Rattle.styles.specs.Bits.{pick}
+use Rattle.styles.specs.Bits.{pick, lackingBits}
 use Rattle.runs.specs.Runs.{runs, total}
 use Rattle.tank.specs.declared.Tank.{Tank}
 use Rattle.lists.specs.declared.Listed.{Listed}
@@ -69,6 +69,11 @@ anchorsAfter lower room v = listRefusal lower room (length (anchors v))
 -- and where no lower one is given
 abbrev pub anchorsNumber : ℕ → View → ℕ
 anchorsNumber = anchorsAfter 0
+
+-- ---- By bits
+-- what a boundary has between a set of bits and the next, over a table
+abbrev pub between : List Mark → ℕ → ℕ → ℕ → List Anchor
+between ms p x y = anchorsOf (p - 1) End (pick ms (lackingBits x y)) ++ anchorsOf p Start (pick ms (lackingBits y x))
 
 -- ---- The cursor
 -- what a look past the last anchor shows

@@ -10,6 +10,7 @@ ghost use Rattle.runs.specs.Stretches.{inFront};
 ghost use Rattle.tank.specs.State.{view, Sound};
 use super::Listed;
 use richtext::AnchorType;
+use styles::Mark;
 use tank::Tank;
 
 // A position, the side, and the mark's identity.
@@ -37,7 +38,7 @@ pub enum NextAnchor {
 }
 
 // The bits of a set that another lacks.
-fn lacking(set: u64, other: u64) -> u64
+pub fn lacking(set: u64, other: u64) -> u64
     ensures { λ r. ⌜ r ≡ lackingBits set other ⌝ }
 {
     set - (set & other)
@@ -89,12 +90,10 @@ fn settled(t: Tank, c: AnchorCursor) -> AnchorCursor
     following(t, c)
 }
 
-// The anchor of mark i of the table.
-fn anchor_of(t: Tank, at: u64, side: AnchorType, i: usize) -> Anchor
-    requires { ⌜ i < 64 ⌝ }
-    ensures { λ r. ⌜ r ≡ anchorOf at side (getD (t .table) i blank) ⌝ }
+// The anchor of a mark.
+pub fn mark_anchor(at: u64, side: AnchorType, m: Mark) -> Anchor
+    ensures { λ r. ⌜ r ≡ anchorOf at side m ⌝ }
 {
-    let m = t.table[i];
     Anchor {
         at: at,
         side: side,
@@ -102,6 +101,14 @@ fn anchor_of(t: Tank, at: u64, side: AnchorType, i: usize) -> Anchor
         lamport: m.lamport,
         peer: m.peer,
     }
+}
+
+// The anchor of mark i of the table.
+fn anchor_of(t: Tank, at: u64, side: AnchorType, i: usize) -> Anchor
+    requires { ⌜ i < 64 ⌝ }
+    ensures { λ r. ⌜ r ≡ anchorOf at side (getD (t .table) i blank) ⌝ }
+{
+    mark_anchor(at, side, t.table[i])
 }
 
 // The anchor that comes next and a cursor for those after it; ends come before starts, and each by its lowest bit.

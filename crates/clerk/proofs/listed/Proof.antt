@@ -1,4 +1,4 @@
--- By the op: a list of one tank's stretches is not made here.
+-- By the op: a list of one tank is not made here.
 use mathlib.Core.Path.{refl}
 use borrow.Author.Needs.{needs}
 use Rattle.clerk.specs.Calls.{listingSays, listingKind}
@@ -23,7 +23,8 @@ unfolding listingKind
 returns-4 c = no-list-look (c .enum-told4 .given .1) refl (c .before .before .before .before .pre .0 .1)
 
 returns-5 : tie.Need-returns-5
-returns-5 c = as-listed _ _ _ (c .before .before .before .before .enum-told5 .given .1) (c .before .before .anchors .ensures)
+unfolding listingKind
+returns-5 c = no-list-look (c .enum-told5 .given .1) refl (c .before .before .before .before .pre .0 .1)
 
 returns-6 : tie.Need-returns-6
 unfolding listingSays
@@ -34,4 +35,4 @@ unfolding listingSays
 returns-7 c = as-listed _ _ _ (c .before .before .before .before .enum-told7 .given .1) (c .before .before .save-needed .ensures)
 
 pub listed-spec : {M : Type 1} → statement M
-listed-spec = tie.close (tie.spec (λ c. search needs) (λ c. search needs) (λ c. search needs) (λ c. search needs) (λ c. search needs) (λ c κs. search needs) (λ c. search needs) (λ c. search needs) (λ c κs. search needs) (λ c. search needs) (λ c κs. search needs) returns returns-2 returns-3 returns-4 (λ c. search needs) returns-5 (λ c. search needs) returns-6 (λ c. search needs) returns-7)
+listed-spec = tie.close (tie.spec (λ c. search needs) (λ c. search needs) (λ c. search needs) (λ c. search needs) (λ c. search needs) (λ c. search needs) (λ c. search needs) (λ c κs. search needs) (λ c. search needs) (λ c κs. search needs) returns returns-2 returns-3 returns-4 returns-5 (λ c. search needs) returns-6 (λ c. search needs) returns-7)
