@@ -1,7 +1,9 @@
 // The four edits of one tank: the one that a call asks for, and its answer. The edit itself is made where the state stands, in `eat`.
 ghost use mathlib.Core.Path.{_≡_};
-ghost use Prim.Native.Nat.{_≤_};
-ghost use lib.ListN.{length};
+ghost use Prim.Native.Nat.{_≤_, _<_, _^_};
+ghost use lib.ListN.{length, take};
+ghost use Rattle.styles.specs.Answers.{stylesOf};
+ghost use Rattle.styles.specs.Bits.{pick};
 ghost use Rattle.answers.specs.Waiting.{Adds, pieceRoom};
 ghost use Rattle.clerk.specs.Calls.{changeKind, editSays};
 use super::Kind;
@@ -11,8 +13,9 @@ use answers::set_or;
 use script::Call;
 use script::Change;
 use styles::Party;
-use styles::Styles;
 use tanks::Edit;
+use tanks::Head;
+use tanks::Table;
 
 // Which of the four a call by a party is, with the numbers that were read.
 pub fn change_kind(e: Change, who: Party, call: Call) -> Kind
@@ -29,21 +32,32 @@ pub fn change_kind(e: Change, who: Party, call: Call) -> Kind
     }
 }
 
-// The answer to an edit, from what it handed back.
+// The answer to an edit, from what it handed back; what an insertion shows are bits of the tank's table before it.
 pub fn answered(
     edit: Edit,
+    h: Head,
+    table: Table,
     number: u64,
-    styles: Styles,
+    shown: u64,
     first: u64,
     out: &mut [u8],
     at: usize,
 ) -> usize
+    requires { ⌜ (h .marks ≤ 64) × (shown < 2 ^ h .marks) ⌝ }
     requires { ⌜ pieceRoom ≤ length (now out) ⌝ }
-    ensures { λ k. ⌜ Adds (now (out .entry)) at (editSays edit number styles first) k (now (out .exit)) ⌝ }
+    ensures { λ k. ⌜ Adds (now (out .entry)) at (editSays edit number (stylesOf (pick (take (h .marks) (table .marks)) shown)) first) k (now (out .exit)) ⌝ }
 {
     match edit {
         Edit::Annotate(_, _, _) => accept(out, at, number),
-        Edit::Insert(_, _, _) => set_or(out, at, number, styles),
+        Edit::Insert(_, _, _) => {
+            let marks = table.marks;
+            set_or(
+                out,
+                at,
+                number,
+                styles::table::styles_of(marks, h.marks, shown),
+            )
+        }
         Edit::Delete(_, _, _) => accept(out, at, number),
         Edit::Remove(_, _) => first_or(out, at, number, first),
     }

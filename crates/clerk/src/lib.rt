@@ -436,8 +436,8 @@ pub fn eat(bytes: &[u8], s: Tanks, stand: Stand, body: &mut [u8], out: &mut [u8]
                         tanks.heads[u] = head;
                         let marks = p.table;
                         tanks.tables[u] = marks;
-                        let styles = p.styles;
-                        at = editing::answered(edit, p.number, styles, p.first, out, at);
+                        let h = heads[u];
+                        at = editing::answered(edit, h, table, p.number, p.shown, p.first, out, at);
                     }
                     Kind::Other => {
                         let size = t.size;
