@@ -21,7 +21,6 @@ use Rattle.runs.proofs.Laws.{at-past, total-more, total-mono}
 use Rattle.runs.proofs.ScanLaws.{at-run}
 use Rattle.tank.specs.declared.Tank.{Tank}
 use Rattle.lists.specs.declared.anchors.Anchor.{Anchor}
-use Rattle.richtext.specs.declared.AnchorType.the-variants.{Start, End}
 use Rattle.tank.specs.Rules.{View}
 use Rattle.tank.specs.State.{runsOf, tableOf, viewOf, view, Laid}
 use Rattle.tank.proofs.Counted.{at-inside}

@@ -2,12 +2,12 @@
 use Prim.Native.Nat.{ℕ, zero, suc, _+_, _-_, _<_}
 use mathlib.Core.Path.{_≡_, refl, ap, ap₂, _∙_}
 use mathlib.Core.Bool.{Bool}
-use mathlib.Core.List.{List, [], _∷_, _++_, append-nil}
+use mathlib.Core.List.{List, [], _∷_, _++_}
 use native.Mathlib.Omega.{arith}
 use Rattle.styles.specs.declared.Mark.{Mark}
 use Rattle.styles.specs.Marks.{Sorted}
 use Rattle.runs.specs.Runs.{Run, total, setAt, Canon}
-use Rattle.runs.proofs.Laws.{at-in, at-last, at-past}
+use Rattle.runs.proofs.Laws.{at-in, at-last}
 use Rattle.tank.specs.Rules.{View}
 use Rattle.tank.specs.State.{viewOf}
 use Rattle.lists.specs.declared.anchors.Anchor.{Anchor}

@@ -1,5 +1,5 @@
 -- `changes` meets its contract: the bits on either side are counted.
-use mathlib.Core.Path.{ap, _∙_}
+use mathlib.Core.Path.{ap}
 use lib.Count.{ones}
 use native.Mathlib.Omega.{arith}
 use borrow.Author.Needs.{needs}
