@@ -11,7 +11,7 @@ use Rattle.clerk.specs.Desk.{Settled}
 use Rattle.script.specs.Bodies.{Fits}
 use Rattle.tanks.specs.Contracts.{doneWith}
 use Rattle.tanks.specs.Pool.{Sound}
-use Rattle.tanks.proofs.PartsLaws.{parts-some, parts-back}
+use Rattle.tanks.proofs.PartsLaws.{parts-some, parts-back, parts-shown}
 use borrow.Author.Needs.{needs}
 use lib.ListN.{length, drop}
 use lib.Seq.{length-take-le}
@@ -101,7 +101,14 @@ edit-parts-requires c κs =
     parts-some (w .tanks) (tankFor (c .before .before .before .before .before .before .before .before .before .before .before .before .before .before .before .before .take .result .call)) (u .place2 .result) (u .place2 .ensures .0) (w .inv .3)
 
 answered-requires : tie.Need-answered-requires Inv-loop μ-loop
-answered-requires c κs = omega (arith, c .before .before .before .before .before .before .before .before .before .before .before .before .before .before .before .before .before .before .before .before .before .before .before .before .before .before .before .before .before .before .before .pre .1 .1, c .before .before .before .before .before .before .before .before .before .before .before .before .before .before .before .before .before .before .before .before .before .before .before .before .before .loop .inv .2)
+answered-requires c κs =
+    let d = c .before .before .before .before .before in
+    let u = d .before .before .before .before .before in
+    let k = u .before .before .before .before .before .before .before .before .before in
+    let w = k .before .before .before .before .before .before .loop in (
+      parts-shown (w .tanks) (tankFor (k .before .before .before .take .result .call)) (u .place2 .result) (u .place2 .ensures .0) (w .inv .3) _ (d .edit-parts .result) (d .edit-parts .ensures),
+      omega (arith, c .before .before .before .before .before .before .before .before .before .before .before .before .before .before .before .before .before .before .before .before .before .before .before .before .before .before .before .before .before .before .before .pre .1 .1, c .before .before .before .before .before .before .before .before .before .before .before .before .before .before .before .before .before .before .before .before .before .before .before .before .before .loop .inv .2),
+    )
 
 loop-again-4 : tie.Need-loop-again-4 Inv-loop μ-loop
 loop-again-4 c =
@@ -188,6 +195,8 @@ eat-spec =
     (λ c. search needs)
     (λ c. search needs)
     edit-parts-requires
+    (λ c. search needs)
+    (λ c. search needs)
     (λ c. search needs)
     (λ c. search needs)
     (λ c. search needs)
