@@ -5,7 +5,7 @@ use mathlib.Core.Path.{◌≡◌, refl, sym, ap, ap₂, ◌∙◌}
 use mathlib.Core.List.{List, [], ◌++◌, append-nil}
 use native.Mathlib.Omega.{arith}
 use native.Mathlib.Numerals.{add-one}
-use lib.Bits.{bit_and, and_zero_l, and_zero_r, and_le_r}
+use lib.Bits.{bit_and, and_zero_l, and_zero_r}
 use lib.Count.{ones}
 use lib.ListN.{length, get_or, take, length-append, length-map}
 use lib.Pow.{pow_pos}
@@ -20,6 +20,7 @@ use Rattle.runs.specs.Runs as runs
 use Rattle.runs.proofs.Laws.{at_past}
 use Rattle.runs.proofs.SumLaws.{sum_more}
 use Rattle.richtext.specs.declared.AnchorType.TheVariants.{Start, End}
+use Rattle.tank.proofs.Unique.{table_length}
 use Rattle.lists.specs.declared.anchors.Anchor.{Anchor}
 use Rattle.lists.specs.Anchors.{anchor_of, anchors_of, boundaries, anchors, between}
 use Rattle.lists.proofs.AnchorLaws.{between_same, bits_before, ByBits, run_more, run_before, anchors_end}
@@ -31,9 +32,17 @@ use Rattle.tanks.specs.Looks.{run_list, Stands, shown_in}
 use Rattle.tanks.proofs.LookLaws.{len_from, Walked, walk_begins, walk_on, can_walk, sorted_in, seen_marks, seen_small, shown_length}
 use Rattle.tanks.proofs.RangeLaws.{from_in, some_from, on_run, walked_all, total_in}
 use Rattle.tanks.proofs.ReachLaws.{bits_from}
-use Rattle.ask.specs.Records.{bits_at, bits_prior, changes_at, changes_in}
 
 -- ---- what the walk comes to
+-- the bits of a mask that the k-th run from a place on has
+abbrev pub bits_at : List Run → ℕ → ℕ → ℕ → ℕ
+bits_at pool at own k = bit_and (get_or pool (at + k) no_run).set own
+
+-- those of the run before it; before the first there is none
+unfoldable pub bits_prior : List Run → ℕ → ℕ → ℕ → ℕ
+bits_prior pool at own zero = 0
+bits_prior pool at own (suc k) = bits_at pool at own k
+
 pub prior_next : (pool : List Run) (at own k : ℕ) → bits_at pool at own k ≡ bits_prior pool at own (k + 1)
 unfolding bits_prior
 prior_next pool at own k = rw add-one
@@ -41,6 +50,10 @@ prior_next pool at own k = rw add-one
 pub prior_first : (pool : List Run) (at own : ℕ) → 0 ≡ bits_prior pool at own 0
 unfolding bits_prior
 prior_first pool at own = refl
+
+-- how many marks end or start where it begins
+abbrev pub changes_at : List Run → ℕ → ℕ → ℕ → ℕ
+changes_at pool at own k = ones (lacking_bits (bits_prior pool at own k) (bits_at pool at own k)) + ones (lacking_bits (bits_at pool at own k) (bits_prior pool at own k))
 
 -- the anchors where the first i runs begin, over a table
 unfoldable pub borders_to : List Mark → List Run → ℕ → ℕ → ℕ → List Anchor
@@ -189,49 +202,47 @@ module _ (ms : List Mark) (p x y : ℕ) where
   between_count : x < 2 ^ length ms → y < 2 ^ length ms → length (between ms p x y) ≡ ones (lacking_bits x y) + ones (lacking_bits y x)
   between_count a b = omega (arith, between_length, pick_length ms (lacking_bits x y) (omega arith), pick_length ms (lacking_bits y x) (omega arith))
 
-pub lack_nothing : (x : ℕ) → lacking_bits x 0 ≡ x
+lack_nothing : (x : ℕ) → lacking_bits x 0 ≡ x
 lack_nothing x = omega (arith, and_zero_r x)
 
-pub nothing_lacks : (x : ℕ) → lacking_bits 0 x ≡ 0
+nothing_lacks : (x : ℕ) → lacking_bits 0 x ≡ 0
 nothing_lacks x = omega arith
 
-module _ (ms : List Mark) (pool : List Run) (at own : ℕ) (small : own < 2 ^ length ms) where
-  bits_in : (k : ℕ) → bits_at pool at own k < 2 ^ length ms
-  bits_in k = omega (arith, and_le_r (get_or pool (at + k) no_run).set own)
+module _ {hs : List Head} {pool : List Run} {table : Table} {t : ℕ} (ok : Stands hs pool table t) (who : Party) {own : ℕ}
+    (m : MaskOf (is_of who) (marks_in hs table t) own) {at : ℕ} (e : at ≡ runs_below hs t) where
+  table_long : length (marks_in hs table t) ≡ (get_or hs t no_head).marks
+  unfolding tank_in
+  table_long = table_length ok.formed.laid
 
-  prior_in : (k : ℕ) → bits_prior pool at own k < 2 ^ length ms
-  unfolding bits_prior
-  prior_in zero = pow_pos (length ms)
-  prior_in (suc k) = bits_in k
-
-  borders_count : (i : ℕ) → length (borders_to ms pool at own i) ≡ sum_below (changes_at pool at own) i
+  borders_count : (i : ℕ) → i ≤ runs_in hs t → length (borders_to (marks_in hs table t) pool at own i) ≡ sum_below (changes_at pool at own) i
   unfolding sum_below borders_to
-  borders_count zero = refl
-  borders_count (suc i) =
+  borders_count zero h = refl
+  borders_count (suc i) h =
       let p = sum_below (len_from pool at) i in
       let x = bits_prior pool at own i in
       let y = bits_at pool at own i in
-      omega (arith, length-append (borders_to ms pool at own i) (between ms p x y), borders_count i, between_count ms p x y (prior_in i) (bits_in i))
+      omega (
+        arith,
+        length-append (borders_to (marks_in hs table t) pool at own i) (between (marks_in hs table t) p x y),
+        borders_count i (omega arith),
+        between_count (marks_in hs table t) p x y (rw table_long (prior_small ok who m e i (omega arith))) (rw table_long (at_small ok who m e i (omega arith))),
+      )
 
-  pub borders_long : (n p : ℕ) → length (borders_to ms pool at own n ++ between ms p (bits_prior pool at own n) 0) ≡ changes_in pool at own n
-  borders_long n p =
+  pub all_count : sum_below (changes_at pool at own) (runs_in hs t) + ones (bits_prior pool at own (runs_in hs t)) ≡ length (anchors (shown_in hs pool table t who))
+  all_count =
+      let n = runs_in hs t in
+      let p = sum_below (len_from pool at) n in
       let x = bits_prior pool at own n in
       omega (
         arith,
-        borders_count n,
-        length-append (borders_to ms pool at own n) (between ms p x 0),
-        between_count ms p x 0 (prior_in n) (pow_pos (length ms)),
+        borders_count n (omega arith),
+        ap length (all_borders ok who m e),
+        length-append (borders_to (marks_in hs table t) pool at own n) (between (marks_in hs table t) p x 0),
+        between_count (marks_in hs table t) p x 0 (rw table_long (prior_small ok who m e n (omega arith))) (rw table_long (pow_pos (get_or hs t no_head).marks)),
         ap ones (lack_nothing x),
         ap ones (nothing_lacks x),
         ones_none,
       )
-
--- of a tank's runs they are its anchors
-pub all_count : {hs : List Head} {pool : List Run} {table : Table} {t : ℕ} → Stands hs pool table t → (who : Party) {own : ℕ} → MaskOf (is_of who) (marks_in hs table t) own
-    → {at : ℕ} → at ≡ runs_below hs t → changes_in pool at own (runs_in hs t) ≡ length (anchors (shown_in hs pool table t who))
-all_count {hs} {pool} {table} {t} ok who {own} m {at} e =
-    let n = runs_in hs t in
-    sym (borders_long (marks_in hs table t) pool at own m.past n (sum_below (len_from pool at) n)) ∙ sym (ap length (all_borders ok who m e))
 
 -- ---- a walk that counts
 -- of n runs i are passed, behind the bits `last`, with so many changes
@@ -242,9 +253,16 @@ pub record Tally (pool : List Run) (at n own i last count : ℕ) : Type 0 where
   pub sum : count ≡ sum_below (changes_at pool at own) i
   pub few : count ≤ 128 * i
 
-pub tally_begins : (pool : List Run) (at n own : ℕ) → at + n ≤ 512 → Tally pool at n own 0 0 0
+pub tally_begins : {hs : List Head} {pool : List Run} {table : Table} {t at : ℕ} → Stands hs pool table t → at ≡ runs_below hs t → (own : ℕ) → Tally pool at (runs_in hs t) own 0 0 0
 unfolding sum_below
-tally_begins pool at n own inside = record { within = omega arith; inside = inside; prior = prior_first pool at own; sum = refl; few = omega arith }
+tally_begins {hs} {pool} {table} {t} {at} ok e own =
+    record {
+      within = omega arith;
+      inside = (walk_begins hs pool t (can_walk ok) e).inside;
+      prior = prior_first pool at own;
+      sum = refl;
+      few = omega arith;
+    }
 
 pub tally_on : {pool : List Run} {at n own i last count more : ℕ} → Tally pool at n own i last count → i < n
     → (more ≡ ones (lacking_bits last (bits_at pool at own i)) + ones (lacking_bits (bits_at pool at own i) last)) × (more ≤ 128)
@@ -266,8 +284,17 @@ tally_on {pool} {at} {n} {own} {i} {last} {count} {more} w h k =
       few = omega (arith, k.1);
     }
 
-pub tally_all : {pool : List Run} {at n own i last count more : ℕ} → Tally pool at n own i last count → n ≤ i → more ≡ ones last → count + more ≡ changes_in pool at own n
-tally_all {pool} {at} {n} {own} {i} {last} {count} {more} w h k =
+pub tally_all : {hs : List Head} {pool : List Run} {table : Table} {t : ℕ} → Stands hs pool table t → (who : Party) {own : ℕ} → MaskOf (is_of who) (marks_in hs table t) own
+    → {at i last count more : ℕ} → at ≡ runs_below hs t → Tally pool at (runs_in hs t) own i last count → runs_in hs t ≤ i → more ≡ ones last
+    → count + more ≡ length (anchors (shown_in hs pool table t who))
+tally_all {hs} {pool} {table} {t} ok who {own} m {at} {i} {last} {count} {more} e w h k =
     let within = w.within in
-    let z : i ≡ n = omega arith in
-    omega (arith, w.sum, k, ap ones w.prior, ap (changes_in pool at own) z)
+    let z : i ≡ runs_in hs t = omega arith in
+    omega (
+      arith,
+      w.sum,
+      k,
+      ap ones w.prior,
+      ap (λ (j : ℕ). sum_below (changes_at pool at own) j + ones (bits_prior pool at own j)) z,
+      all_count ok who m e,
+    )

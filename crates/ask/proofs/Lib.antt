@@ -2,8 +2,6 @@ pub mod AskLaws
 pub mod Standing
 pub mod WindowLaws
 pub mod Borders
-pub mod RecordLaws
-pub mod Leaves
 pub mod Most
 pub mod Ranges
 pub mod Examples

@@ -1,5 +1,5 @@
 -- A party's question of one of eight tanks: document 01's of what it is shown, or refusal 1 where there is no such tank.
-use Rattle.std.specs.Prelude.{ℕ, false, cond, []}
+use Rattle.std.specs.Prelude.{ℕ, ◌≡◌, false, cond, []}
 use Rattle.styles.specs.declared.Party.{Party}
 use Rattle.styles.specs.declared.Value.{Value}
 use Rattle.questions.specs.declared.Asked.{Asked}
@@ -13,11 +13,20 @@ use Rattle.lists.specs.declared.Listed.{Listed}
 use Rattle.lists.specs.Lists.{range_needed, whole_needed, filled_beside}
 use Rattle.lists.specs.Anchors.{anchors_needed}
 use Rattle.tank.specs.Rules.{View}
+use Rattle.tank.specs.declared.Tank.{Tank}
+use Rattle.tank.specs.State.{view, Sound}
+use Rattle.tanks.specs.declared.Tanks.{Tanks}
 use Rattle.tanks.specs.House.{House, no_tank, shown_at}
+use Rattle.tanks.specs.Pool.{meaning}
 
 -- of a tank that there is, what the question says of what the party is shown of it; of no such tank (refusal 1), what is handed in for that
 abbrev pub ask_at : {R : Type 0} → House → ℕ → Party → R → (View → R) → R
 ask_at h t who refused asks = cond (no_tank t) refused (asks (shown_at h who t))
+
+-- what a party is shown of tank t, as a tank by itself
+pub record ShownIn (s : Tanks) (t : ℕ) (who : Party) (x : Tank) : Type 0 where
+  pub is : view x ≡ shown_at (meaning s) who t
+  pub sound : Sound x
 
 -- ---- Questions
 -- the value shown for a key at a position

@@ -1,4 +1,3 @@
 pub mod Asks
 pub mod Parts
 pub mod Examples
-pub mod Records

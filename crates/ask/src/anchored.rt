@@ -7,7 +7,6 @@ ghost use Rattle.lists.specs.Anchors.{anchors, anchors_needed};
 ghost use Rattle.tanks.specs.Looks.{Stands, shown_in};
 ghost use Rattle.ask.specs.Asks.{no_list};
 ghost use Rattle.ask.specs.Parts.{CanAsk, ask_in};
-ghost use Rattle.ask.specs.Records.{changes_in};
 
 use super::{counted, no_list};
 use lists::Listed;
@@ -22,12 +21,15 @@ fn changes(before: u64, behind: u64) -> usize
     bits::count(lacking(before, behind)) + bits::count(lacking(behind, before))
 }
 
-// How many anchors n runs have from a place of the pool on, of the marks of a mask. Where two runs have the same of its bits, the boundary between them
-// has none.
-pub(crate) fn count_from(pool: [Run; 512], at: usize, n: usize, own: u64) -> usize
-    requires { at + n ≤ 512 }
-    ensures { result ≡ changes_in pool at own n }
+// How many anchors a tank that is there has. Where two runs have the same of the party's bits, the boundary between them has none.
+fn count_in(heads: [Head; 8], pool: [Run; 512], table: Table, t: usize, who: Party) -> usize
+    requires { Stands heads pool table t }
+    ensures { result ≡ length (anchors (shown_in heads pool table t who)) }
 {
+    let own = look::own_bits(heads, table, t, who);
+    let at = pool::start(heads, t);
+    let h = heads[t];
+    let n = h.runs;
     let mut i = 0;
     let mut last: u64 = 0;
     let mut count = 0;
@@ -39,17 +41,6 @@ pub(crate) fn count_from(pool: [Run; 512], at: usize, n: usize, own: u64) -> usi
         i += 1;
     }
     count + bits::count(last)
-}
-
-// How many anchors a tank that is there has.
-fn count_in(heads: [Head; 8], pool: [Run; 512], table: Table, t: usize, who: Party) -> usize
-    requires { Stands heads pool table t }
-    ensures { result ≡ length (anchors (shown_in heads pool table t who)) }
-{
-    let own = look::own_bits(heads, table, t, who);
-    let at = pool::start(heads, t);
-    let h = heads[t];
-    count_from(pool, at, h.runs, own)
 }
 
 // How many anchors the tank has.

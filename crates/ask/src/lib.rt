@@ -3,7 +3,6 @@ pub mod parts; // parts.rt: questions of one tank, on the parts of a state that 
 pub mod listed; // listed.rt: lists of one tank, likewise
 pub mod windowed; // windowed.rt: what shows in equal windows over one tank, likewise
 pub mod anchored; // anchored.rt: how many anchors it has, likewise
-mod records; // records.rt: its anchors as records
 
 ghost use Rattle.std.specs.Prelude.{◌≡◌, [], length};
 ghost use Rattle.lists.specs.Lists.{range_list, whole_list, range_number, whole_number, unless_refused, filled_beside};
@@ -12,12 +11,13 @@ ghost use Rattle.lists.specs.Anchors.{anchors, anchors_number};
 ghost use Rattle.windows.specs.Windows.{windows};
 ghost use Rattle.tanks.specs.House.{ask_number};
 ghost use Rattle.tanks.specs.Pool.{meaning, Sound};
-ghost use Rattle.ask.specs.Asks.{ask_at, no_list, value_asked, marks_asked, mark_asked, stretch_asked, inherit_asked, inherited_asked, key_asked, all_value_asked, same_asked, range_needed_asked, whole_needed_asked, anchors_needed_asked};
+ghost use Rattle.ask.specs.Asks.{ask_at, ShownIn, no_list, value_asked, marks_asked, mark_asked, stretch_asked, inherit_asked, inherited_asked, key_asked, all_value_asked, same_asked, range_needed_asked, whole_needed_asked, anchors_needed_asked};
 
 use lists::Listed;
 use lists::anchors::Anchor;
 use questions::{Asked, Extent, SetAsked, Shared, Shown, Told};
 use styles::{Party, Value};
+use tank::Tank;
 use tanks::Tanks;
 
 // A tank's number, and the party that asks.
@@ -25,6 +25,19 @@ use tanks::Tanks;
 pub struct Spot {
     pub tank: u64,
     pub who: Party,
+}
+
+// What a party is shown of the tank; where there is no such tank, of a fresh one. A tank that the other party has no mark in is handed on without
+// another copy.
+pub fn shown(s: Tanks, tank: u64, who: Party) -> Tank
+    requires { Sound s }
+    ensures { ShownIn s tank who result }
+{
+    let t = s.take(tank as usize);
+    if t.shared(who) {
+        return t.only(who);
+    }
+    t
 }
 
 // The value shown for a key at a position. As in all questions that are asked of the parts, the tank is read where it stands; and the tables are taken
@@ -287,12 +300,21 @@ fn missing(spot: Spot) -> u64
     0
 }
 
+// What the party is shown of the tank; where there is no such tank, a fresh one, whose list is then refused.
+fn own(s: Tanks, spot: Spot) -> Tank
+    requires { Sound s }
+    ensures { ShownIn s spot.tank spot.who result }
+{
+    let who = spot.who;
+    shown(s, spot.tank, who)
+}
+
 // The anchors of the party's marks, at the front of `out`. Records past the count stay; a refusal writes nothing.
 pub fn iter_anchors(s: Tanks, spot: Spot, out: &mut [Anchor]) -> Listed
     requires { Sound s }
     ensures { (result ≡ ask_at (meaning s) spot.tank spot.who no_list (λ v. filled_beside (anchors_number (length out.old) v) (anchors v))) × (out.new ≡ ask_at (meaning s) spot.tank spot.who out.old (λ v. in_front (unless_refused (anchors_number (length out.old) v) (anchors v)) out.old)) }
 {
-    let place = records::placed(s, spot);
+    let t = own(s, spot);
     let number = missing(spot);
-    records::iter_anchors(place, number, out)
+    lists::anchors::iter_anchors(t, number, out)
 }

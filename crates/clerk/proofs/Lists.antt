@@ -21,7 +21,7 @@ use Rattle.lists.specs.declared.Listed.{Listed}
 use Rattle.lists.specs.declared.anchors.Anchor.{Anchor}
 use Rattle.lists.specs.Lists.{range_list, whole_list, range_refusal, list_refusal, range_number, whole_number, unless_refused, filled_beside}
 use Rattle.lists.specs.Anchors.{anchor_of, anchors_of, anchors, anchors_needed, anchors_number, between}
-use Rattle.lists.proofs.AnchorLaws.{first_taken}
+use Rattle.lists.proofs.CursorLaws.{first_taken}
 use Rattle.lists.proofs.ListLaws.{empty_list, handed_part, handed_count}
 use Rattle.runs.proofs.SumLaws.{sum_next}
 use Rattle.tank.specs.Rules.{View, runs_held}

@@ -1,26 +1,24 @@
--- A turn of the loops over eight, what the pool has left by the heads, a tank's row by its head and its table, the cells of a strip that nothing refuses, and the legend by its cases.
+-- A turn of the loops over eight, what the pool has left by the heads, the cells of a strip that nothing refuses, and the legend by its cases.
 use Prim.Native.Nat.{ℕ, suc, ◌+◌, ◌-◌, ◌*◌, ◌%◌, ◌^◌, ◌≤◌, ◌<◌}
 use mathlib.Core.Path.{◌≡◌, refl, sym, ap, ◌∙◌}
 use mathlib.Core.Bool.{Bool, cond}
 use mathlib.Core.List.{List, [], ◌++◌}
 use native.Mathlib.Omega.{arith}
 use lib.Dec.{ltb}
-use lib.ListN.{length, get_or}
+use lib.ListN.{length}
 use borrow.Author.Tests.{lt-ltb, le-ltb, ne_eqb}
 use Rattle.tank.specs.Rules.{View, when_accepted}
 use Rattle.tanks.specs.declared.Tanks.{Tanks}
-use Rattle.tank.specs.State.{view}
-use Rattle.tanks.specs.Settings.{no_setting, claims}
-use Rattle.tanks.specs.House.{tank_at, held}
-use Rattle.tanks.specs.Pool.{no_head, runs_in, tank_in, tank_of, meaning, Sound}
+use Rattle.tanks.specs.Settings.{claims}
+use Rattle.tanks.specs.House.{held}
+use Rattle.tanks.specs.Pool.{runs_in, meaning, Sound}
 use Rattle.tanks.proofs.SettingLaws.{claims_cong}
-use Rattle.tanks.proofs.MeaningLaws.{tank_at_lem, held_is}
+use Rattle.tanks.proofs.MeaningLaws.{held_is}
 use Rattle.runs.specs.Stretches.{in_front}
 use Rattle.strip.specs.Strip.{strip, strip_number}
 use Rattle.strip.proofs.StripLaws.{number_0, strip_whole}
 use Rattle.answers.specs.Waiting.{Pieces}
-use Rattle.key_legend.proofs.Lowest.{marks_in, marks_there}
-use Rattle.glance.specs.Glance.{each_from, left_in, row_front, row_marks, row_end, row_at, cell_of, line_begins, is_no_key}
+use Rattle.glance.specs.Glance.{each_from, left_in, cell_of, line_begins, is_no_key}
 
 -- ---- eight, one after another
 -- one more
@@ -40,27 +38,6 @@ each_none says t h = let e : 8 - t ≡ 0 = omega arith in ap (λ (n : ℕ). each
 pub left_is : (s : Tanks) → Sound s → 512 - claims s.settings (runs_in s.heads) 8 ≡ left_in (meaning s)
 unfolding meaning
 left_is s ok = sym (ap (λ (n : ℕ). 512 - n) (claims_cong s.settings (held (meaning s)) (runs_in s.heads) 8 (held_is s ok)))
-
--- ---- a row, by the tank's head and its table
-module _ (s : Tanks) (ok : Sound s) (t : ℕ) (h : t < 8) where
-  touched_there : (get_or s.heads t no_head).touched ≡ (tank_at (meaning s) t).touched
-  unfolding tank_of tank_in view
-  touched_there = sym (ap (λ (v : View). v.touched) (tank_at_lem s t h))
-
-  length_there : (get_or s.heads t no_head).length ≡ (tank_at (meaning s) t).length
-  unfolding tank_of tank_in view
-  length_there = sym (ap (λ (v : View). v.length) (tank_at_lem s t h))
-
-  pub row_there : {n : ℕ} → n ≡ t
-      → row_front n (get_or s.settings t no_setting) (runs_in s.heads t)
-      ++ row_marks (marks_in s.heads s.tables t)
-      ++ row_end (get_or s.heads t no_head).touched (get_or s.heads t no_head).length
-      ≡ row_at (meaning s) t
-  unfolding meaning
-  row_there e =
-      λ i. row_front (e i) (get_or s.settings t no_setting) (sym (held_is s ok t h) i)
-      ++ row_marks (marks_there s ok t h i)
-      ++ row_end (touched_there i) (length_there i)
 
 -- ---- the cells
 -- of a tank that there is, with positions in a cell, 96 bytes are the strip

@@ -1,14 +1,16 @@
 // The top line and the table: a row of numbers for each tank.
-ghost use Rattle.std.specs.Prelude.{[], ◌∷◌, ◌++◌, ◌≡◌, ◌≤◌, ◌<◌, length, take};
-ghost use Rattle.tank.specs.Rules.{marks_of};
+ghost use Rattle.std.specs.Prelude.{[], ◌∷◌, ◌≡◌, ◌≤◌, ◌<◌, length};
+ghost use Rattle.tank.specs.Rules.{carried, marks_of};
+ghost use Rattle.tank.specs.State as state;
 ghost use Rattle.tanks.specs.Pool.{Sound, meaning};
 ghost use Rattle.answers.specs.Waiting.{Adds, piece_room};
 ghost use Rattle.pen.specs.Pen.{right_text};
-ghost use Rattle.glance.specs.Glance.{left_in, top_says, touched_word, row_front, row_marks, row_end, row_at, table_says};
+ghost use Rattle.glance.specs.Glance.{left_in, top_says, touched_word, row_front, row_marks, row_end, row_says, row_at, table_says};
 
 use pen::{between, larger, say, say_number, say_right, say_word};
-use styles::{Mark, Party};
-use tanks::{Head, Setting, Tanks};
+use styles::Party;
+use tank::Tank;
+use tanks::{Setting, Tanks};
 
 // What the pool has left.
 fn left(s: Tanks) -> u64
@@ -40,12 +42,13 @@ pub fn top(s: Tanks, place: u64, out: &mut [u8], at: usize) -> usize
     say(out, b, b" of 512 runs left.\n\n")
 }
 
-// How many of the first n marks of a table a party has.
-fn marks_of(table: [Mark; 64], n: usize, who: Party) -> u64
-    requires { n ≤ 64 }
-    ensures { result ≡ marks_of who (take n table) }
+// How many marks a party has in a tank.
+fn marks_of(t: Tank, who: Party) -> u64
+    requires { state.Sound t }
+    ensures { result ≡ marks_of who (carried (state.view t)) }
 {
-    text::wide(styles::bits::count(styles::table::party_bits(table, n, who)))
+    let table = t.table;
+    text::wide(styles::bits::count(styles::table::party_bits(table, t.marks, who)))
 }
 
 // Touched or not, in its column.
@@ -71,12 +74,12 @@ fn row_front(out: &mut [u8], at: usize, number: u64, x: Setting, runs: u64) -> u
 }
 
 // Each party's marks.
-fn row_marks(out: &mut [u8], at: usize, table: [Mark; 64], n: usize) -> usize
-    requires { (n ≤ 64) × (piece_room ≤ length out.old) }
-    ensures { Adds out.old at (row_marks (take n table)) result out.new }
+fn row_marks(out: &mut [u8], at: usize, t: Tank) -> usize
+    requires { (state.Sound t) × (piece_room ≤ length out.old) }
+    ensures { Adds out.old at (row_marks (carried (state.view t))) result out.new }
 {
-    let a = say_right(out, at, marks_of(table, n, Party::Plant), 14);
-    say_right(out, a, marks_of(table, n, Party::Lab), 12)
+    let a = say_right(out, at, marks_of(t, Party::Plant), 14);
+    say_right(out, a, marks_of(t, Party::Lab), 12)
 }
 
 // The end of a row: whether the tank is touched, and its length.
@@ -89,27 +92,23 @@ fn row_end(out: &mut [u8], at: usize, touched: bool, len: u64) -> usize
     say(out, b, b"\n")
 }
 
-// A tank's row, by its head and its table.
-fn row(out: &mut [u8], at: usize, number: u64, x: Setting, h: Head, table: [Mark; 64]) -> usize
-    requires { (h.marks ≤ 64) × (piece_room ≤ length out.old) }
-    ensures { Adds out.old at (row_front number x h.runs ++ row_marks (take h.marks table) ++ row_end h.touched h.length) result out.new }
+// A tank's row.
+fn row(out: &mut [u8], at: usize, number: u64, x: Setting, t: Tank) -> usize
+    requires { (state.Sound t) × (piece_room ≤ length out.old) }
+    ensures { Adds out.old at (row_says number x (state.view t)) result out.new }
 {
-    let a = row_front(out, at, number, x, text::wide(h.runs));
-    let b = row_marks(out, a, table, h.marks);
-    row_end(out, b, h.touched, h.length)
+    let a = row_front(out, at, number, x, text::wide(t.runs));
+    let b = row_marks(out, a, t);
+    row_end(out, b, t.touched, t.length)
 }
 
-// The row of tank t. Its numbers stand in its head and its table: no run is copied for them.
+// The row of tank t.
 fn row_at(s: Tanks, t: usize, out: &mut [u8], at: usize) -> usize
     requires { (Sound s) × (t < 8) × (piece_room ≤ length out.old) }
     ensures { Adds out.old at (row_at (meaning s) t) result out.new }
 {
-    let settings = s.settings;
-    let heads = s.heads;
-    let tables = s.tables;
-    let table = tables[t];
-    let marks = table.marks;
-    row(out, at, text::wide(t), settings[t], heads[t], marks)
+    let x = s.settings[t];
+    row(out, at, text::wide(t), x, s.take(t))
 }
 
 // The head of the table, and eight rows.

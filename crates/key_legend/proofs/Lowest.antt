@@ -2,7 +2,7 @@
 use mathlib.Core.Path.{◌≡◌, refl, sym, ap, ap₂, ◌∙◌}
 use mathlib.Core.Bool.{true, false}
 use mathlib.Core.List.{List, [], ◌∷◌, ◌++◌, append_assoc, append-nil}
-use Prim.Native.Nat.{ℕ, zero, suc, ◌+◌, ◌-◌, ◌≤◌, ◌<◌, min}
+use Prim.Native.Nat.{ℕ, suc, ◌+◌, ◌-◌, ◌≤◌, ◌<◌, min}
 use native.Mathlib.Numerals.{add-one}
 use native.Mathlib.Omega.{arith}
 use lib.ListN.{length, get_or, take, set, length-set}
@@ -10,14 +10,11 @@ use lib.Seq.{take-suc, take_all, take-suc-set}
 use borrow.Author.Tests.{le-leb, lt-leb}
 use Rattle.styles.specs.declared.Mark.{Mark}
 use Rattle.styles.specs.Marks.{blank}
-use Rattle.tank.specs.Rules.{carried}
+use Rattle.tank.specs.declared.Tank.{Tank}
+use Rattle.tank.specs.Rules.{View}
+use Rattle.tank.specs.State as state
 use Rattle.tank.proofs.Unique.{marks_carried}
-use Rattle.tanks.specs.declared.Head.{Head}
-use Rattle.tanks.specs.declared.Table.{Table}
-use Rattle.tanks.specs.declared.Tanks.{Tanks}
 use Rattle.tanks.specs.House.{House, tank_at}
-use Rattle.tanks.specs.Pool.{no_head, no_table, tank_in, tank_of, meaning, Sound}
-use Rattle.tanks.proofs.MeaningLaws.{tank_at_lem}
 use Rattle.key_legend.specs.declared.Whose.{Whose}
 use Rattle.key_legend.specs.Keys.{no_key, is_for, key_from, lowest_of, first_in, first_below, first_key, next_key, keys_from, lowest_keys}
 
@@ -57,47 +54,24 @@ module _ (whose : Whose) (least : ℕ) where
       g ∙ ap₂ min f e
       ∙ sym (ap (λ (j : ℕ). lowest_of whose least (take j ms)) (add-one i) ∙ ap (lowest_of whose least) (take-suc ms i blank h) ∙ lowest_snoc (take i ms) (get_or ms i blank))
 
-  -- all marks of a table
-  pub lowest_all : (ms : List Mark) (i n first : ℕ) → i ≤ n → n ≤ i → first ≡ lowest_of whose least (take i ms) → first ≡ lowest_of whose least (take n ms)
-  lowest_all ms i n first a b e = let z : i ≡ n = omega arith in e ∙ ap (λ (j : ℕ). lowest_of whose least (take j ms)) z
+  -- all marks of a tank
+  pub lowest_all : (t : Tank) → state.Sound t → (first : ℕ) → first ≡ lowest_of whose least (state.table_of t) → first ≡ first_in whose least (state.view t)
+  unfolding first_in
+  lowest_all t s first e = e ∙ ap (lowest_of whose least) (sym (marks_carried s.formed))
 
 -- ---- tank by tank
--- the marks of tank t where they stand: as many of its table as its head says
-abbrev pub marks_in : List Head → List Table → ℕ → List Mark
-marks_in hs tables t = take (get_or hs t no_head).marks (get_or tables t no_table).marks
-
--- the lowest among those of the first n tanks
-unfoldable pub lowest_below : Whose → ℕ → List Head → List Table → ℕ → ℕ
-lowest_below whose least hs tables zero = no_key
-lowest_below whose least hs tables (suc n) = min (lowest_below whose least hs tables n) (lowest_of whose least (marks_in hs tables n))
-
-module _ (whose : Whose) (least : ℕ) (hs : List Head) (tables : List Table) where
-  pub tanks_none : no_key ≡ lowest_below whose least hs tables 0
-  unfolding lowest_below
+module _ (whose : Whose) (least : ℕ) (h : House) where
+  pub tanks_none : no_key ≡ first_below whose least h 0
+  unfolding first_below
   tanks_none = refl
 
-  pub tanks_on : (t first k low : ℕ) → first ≡ lowest_below whose least hs tables t → k ≡ lowest_of whose least (marks_in hs tables t) → low ≡ min first k → low ≡ lowest_below whose least hs tables (t + 1)
-  unfolding lowest_below
-  tanks_on t first k low e f g = rw (add-one t) (g ∙ ap₂ min e f)
+  pub tanks_on : (t first k low : ℕ) (v : View) → v ≡ tank_at h t → first ≡ first_below whose least h t → k ≡ first_in whose least v → low ≡ min first k → low ≡ first_below whose least h (t + 1)
+  unfolding first_below
+  tanks_on t first k low v at e f g = rw (add-one t) (g ∙ ap₂ min e (f ∙ ap (first_in whose least) at))
 
-module _ (s : Tanks) (ok : Sound s) where
-  pub marks_few : (t : ℕ) → t < 8 → (get_or s.heads t no_head).marks ≤ 64
-  unfolding tank_of tank_in
-  marks_few t h = (ok.each t h).laid.few
-
-  -- the marks that stand there are those that the tank carries
-  pub marks_there : (t : ℕ) → t < 8 → marks_in s.heads s.tables t ≡ carried (tank_at (meaning s) t)
-  unfolding tank_of tank_in
-  marks_there t h = sym (ap carried (tank_at_lem s t h) ∙ marks_carried (ok.each t h))
-
-  below_there : (whose : Whose) (least n : ℕ) → n ≤ 8 → lowest_below whose least s.heads s.tables n ≡ first_below whose least (meaning s) n
-  unfolding lowest_below first_below first_in
-  below_there whose least zero h = refl
-  below_there whose least (suc n) h = ap₂ min (below_there whose least n (omega arith)) (ap (lowest_of whose least) (marks_there n (omega arith)))
-
-  pub tanks_all : (whose : Whose) (least t first : ℕ) → t ≤ 8 → 8 ≤ t → first ≡ lowest_below whose least s.heads s.tables t → first ≡ first_key whose least (meaning s)
+  pub tanks_all : (t first : ℕ) → t ≤ 8 → 8 ≤ t → first ≡ first_below whose least h t → first ≡ first_key whose least h
   unfolding first_key
-  tanks_all whose least t first a b e = let z : t ≡ 8 = omega arith in e ∙ ap (lowest_below whose least s.heads s.tables) z ∙ below_there whose least 8 (omega arith)
+  tanks_all t first a b e = let z : t ≡ 8 = omega arith in e ∙ ap (first_below whose least h) z
 
 -- ---- key after key
 -- the first i of n keys stand, and those from `least` on are to come

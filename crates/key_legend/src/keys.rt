@@ -1,10 +1,12 @@
 // Which keys occur in the tanks, the lowest first; 65536 stands for none.
-ghost use Rattle.std.specs.Prelude.{◌≡◌, ◌≤◌, min, length, take};
+ghost use Rattle.std.specs.Prelude.{◌≡◌, min, length};
+ghost use Rattle.tank.specs.State as state;
 ghost use Rattle.tanks.specs.Pool.{meaning, Sound};
-ghost use Rattle.key_legend.specs.Keys.{is_for, key_from, lowest_of, first_key, next_key, lowest_keys};
+ghost use Rattle.key_legend.specs.Keys.{is_for, key_from, first_in, first_key, next_key, lowest_keys};
 
 use super::Whose;
 use styles::{Mark, Party};
+use tank::Tank;
 use tanks::Tanks;
 
 // The lower of two keys.
@@ -41,35 +43,30 @@ fn key_from(whose: Whose, least: u64, m: Mark) -> u64
     65536
 }
 
-// The lowest key of the first n marks of a table that is at least so much.
-fn first_in(table: [Mark; 64], n: usize, whose: Whose, least: u64) -> u64
-    requires { n ≤ 64 }
-    ensures { result ≡ lowest_of whose least (take n table) }
+// The lowest key of marks in a tank that is at least so much.
+pub fn first_in(t: Tank, whose: Whose, least: u64) -> u64
+    requires { state.Sound t }
+    ensures { result ≡ first_in whose least (state.view t) }
 {
     let mut first = 65536;
     let mut i = 0;
-    while i < n {
-        let m = table[i];
+    while i < t.marks {
+        let m = t.table[i];
         first = sooner(first, key_from(whose, least, m));
         i += 1;
     }
     first
 }
 
-// The same over all tanks, whose marks are read where they stand: a tank taken out would bring all its runs along.
+// The same over all tanks.
 pub fn first_key(s: Tanks, whose: Whose, least: u64) -> u64
     requires { Sound s }
     ensures { result ≡ first_key whose least (meaning s) }
 {
-    let heads = s.heads;
-    let tables = s.tables;
     let mut first = 65536;
     let mut t = 0;
     while t < 8 {
-        let h = heads[t];
-        let table = tables[t];
-        let marks = table.marks;
-        first = sooner(first, first_in(marks, h.marks, whose, least));
+        first = sooner(first, first_in(s.take(t), whose, least));
         t += 1;
     }
     first

@@ -1,28 +1,29 @@
 -- The anchors by position are those at the boundaries of runs, by bits.
 use Prim.Native.Nat.{ℕ, zero, suc, ◌+◌, ◌-◌, ◌*◌, ◌/◌, ◌%◌, ◌≤◌, ◌<◌, ◌^◌, min}
-use mathlib.Core.Path.{◌≡◌, refl, sym, ap, ap₂, ◌∙◌}
+use mathlib.Core.Path.{◌≡◌, refl, sym, ap, ap₂, ◌∙◌, subst}
 use mathlib.Core.Bool.{Bool, not}
-use mathlib.Core.List.{List, [], ◌∷◌, ◌++◌, append_assoc, append-nil}
+use mathlib.Core.List.{List, [], ◌++◌, append_assoc, append-nil}
 use native.Mathlib.Omega.{arith}
 use native.Mathlib.Decide.{dec_lt}
+use native.Mathlib.Numerals.{add-one}
 use lib.Bits.{and_step, and_le_l, and_comm, and_self}
-use lib.Count.{ones, ones_step, count_trailing_zeros}
-use lib.ListN.{length, get_or}
+use lib.ListN.{get_or}
 use borrow.Author.Tests.{lt-ltb, le-ltb}
 use Rattle.styles.specs.declared.Mark.{Mark}
 use Rattle.styles.specs.Order.{id_of}
-use Rattle.styles.specs.Marks.{Above, Sorted, member, only, blank}
-use Rattle.styles.specs.Bits.{keep_bit, pick, lacking_bits, without_bit}
-use Rattle.styles.proofs.BitLaws.{half_less}
-use Rattle.styles.proofs.CountLaws.{pick_first, lowest_less}
+use Rattle.styles.specs.Marks.{Above, Sorted, member, only}
+use Rattle.styles.specs.Bits.{keep_bit, pick, lacking_bits}
 use Rattle.styles.proofs.OrderLaws.{same_self}
 use Rattle.styles.proofs.PickLaws.{not_member, only_skip, pick_op}
 use Rattle.styles.proofs.UnionLaws.{pick_none}
-use Rattle.runs.specs.Runs.{Run, total, set_at}
-use Rattle.runs.proofs.Laws.{at_past}
+use Rattle.runs.specs.Runs.{Run, runs, total, set_at, Other, Canon, Spare}
+use Rattle.runs.proofs.Laws.{at_past, total_more, total_mono}
+use Rattle.runs.proofs.ScanLaws.{at_run}
+use Rattle.tank.specs.declared.Tank.{Tank}
 use Rattle.lists.specs.declared.anchors.Anchor.{Anchor}
 use Rattle.tank.specs.Rules.{View}
-use Rattle.tank.specs.State.{view_of}
+use Rattle.tank.specs.State.{runs_of, table_of, view_of, view, Laid}
+use Rattle.tank.proofs.Counted.{at_inside}
 use Rattle.lists.specs.Anchors.{lacking, marks_before, marks_behind, anchors_of, boundary, boundaries, anchors, between}
 
 -- ---- the marks that another set lacks, by bits
@@ -146,17 +147,94 @@ module _ {ms : List Mark} {bits : ℕ → ℕ} {v : View} (by : ByBits ms bits v
 pub runs_by : (touched : Bool) (l : ℕ) (ms : List Mark) (rs : List Run) → Sorted ms → l ≡ total rs → ByBits ms (set_at rs) (view_of touched l ms rs)
 runs_by touched l ms rs sorted sum = record { sorted = sorted; carried = λ p. refl; none_past = λ p h. at_past rs p (omega (arith, sum)) }
 
--- ---- the marks of a set one by one
--- a set that counts none is empty
-ones_some : (n s : ℕ) → s < 2 ^ n → ones s ≡ 0 → s ≡ 0
-ones_some zero s h e = omega arith
-ones_some (suc n) s h e = omega (arith, ones_step s, ones_some n (s / 2) (half_less n s h) (omega (arith, ones_step s)))
+laid_by : {t : Tank} → Laid t → ByBits (table_of t) (set_at (runs_of t)) (view t)
+unfolding view
+laid_by {t} f = runs_by t.touched t.length (table_of t) (runs_of t) f.sorted f.sum
 
--- the lowest bit of one that is not empty is one of its bits
-pub lowest_in : (n s : ℕ) → n ≤ 64 → s < 2 ^ n → 0 < s → count_trailing_zeros 64 s < n
-lowest_in n s few inside has =
-    lowest_less n 64 s few inside (elim (dec_lt 0 (ones s)) [ yes k ↦ k | no k ↦ absurd (omega (arith, ones_some n s inside (omega arith))) ])
+pub boundary_is : {t : Tank} → Laid t → (p : ℕ) → boundary p (view t) ≡ between (table_of t) p (set_before (runs_of t) p) (set_at (runs_of t) p)
+boundary_is f p = boundary_on (laid_by f) p
 
--- of a set over a whole table the lowest bit's mark comes first
-pub first_taken : (ms : List Mark) (s i : ℕ) → length ms ≡ 64 → s < 2 ^ 64 → 0 < s → i ≡ count_trailing_zeros 64 s → pick ms s ≡ get_or ms i blank ∷ pick ms (without_bit i s)
-first_taken ms s i long small some e = rw e (pick_first 64 ms s blank (omega arith) (omega (arith, lowest_in 64 s (omega arith) small some)))
+-- ---- runs in joined form
+module _ (lens sets : List ℕ) where
+  canon_first : (n k : ℕ) → Canon (runs lens sets n) → k ≤ n → Canon (runs lens sets k)
+  unfolding Canon runs
+  canon_first zero k c h = let e : k ≡ 0 = omega arith in rw e c
+  canon_first (suc n) k c h =
+      elim (dec_lt n k) [ yes g ↦ (let e : k ≡ suc n = omega arith in rw e c) | no g ↦ canon_first n k c.2 (omega arith) ]
+
+  pub canon_some : (n k : ℕ) → Canon (runs lens sets n) → k < n → 0 < get_or lens k 0
+  unfolding Canon runs
+  canon_some n k c h = (canon_first n (suc k) c h).0
+
+  pub canon_next : (n k : ℕ) → Canon (runs lens sets n) → suc k < n → get_or sets k 0 ≡ get_or sets (suc k) 0 → ⊥
+  unfolding Canon runs Other
+  canon_next n k c h = (canon_first n (suc (suc k)) c h).1
+
+before_some : (rs : List Run) (p : ℕ) → 0 < p → set_before rs p ≡ set_at rs (p - 1)
+before_some rs zero h = absurd (omega arith)
+before_some rs (suc p) h = let e : suc p - 1 ≡ p = omega arith in rw e
+
+-- ---- the boundary before run k, which may be the one behind the last run
+module _ {t : Tank} (f : Laid t) (k p : ℕ) (in-runs : k ≤ t.runs) (at_is : p ≡ total (runs t.lens t.sets k)) where
+  pub set_from : set_at (runs_of t) p ≡ get_or t.sets k 0
+  unfolding Spare
+  set_from =
+      elim (dec_lt k t.runs) [
+        | yes h ↦
+            at_run t.lens t.sets t.runs k p h (omega arith) (omega (arith, canon_some t.lens t.sets t.runs k f.canon h))
+        | no h ↦
+            let e : k ≡ t.runs = omega arith in
+            at_past (runs_of t) p (rw (← e) (omega arith)) ∙ sym (f.spare k (omega arith)).1
+      ]
+
+  pub set_in_lem : get_or t.sets k 0 < 2 ^ t.marks
+  set_in_lem = subst (λ s. s < 2 ^ t.marks) set_from (at_inside (runs_of t) t.marks p f.inside)
+
+-- ---- from one run's boundary to the next
+module _ {t : Tank} (f : Laid t) (k p : ℕ) (in-runs : k < t.runs) (at_is : p ≡ total (runs t.lens t.sets k)) where
+  pub run_some : 0 < get_or t.lens k 0
+  run_some = canon_some t.lens t.sets t.runs k f.canon in-runs
+
+  pub next_at : p + get_or t.lens k 0 ≡ total (runs t.lens t.sets (k + 1))
+  next_at = omega (arith, total_more t.lens t.sets k)
+
+  -- the run ends within the tank
+  pub run_fits : p + get_or t.lens k 0 ≤ t.length
+  run_fits = omega (arith, f.sum, next_at, total_mono t.lens t.sets (k + 1) t.runs (omega arith))
+
+  here : (q : ℕ) → p ≤ q → q < p + get_or t.lens k 0 → set_at (runs_of t) q ≡ get_or t.sets k 0
+  here q a b = at_run t.lens t.sets t.runs k q in-runs (omega arith) (omega arith)
+
+  at_next : boundary (p + get_or t.lens k 0) (view t) ≡ between (table_of t) (p + get_or t.lens k 0) (get_or t.sets k 0) (get_or t.sets (k + 1) 0)
+  at_next =
+      let q = p + get_or t.lens k 0 in
+      boundary_is f q
+      ∙ ap₂ (between (table_of t) q) (before_some (runs_of t) q (omega (arith, run_some)) ∙ here (q - 1) (omega (arith, run_some)) (omega (arith, run_some)))
+      (set_from f (k + 1) q (omega arith) next_at)
+
+  -- what comes behind this boundary: what the next one has, and what comes behind that
+  pub to_next : boundaries (suc p) (t.length - p) (view t)
+      ≡ between (table_of t) (p + get_or t.lens k 0) (get_or t.sets k 0) (get_or t.sets (k + 1) 0)
+      ++ boundaries (suc (p + get_or t.lens k 0)) (t.length - (p + get_or t.lens k 0)) (view t)
+  unfolding boundaries view
+  to_next =
+      let l = get_or t.lens k 0 in
+      let e : t.length - p ≡ l - 1 + suc (t.length - (p + l)) = omega (arith, run_some, run_fits) in
+      let g : suc p + (l - 1) ≡ p + l = omega (arith, run_some) in
+      ap (λ n. boundaries (suc p) n (view t)) e
+      ∙ split (suc p) (l - 1) (suc (t.length - (p + l))) (view t)
+      ∙ ap₂ (λ (xs : List Anchor) q. xs ++ boundaries q (suc (t.length - (p + l))) (view t))
+      (flat (laid_by f) p (l - 1) _ (λ q a b. here q a (omega (arith, run_some)))) g
+      ∙ ap (λ (l' : List Anchor). l' ++ boundaries (suc (p + l)) (t.length - (p + l)) (view t)) at_next
+
+  -- where a run begins at the next boundary, it has an anchor
+  pub differs : k + 1 < t.runs → lacking_bits (get_or t.sets k 0) (get_or t.sets (k + 1) 0) ≡ 0
+      → lacking_bits (get_or t.sets (k + 1) 0) (get_or t.sets k 0) ≡ 0 → ⊥
+  differs h a b =
+      canon_next t.lens t.sets t.runs k f.canon (omega arith)
+      (lack_none (get_or t.sets k 0) (get_or t.sets (k + 1) 0) a b ∙ ap (λ i. get_or t.sets i 0) (add-one k))
+
+-- before the first position: the first run's marks start
+pub at_first : {t : Tank} → Laid t → boundary 0 (view t) ≡ between (table_of t) 0 0 (get_or t.sets 0 0)
+unfolding runs total
+at_first {t} f = boundary_is f 0 ∙ ap (between (table_of t) 0 0) (set_from f 0 0 (omega arith) refl)

@@ -1,26 +1,24 @@
 -- How long a list can be. Anchors: at a boundary of two runs a mark ends, or starts, or neither, so that a table of 64 marks gives 64 at most. Stretches: three numbers for each run.
-use Prim.Native.Nat.{ℕ, ◌+◌, ◌-◌, ◌*◌, ◌/◌, ◌%◌, ◌≤◌, ◌<◌, min}
-use mathlib.Core.Path.{◌≡◌, ap, ◌∙◌}
+use Prim.Native.Nat.{ℕ, zero, suc, ◌+◌, ◌-◌, ◌*◌, ◌/◌, ◌%◌, ◌≤◌, ◌<◌, min}
+use mathlib.Core.Path.{◌≡◌, refl, ap, ◌∙◌}
 use mathlib.Core.List.{List, [], ◌∷◌}
 use native.Mathlib.Omega.{arith}
-use lib.ListN.{length, length-append, length-map}
+use lib.ListN.{length, get_or, length-append}
 use Rattle.styles.specs.declared.Mark.{Mark}
 use Rattle.styles.specs.Bits.{pick, lacking_bits}
 use Rattle.styles.proofs.CountLaws.{length_keep}
 use Rattle.styles.proofs.PickLaws.{pick_cons}
-use Rattle.richtext.specs.declared.AnchorType.TheVariants.{Start, End}
-use Rattle.runs.specs.Runs.{Run, total}
-use Rattle.runs.proofs.Laws.{length_runs}
 use Rattle.runs.proofs.ListLaws.{clipped_most}
 use Rattle.runs.proofs.PositionLaws.{listed_is}
 use Rattle.tank.specs.declared.Tank.{Tank}
-use Rattle.tank.specs.State.{table_of, runs_of, view_of, view, Laid}
+use Rattle.tank.specs.State.{table_of, view, Laid}
 use Rattle.tank.proofs.Unique.{table_length}
+use Rattle.lists.specs.declared.anchors.AnchorCursor.{AnchorCursor}
 use Rattle.lists.specs.Lists.{list_over}
-use Rattle.lists.specs.Anchors.{anchor_of, anchors_of, anchors, between}
+use Rattle.lists.specs.Anchors.{anchors, left_at, later_than, Stands, Follows}
 use Rattle.lists.proofs.ListLaws.{list_is}
-use Rattle.lists.proofs.AnchorLaws.{lack_step, set_before}
-use Rattle.lists.proofs.AnchorsOnRuns.{edges, anchors_on, anchors_on_lem}
+use Rattle.lists.proofs.AnchorLaws.{lack_step}
+use Rattle.lists.proofs.CursorLaws.{first_is, follows, none_later, left_length}
 
 -- ---- a boundary
 lack_length : (m : Mark) (ms : List Mark) (s u : ℕ)
@@ -40,40 +38,40 @@ both_lack [] s u = omega arith
 both_lack (m ∷ ms) s u =
     omega (arith, lack_length m ms s u, lack_length m ms u s, one_side (s % 2) (u % 2) (omega arith) (omega arith), both_lack ms (s / 2) (u / 2))
 
-between_most : (ms : List Mark) (p s u : ℕ) → length (between ms p s u) ≤ length ms
-unfolding anchors_of
-between_most ms p s u =
+left_most : {t : Tank} → Laid t → (c : AnchorCursor) (s u : ℕ) → c.ends ≡ lacking_bits s u → c.starts ≡ lacking_bits u s → length (left_at t c) ≤ 64
+left_most {t} f c s u e g =
+    let few = f.few in
     omega (
       arith,
-      length-append (anchors_of (p - 1) End (pick ms (lacking_bits s u))) (anchors_of p Start (pick ms (lacking_bits u s))),
-      length-map (pick ms (lacking_bits s u)) (anchor_of (p - 1) End),
-      length-map (pick ms (lacking_bits u s)) (anchor_of p Start),
-      both_lack ms s u,
+      left_length t c,
+      ap (λ x. length (pick (table_of t) x)) e,
+      ap (λ x. length (pick (table_of t) x)) g,
+      both_lack (table_of t) s u,
+      table_length f,
     )
 
 -- ---- all boundaries, run by run
-edges_most : (ms : List Mark) → length ms ≤ 64 → (rs : List Run) → length (edges ms rs) ≤ 64 * length rs
-unfolding edges
-edges_most ms few [] = omega arith
-edges_most ms few (r ∷ rs) =
-    let x = between ms (total rs) (set_before rs (total rs)) r.set in
-    omega (arith, length-append (edges ms rs) x, edges_most ms few rs, between_most ms (total rs) (set_before rs (total rs)) r.set)
-
-pub anchors_most : {t : Tank} → Laid t → length (anchors (view t)) ≤ 64 * (t.runs + 1)
-unfolding view anchors_on
-anchors_most {t} f =
-    let ms = table_of t in
-    let rs = runs_of t in
-    let few : length ms ≤ 64 = omega (arith, table_length f, f.few) in
+later_most : {t : Tank} → Laid t → (n : ℕ) (c : AnchorCursor) → Stands t c → c.index + n ≡ t.runs → length (later_than t c) ≤ 64 * n
+later_most f zero c s e = omega (arith, ap length (none_later f c s (omega arith)))
+later_most {t} f (suc n) c s e =
+    let x = get_or t.sets c.index 0 in
+    let y = get_or t.sets (c.index + 1) 0 in
+    let d : AnchorCursor = record { index = c.index + 1; at = c.at + get_or t.lens c.index 0; ends = lacking_bits x y; starts = lacking_bits y x } in
+    let g : Follows t c d = follows f c s (omega arith) d refl in
     omega (
       arith,
-      ap (λ (n : ℕ). length (anchors (view_of t.touched n ms rs))) f.sum,
-      ap length (anchors_on_lem t.touched ms rs f.sorted f.canon),
-      length-append (edges ms rs) (between ms (total rs) (set_before rs (total rs)) 0),
-      edges_most ms few rs,
-      between_most ms (total rs) (set_before rs (total rs)) 0,
-      length_runs t.lens t.sets t.runs,
+      ap length g.later,
+      length-append (left_at t d) (later_than t d),
+      left_most f d x y refl refl,
+      later_most f n d g.stands (omega arith),
     )
+
+pub anchors_most : {t : Tank} → Laid t → length (anchors (view t)) ≤ 64 * (t.runs + 1)
+anchors_most {t} f =
+    let x = get_or t.sets 0 0 in
+    let c : AnchorCursor = record { index = 0; at = 0; ends = lacking_bits 0 x; starts = lacking_bits x 0 } in
+    let i = first_is f c refl in
+    omega (arith, ap length i.1, length-append (left_at t c) (later_than t c), left_most f c 0 x refl refl, later_most f t.runs c i.0 (omega arith))
 
 -- ---- stretches
 module _ {t : Tank} (f : Laid t) where

@@ -1,14 +1,20 @@
--- Document 01, "Questions and lists": a whole tank's anchors from the positions.
-use Rattle.std.specs.Prelude.{ℕ, zero, suc, ◌-◌, cond, not, List, [], ◌++◌, map, ltb, length}
+-- Document 01, "Questions and lists": a whole tank's anchors from the positions, and a cursor that runs through them.
+use Rattle.std.specs.Prelude.{ℕ, zero, suc, ◌+◌, ◌-◌, ◌≤◌, ◌<◌, ◌^◌, ◌≡◌, cond, not, List, [], ◌∷◌, ◌++◌, map, ltb, length}
 use Rattle.styles.specs.declared.Mark.{Mark}
 use Rattle.styles.specs.Order.{id_of}
 use Rattle.styles.specs.Marks.{member, only}
 use Rattle.styles.specs.Bits.{pick, lacking_bits}
+use Rattle.runs.specs.Runs.{runs, total}
+use Rattle.tank.specs.declared.Tank.{Tank}
 use Rattle.lists.specs.declared.Listed.{Listed}
 use Rattle.lists.specs.declared.anchors.Anchor.{Anchor}
+use Rattle.lists.specs.declared.anchors.AnchorCursor.{AnchorCursor}
 use Rattle.richtext.specs.declared.AnchorType.{AnchorType}
 use Rattle.richtext.specs.declared.AnchorType.TheVariants.{Start, End}
+use Rattle.lists.specs.declared.anchors.NextAnchor.{NextAnchor}
+use Rattle.lists.specs.declared.anchors.NextAnchor.TheVariants.{NoMore, Found}
 use Rattle.tank.specs.Rules.{View}
+use Rattle.tank.specs.State.{table_of, view}
 use Rattle.lists.specs.Lists.{list_refusal, filled_beside}
 
 -- ---- The list
@@ -64,6 +70,45 @@ anchors_number = anchors_after 0
 abbrev pub between : List Mark → ℕ → ℕ → ℕ → List Anchor
 between ms p x y = anchors_of (p - 1) End (pick ms (lacking_bits x y)) ++ anchors_of p Start (pick ms (lacking_bits y x))
 
+-- ---- The cursor
 -- what a look past the last anchor shows
 abbrev pub no_anchor : Anchor
 no_anchor = record { at = 0; side = Start; key = 0; lamport = 0; peer = 0 }
+
+-- what a cursor has left of the boundary that it stands at
+unfoldable pub left_at : Tank → AnchorCursor → List Anchor
+left_at t c = anchors_of (c.at - 1) End (pick (table_of t) c.ends) ++ anchors_of c.at Start (pick (table_of t) c.starts)
+
+-- the anchors of the boundaries behind it
+unfoldable pub later_than : Tank → AnchorCursor → List Anchor
+later_than t c = boundaries (suc c.at) (t.length - c.at) (view t)
+
+-- all that come from the cursor on
+abbrev pub rest : Tank → AnchorCursor → List Anchor
+rest t c = left_at t c ++ later_than t c
+
+-- a cursor of the tank: it stands at the boundary before run `index`, and what it has left are marks of the table
+pub record Stands (t : Tank) (c : AnchorCursor) : Type 0 where
+  pub within : c.index ≤ t.runs
+  pub at_is : c.at ≡ total (runs t.lens t.sets c.index)
+  pub ends_in : c.ends < 2 ^ t.marks
+  pub starts_in : c.starts < 2 ^ t.marks
+  pub none_before : c.at ≡ 0 → c.ends ≡ 0
+
+-- a step: the anchor that comes next and a cursor for those after it, or that there is none
+unfoldable pub Steps : Tank → AnchorCursor → NextAnchor → Type 0
+Steps t c NoMore = rest t c ≡ []
+Steps t c (Found a d) = (rest t c ≡ a ∷ rest t d) × Stands t d
+
+-- the boundary behind a cursor's; where a run begins at it, it has an anchor
+pub record Follows (t : Tank) (c d : AnchorCursor) : Type 0 where
+  pub stands : Stands t d
+  pub next : d.index ≡ c.index + 1
+  pub later : later_than t c ≡ rest t d
+  pub some : d.index < t.runs → d.ends ≡ 0 → d.starts ≡ 0 → ⊥
+
+-- a cursor with the same to come that has nothing left only where nothing comes
+pub record Settles (t : Tank) (c d : AnchorCursor) : Type 0 where
+  pub stands : Stands t d
+  pub same : rest t c ≡ rest t d
+  pub over : d.ends ≡ 0 → d.starts ≡ 0 → rest t d ≡ []

@@ -11,10 +11,6 @@ pub mod RangeLaws
 pub mod UnheldLaws
 pub mod ProposeLaws
 pub mod BoundaryLaws
-pub mod FirstLaws
-pub mod EndLaws
-pub mod LeftLaws
-pub mod StandingLaws
 pub mod ProposalLaws
 pub mod ProposeTheorems
 pub mod Theorems

@@ -1,93 +1,120 @@
--- The proposer's code by its cases: what is proposed for a tank where it stands is what is proposed for the tank of the state.
-use Prim.Native.Nat.{ℕ, ◌≤◌, ◌<◌}
-use mathlib.Core.Path.{◌≡◌, refl, sym, ap, ◌∙◌}
-use mathlib.Core.Bool.{true, false}
+-- The proposer's code by its cases: a plan is tried as any plan is, and halving ends at the least position.
+use Prim.Native.Nat.{ℕ, ◌+◌, ◌-◌, ◌/◌, ◌≤◌, ◌<◌}
+use mathlib.Core.Path.{◌≡◌, refl, sym, ap, ◌∙◌, subst}
+use mathlib.Core.Bool.{Bool, true, false, cond, true≢false}
 use mathlib.Core.List.{List, []}
+use mathlib.Core.Option.{Option, none, some}
 use native.Mathlib.Omega.{arith}
+use native.Mathlib.Decide.{dec_lt}
+use lib.Dec.{eqb}
 use borrow.Author.Tests.{le-leb, lt-leb}
-use lib.Dec.{leb}
-use lib.ListN.{get_or, take}
-use Rattle.styles.specs.Bits.{MaskOf}
-use Rattle.styles.specs.Marks.{key_is}
-use Rattle.runs.specs.Runs as Runs
-use Rattle.runs.proofs.SeekLaws.{seek_to}
-use Rattle.tank.specs.Rules.{View, runs_held}
-use Rattle.tank.specs.State.{view}
-use Rattle.tank.proofs.Unique.{runs_held_lem}
-use Rattle.tanks.specs.declared.Head.{Head}
-use Rattle.tanks.specs.declared.Run.{Run}
-use Rattle.tanks.specs.declared.Table.{Table}
+use Rattle.tank.specs.declared.Tank.{Tank}
+use Rattle.tank.specs.Rules.{View}
+use Rattle.tank.specs.State.{view, Formed}
 use Rattle.tanks.specs.declared.Tanks.{Tanks}
-use Rattle.tanks.specs.Pool.{no_head, no_table, runs_in, tank_in, tank_of, meaning}
-use Rattle.tanks.specs.Looks.{run_list, Stands}
-use Rattle.tanks.proofs.MeaningLaws.{tank_at_lem}
+use Rattle.tanks.specs.House.{tank_at}
+use Rattle.tanks.specs.Pool.{meaning, Sound}
+use Rattle.tanks.specs.Promises.{Taken}
+use Rattle.night.specs.declared.Range.{Range}
 use Rattle.night.specs.declared.Plan.{Plan}
-use Rattle.night.specs.Plans.{plan_of}
-use Rattle.night.specs.Proposing.{ranges_from, proposed, gives, gives_none, proposal_of, proposal_at}
-use Rattle.night.specs.Standing.{clear_at, left_before, end_of, clear_end, least_before, proposed_by}
-use Rattle.night.proofs.EndLaws.{end_within}
-use Rattle.night.proofs.ProposeLaws.{proposed_empty, proposed_untouched}
-use Rattle.night.proofs.StandingLaws.{left_none, proposed_by_lem}
+use Rattle.night.specs.Plans.{plan_of, accepts_plan}
+use Rattle.night.specs.Planning.{plan_number, AppliedAt}
+use Rattle.night.specs.Proposing.{unheld_below, works_below, least_below, proposed, gives, gives_none, proposal_of, proposal_at, CanTry, CanNarrow}
+use Rattle.night.proofs.FitLaws.{ranges_plan}
+use Rattle.night.proofs.ProposeLaws.{is_false, least_within, works_later, works_touched, works_least, proposed_nothing, proposed_some, proposed_no, Between, narrowed}
 
--- ---- by the bits of a mask
-module _ (mask : ℕ) (rs : List Runs.Run) (most : ℕ) {length to : ℕ} (long : length ≡ Runs.total rs) (e : to ≡ end_of 32 (clear_at mask rs) length 0) where
-  end_is : to ≡ clear_end mask rs
-  end_is = e ∙ ap (λ (n : ℕ). end_of 32 (clear_at mask rs) n 0) long
+module _ (s : Tanks) (t : ℕ) where
+  abbrev w : View
+  w = tank_at (meaning s) t
 
-  end_there : to ≤ Runs.total rs
-  end_there = omega (arith, end_is, end_within (clear_at mask rs) (Runs.total rs) 32 0 (omega arith))
+  -- ---- trying
+  pub can_below : {x : Tank} {below : ℕ} → Taken s t x → below ≤ w.length → (Formed x) × (below ≤ x.length)
+  unfolding view
+  can_below k l = (k.sound.formed, omega (arith, ap (λ (v : View). v.length) k.is))
 
-  module _ {left : ℕ} (l : left ≡ left_before mask rs to) where
-    left_end : left ≡ left_before mask rs (clear_end mask rs)
-    left_end = l ∙ ap (left_before mask rs) end_is
+  pub length_is : {x : Tank} → Taken s t x → x.length ≡ w.length
+  unfolding view
+  length_is k = ap (λ (v : View). v.length) k.is
 
-    -- too many are left
-    pub none_left : most < left → gives_none 0 ≡ proposal_of (proposed_by mask rs most)
-    unfolding proposed_by proposal_of
-    none_left h = rw (lt-leb (left_before mask rs (clear_end mask rs)) most (omega (arith, left_end))) refl
+  module _ (hold most : ℕ) where
+    pub below_is : {x : Tank} (below : ℕ) {plan : Plan} → Taken s t x → plan ≡ plan_of (unheld_below hold (view x) below) → plan ≡ plan_of (unheld_below hold w below)
+    below_is below k e = e ∙ ap (λ (v : View). plan_of (unheld_below hold v below)) k.is
 
-    module _ {below : ℕ} (b : below ≡ least_before mask rs most to) where
-      pub below_there : below ≤ Runs.total rs
-      below_there = omega (arith, b, end_there, seek_to (λ p. leb (left_before mask rs p) most) 0 to)
+    module _ (t8 : t < 8) where
+      -- what a call says of a plan
+      pub said : (xs : List Range) {plan : Plan} {n : ℕ} {next : Tanks} → plan ≡ plan_of xs → AppliedAt s t hold most plan n next → eqb n 0 ≡ accepts_plan hold most xs w
+      unfolding plan_number
+      said xs {n = n} {next = next} e a =
+          let c = subst (λ (p : Plan). AppliedAt s t hold most p n next) e a in
+          let own : n ≡ cond (accepts_plan hold most xs w) 0 15 =
+          c.number_is ∙ rw (lt-leb 8 t t8) (ap (λ (ys : List Range). cond (accepts_plan hold most ys w) 0 15) (ranges_plan xs)) in
+          ap (λ (m : ℕ). eqb m 0) own ∙ go (accepts_plan hold most xs w)
+        where
+          go : (b : Bool) → eqb (cond b 0 15) 0 ≡ b
+          go true = refl
+          go false = refl
 
-      -- few enough are
-      pub some_left : left ≤ most → {plan : Plan} → plan ≡ plan_of (ranges_from 32 (clear_at mask rs) below 0) → gives plan ≡ proposal_of (proposed_by mask rs most)
-      unfolding proposed_by proposal_of
-      some_left h p =
-          ap gives (p ∙ ap (λ (q : ℕ). plan_of (ranges_from 32 (clear_at mask rs) q 0)) (b ∙ ap (least_before mask rs most) end_is))
-          ∙ rw (le-leb (left_before mask rs (clear_end mask rs)) most (omega (arith, left_end))) refl
+    -- ---- halving
+    module _ {length : ℕ} (can : CanNarrow s t hold most length) where
+      touched : w.touched ≡ true
+      touched = works_touched hold w most length can.some can.all
 
--- ---- of a tank where it stands
-module _ {hs : List Head} {pool : List Run} {table : Table} {t : ℕ} (ok : Stands hs pool table t) (hold most : ℕ) where
-  held_there : runs_held (view (tank_in hs pool table t)) ≡ runs_in hs t
-  unfolding tank_in
-  held_there = runs_held_lem ok.formed.laid
+      -- where all would do and nothing would not, there is a position
+      some_length : 0 < length
+      some_length =
+          elim (dec_lt 0 length) [
+            | yes h ↦ h
+            | no h ↦ let z : length ≡ 0 = omega arith in absurd (true≢false (sym can.all ∙ ap (works_below hold most w) z ∙ can.some))
+          ]
 
-  -- it holds no more already
-  pub nothing_there : runs_in hs t ≤ most → gives (plan_of []) ≡ proposal_of (proposed hold most (view (tank_in hs pool table t)))
-  unfolding proposal_of
-  nothing_there h = ap proposal_of (sym (proposed_empty hold (view (tank_in hs pool table t)) most (omega (arith, held_there))))
+      pub wide : Between hold w most 0 length
+      wide = let z = can.whole in record { some = some_length; fits = omega arith; refused = can.some; accepted = can.all }
 
-  -- it is untouched
-  pub untouched_there : most < runs_in hs t → (get_or hs t no_head).touched ≡ false → gives_none 0 ≡ proposal_of (proposed hold most (view (tank_in hs pool table t)))
-  unfolding proposal_of tank_in view
-  untouched_there h u = ap proposal_of (sym (proposed_untouched hold (view (tank_in hs pool table t)) most u (omega (arith, held_there))))
+      module _ {low high : ℕ} (b : Between hold w most low high) where
+        pub narrow_end : high - low ≤ 1 → high ≡ least_below hold most w
+        narrow_end h = narrowed hold w most touched low high b (omega arith)
 
-  module _ (touched : (get_or hs t no_head).touched ≡ true) {mask : ℕ} (m : MaskOf (key_is hold) (take (get_or hs t no_head).marks table.marks) mask) where
-    pub left_there : left_before mask (run_list hs pool t) 0 ≡ runs_in hs t
-    unfolding tank_in
-    left_there = left_none ok.formed touched hold m
+        pub narrow_high : (r : Bool) → r ≡ works_below hold most w (low + (high - low) / 2) → r ≡ true → 1 < high - low → Between hold w most low (low + (high - low) / 2)
+        narrow_high r e y h =
+            let s = b.some in
+            let f = b.fits in
+            record { some = omega arith; fits = omega arith; refused = b.refused; accepted = sym e ∙ y }
 
-    pub proposed_there : proposal_of (proposed_by mask (run_list hs pool t) most) ≡ proposal_of (proposed hold most (view (tank_in hs pool table t)))
-    unfolding tank_in
-    proposed_there = ap proposal_of (proposed_by_lem ok.formed touched hold m most)
+        pub narrow_low : (r : Bool) → r ≡ works_below hold most w (low + (high - low) / 2) → r ≡ false → 1 < high - low → Between hold w most (low + (high - low) / 2) high
+        narrow_low r e y h =
+            let s = b.some in
+            let f = b.fits in
+            record { some = omega arith; fits = f; refused = sym e ∙ y; accepted = b.accepted }
 
--- ---- of a state
-module _ (s : Tanks) (t hold most : ℕ) where
-  pub propose_1 : 8 ≤ t → gives_none 1 ≡ proposal_at (meaning s) t hold most
-  unfolding proposal_at
-  propose_1 h = rw (le-leb 8 t h)
+    -- ---- the answer
+    pub propose_1 : 8 ≤ t → gives_none 1 ≡ proposal_at (meaning s) t hold most
+    unfolding proposal_at
+    propose_1 h = rw (le-leb 8 t h)
 
-  pub propose_is : t < 8 → proposal_of (proposed hold most (view (tank_in s.heads s.pool (get_or s.tables t no_table) t))) ≡ proposal_at (meaning s) t hold most
-  unfolding proposal_at tank_of
-  propose_is h = rw (lt-leb 8 t h) (ap (λ (v : View). proposal_of (proposed hold most v)) (sym (tank_at_lem s t h)))
+    module _ (t8 : t < 8) where
+      proposal_is : (o : Option (List Range)) → proposed hold most w ≡ o → proposal_of o ≡ proposal_at (meaning s) t hold most
+      unfolding proposal_at
+      proposal_is o e = rw (lt-leb 8 t t8) (sym (ap proposal_of e))
+
+      pub propose_nothing : works_below hold most w 0 ≡ true → gives (plan_of []) ≡ proposal_at (meaning s) t hold most
+      unfolding proposal_of
+      propose_nothing e = proposal_is (some []) (proposed_nothing hold w most e)
+
+      pub propose_some : (length : ℕ) → length ≡ w.length → works_below hold most w length ≡ true → (p : ℕ) → p ≡ least_below hold most w
+          → gives (plan_of (unheld_below hold w p)) ≡ proposal_at (meaning s) t hold most
+      unfolding proposal_of
+      propose_some length l e p z =
+          ap (λ (q : ℕ). gives (plan_of (unheld_below hold w q))) z
+          ∙ proposal_is (some (unheld_below hold w (least_below hold most w))) (proposed_some hold w most (works_least hold w most length (omega arith) e))
+
+      pub propose_none : (length : ℕ) → length ≡ w.length → works_below hold most w 0 ≡ false → works_below hold most w length ≡ false
+          → gives_none 0 ≡ proposal_at (meaning s) t hold most
+      unfolding proposal_of
+      propose_none length l first last =
+          proposal_is none
+          (proposed_no hold w most
+          (is_false (works_below hold most w (least_below hold most w))
+          (λ y.
+          let t = works_touched hold w most (least_below hold most w) first y in
+          let in-length = least_within hold w most in
+          true≢false (sym (works_later hold w most t (least_below hold most w) length (omega arith) (omega arith) y) ∙ last))))

@@ -1,6 +1,6 @@
 -- The proposer: what it gives is accepted and takes no more than needed, and where the unheld positions form at most 32 ranges it gives
 -- no plan only where none at all would be accepted.
-use Prim.Native.Nat.{ℕ, ◌-◌, ◌≤◌, ◌<◌}
+use Prim.Native.Nat.{ℕ, zero, suc, ◌+◌, ◌-◌, ◌≤◌, ◌<◌}
 use mathlib.Core.Path.{◌≡◌, refl, sym, ap, ap₂, ◌∙◌}
 use mathlib.Core.Bool.{Bool, true, false, cond, not, ◌&&◌, and-eq-true_iff, true≢false, false≢true}
 use mathlib.Core.List.{List, [], ◌∷◌}
@@ -9,7 +9,7 @@ use native.Mathlib.Omega.{arith}
 use native.Mathlib.Decide.{dec_lt, dec_le}
 use lib.Dec.{leb}
 use lib.ListN.{length}
-use borrow.Author.Tests.{le-leb, lt-leb, leb-true, not-true}
+use borrow.Author.Tests.{le-leb, leb-true, not-true, not-false}
 use Rattle.runs.specs.Positions.{any_at, seek_from}
 use Rattle.runs.proofs.ScanLaws.{any_no, any_none}
 use Rattle.runs.proofs.SeekLaws.{seek_to, seek_before, seek_at, seek_is}
@@ -135,7 +135,7 @@ module _ (hold : ℕ) (v : View) where
         (λ x i. ranges_grow (unheld_at hold v) p q h 32 0 x (omega arith) i) in
         accepted_of most (unheld_below hold v q) t (record { few = below_few q; order = below_order q l; free = below_free q; left = omega arith })
 
-    pub below_none : unheld_below hold v 0 ≡ []
+    below_none : unheld_below hold v 0 ≡ []
     unfolding ranges_from seek_from
     below_none = refl
 
@@ -205,13 +205,6 @@ module _ (hold : ℕ) (v : View) where
     unfolding accepts_plan after_plan
     empty_accepted h = ap₂ (λ (x y : Bool). x && y) may_none (le-leb (runs_held v) most h)
 
-    -- where it holds more, nothing is not enough
-    pub nothing_refused : most < runs_held v → works 0 ≡ false
-    unfolding accepts_plan after_plan
-    nothing_refused h =
-        ap (λ (xs : List Range). accepts_plan hold most xs v) below_none
-        ∙ ap₂ (λ (x y : Bool). x && y) may_none (lt-leb (runs_held v) most h)
-
     least_none : works 0 ≡ true → least ≡ 0
     least_none e = seek_is works 0 v.length 0 (omega arith) (omega arith) (λ p a b. absurd (omega arith)) (λ _. e)
 
@@ -233,11 +226,6 @@ module _ (hold : ℕ) (v : View) where
     unfolding proposed
     proposed_no e = ap (λ (b : Bool). cond b (some (unheld_below hold v least)) none) e
 
-    -- of an untouched tank that holds too many
-    pub proposed_untouched : v.touched ≡ false → most < runs_held v → proposed hold most v ≡ none
-    proposed_untouched t h =
-        proposed_no (is_false (works least) (λ y. true≢false (sym (works_touched least (nothing_refused h) y) ∙ t)))
-
     -- of a touched tank whose unheld positions form at most 32 ranges: none at all would be accepted
     pub proposed_none : v.touched ≡ true → range_count (unheld_at hold v) v.length ≤ 32 → proposed hold most v ≡ none
         → (plan : List Range) → accepts_plan hold most plan v ≡ false
@@ -255,3 +243,19 @@ module _ (hold : ℕ) (v : View) where
     -- and the other way round, of any tank: where none would be accepted there is no plan
     pub none_proposed : ((plan : List Range) → accepts_plan hold most plan v ≡ false) → proposed hold most v ≡ none
     none_proposed h = proposed_no (h (unheld_below hold v least))
+
+    -- ---- halving: between a position below which they are not accepted and one below which they are
+    pub record Between (low high : ℕ) : Type 0 where
+      pub some : low < high
+      pub fits : high ≤ v.length
+      pub refused : works low ≡ false
+      pub accepted : works high ≡ true
+
+    pub narrowed : v.touched ≡ true → (low high : ℕ) → Between low high → high ≤ low + 1 → high ≡ least
+    narrowed t low high b h =
+        let s = b.some in
+        let f = b.fits in
+        sym
+        (seek_is works 0 v.length high (omega arith) (omega arith)
+        (λ p _ g. is_false (works p) (λ e. true≢false (sym (works_later t p low (omega arith) (omega arith) e) ∙ b.refused)))
+        (λ _. b.accepted))

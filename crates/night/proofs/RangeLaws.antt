@@ -1,6 +1,6 @@
 -- The maximal ranges of positions that pass a test: they are in order, all of them pass, they are all where there are no more than are
 -- looked for, and with more positions they take more.
-use Prim.Native.Nat.{ℕ, zero, suc, ◌+◌, ◌-◌, ◌≤◌, ◌<◌}
+use Prim.Native.Nat.{ℕ, zero, suc, ◌+◌, ◌-◌, ◌≤◌, ◌<◌, min}
 use mathlib.Core.Path.{◌≡◌, refl, sym, ap, ap₂, ◌∙◌}
 use mathlib.Core.Bool.{Bool, true, false, cond, not, ◌&&◌, ◌||◌, and-eq-true_iff, true≢false, false≢true}
 use mathlib.Core.List.{List, [], ◌∷◌}
@@ -31,7 +31,7 @@ module _ (test : ℕ → Bool) (n : ℕ) where
     pub inside : (p : ℕ) → a ≤ p → p < b → test p ≡ true
     pub after : b < n → test b ≡ false
 
-  pub range_at : (from : ℕ) → from ≤ n → seek test n from < n → FoundRange from (seek test n from) (seek fails n (seek test n from))
+  range_at : (from : ℕ) → from ≤ n → seek test n from < n → FoundRange from (seek test n from) (seek fails n (seek test n from))
   range_at from l h =
       let a = seek test n from in
       let b = seek fails n a in
@@ -51,7 +51,7 @@ module _ (test : ℕ → Bool) (n : ℕ) where
       }
 
   -- from there on none passes
-  pub none_at : (from : ℕ) → from ≤ n → n ≤ seek test n from → (p : ℕ) → from ≤ p → p < n → test p ≡ false
+  none_at : (from : ℕ) → from ≤ n → n ≤ seek test n from → (p : ℕ) → from ≤ p → p < n → test p ≡ false
   none_at from l h p c d = seek_before test from (n - from) p c (omega arith)
 
   -- by cases: another range, or none
@@ -182,6 +182,22 @@ module _ (test : ℕ → Bool) (n : ℕ) where
 pub begin_first : (test : ℕ → Bool) → test 0 ≡ true → begins test 0 ≡ 1
 unfolding begins
 begin_first test e = simp e
+
+-- ---- fewer positions are looked at: what is found is clipped
+pub seek_cut : (test : ℕ → Bool) (from k j : ℕ) → min (seek_from test from (k + j)) (from + k) ≡ seek_from test from k
+seek_cut test from k j =
+    let s = seek_from test from (k + j) in
+    let low = seek_from_lem test from (k + j) in
+    elim (dec_lt s (from + k)) [
+      | yes h ↦
+          let e : min s (from + k) ≡ s = omega arith in
+          e ∙ sym (seek_is test from k s low (omega arith) (λ p a b. seek_before test from (k + j) p a b) (λ _. seek_at test from (k + j) (omega arith)))
+      | no h ↦
+          let e : min s (from + k) ≡ from + k = omega arith in
+          e
+          ∙ sym
+          (seek_is test from k (from + k) (omega arith) (omega arith) (λ p a b. seek_before test from (k + j) p a (omega arith)) (λ g. absurd (omega arith)))
+    ]
 
 -- ranges within n are within more
 pub order_wider : (from n m : ℕ) (xs : List Range) → n ≤ m → in_order from n xs ≡ true → in_order from m xs ≡ true

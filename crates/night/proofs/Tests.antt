@@ -12,15 +12,13 @@ use Rattle.styles.specs.declared.Party.TheVariants.{Plant}
 use Rattle.styles.specs.declared.Value.TheVariants.{Null}
 use Rattle.styles.specs.Order.{stands, numbers}
 use Rattle.styles.specs.Marks.{same_marks, has_key}
-use Rattle.runs.specs.Runs.{Run, run, set_at, total}
 use Rattle.runs.specs.Positions.{sum_below, starts, part_of, any_at, seek_from}
 use Rattle.tank.specs.Rules.{View, after_delete, runs_held}
 use Rattle.tanks.specs.House.{smallest}
 use Rattle.night.specs.Ageing.{overlapping, age_refusal, aged_part, aged_count, aged_left, Ageing, ageing, aged_times, rounded_up}
 use Rattle.night.specs.Ageings.{age_number}
-use Rattle.night.specs.Plans.{range, in_order, free_of, no_ranges, may_go, after_plan, accepts_plan, kept_from, opens_on, changes}
+use Rattle.night.specs.Plans.{range, in_order, free_of, no_ranges, may_go, after_plan, accepts_plan}
 use Rattle.night.specs.Proposing.{unheld_at, ranges_from, unheld_below, proposed, begins, range_count}
-use Rattle.night.specs.Standing.{clear_at, left_before, end_of, clear_end, proposed_by}
 
 abbrev mark : ℕ → Mark
 mark key = record { key = key; flags = 0x84; party = Plant; lamport = 5; cnt = pos 0; peer = 1; value = Null }
@@ -117,23 +115,3 @@ proposals : (proposed 2 3 (tank true) ≡ some []) × (proposed 2 2 (tank true) 
     × (proposed 2 0 (tank true) ≡ none)
 unfolding proposed ranges_from seek_from accepts_plan may_go in_order free_of any_at has_key after_plan after_delete sum_below starts same_marks stands numbers
 proposals = (refl, refl, refl, refl)
-
--- ---- proposals by bits: the mark with key 1 is bit 0, the one with key 2, which holds, bit 1
-abbrev bits : List Run
-bits = run 5 0 ∷ run 2 2 ∷ run 3 1 ∷ []
-
--- with nothing gone three runs are left, and so with a part of the first; with all of it gone two, and with all that is unheld one. Two that come
--- to lie side by side with one set are one
-left : (left_before 2 bits 0 ≡ 3) × (left_before 2 bits 2 ≡ 3) × (left_before 2 bits 3 ≡ 2) × (left_before 2 bits 10 ≡ 1) × (left_before 2 (run 3 2 ∷ run 2 1 ∷ run 3 2 ∷ []) 5 ≡ 1)
-unfolding left_before changes opens_on kept_from set_at total
-left = (refl, refl, refl, refl, refl)
-
--- one range ends at 3, and two at 10, where 32 do as well
-ends : (end_of 1 (clear_at 2 bits) 10 0 ≡ 3) × (end_of 2 (clear_at 2 bits) 10 0 ≡ 10) × (clear_end 2 bits ≡ 10)
-unfolding end_of seek_from set_at total
-ends = (refl, refl, refl)
-
--- as above
-by_bits : (proposed_by 2 bits 2 ≡ some (range 0 3 ∷ [])) × (proposed_by 2 bits 1 ≡ some (range 0 3 ∷ range 5 10 ∷ [])) × (proposed_by 2 bits 0 ≡ none)
-unfolding proposed_by left_before end_of ranges_from changes opens_on kept_from seek_from set_at total
-by_bits = (refl, refl, refl)

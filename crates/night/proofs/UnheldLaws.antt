@@ -1,16 +1,26 @@
--- The maximal ranges that pass a test below a position, gathered one by one into a plan.
-use Prim.Native.Nat.{ℕ, zero, suc, ◌+◌, ◌-◌, ◌≤◌, ◌<◌}
+-- The unheld ranges of a tank below a position, gathered one by one into a plan.
+use Prim.Native.Nat.{ℕ, zero, suc, ◌+◌, ◌-◌, ◌≤◌, ◌<◌, min}
 use mathlib.Core.Path.{◌≡◌, refl, sym, ap, ap₂, ◌∙◌}
-use mathlib.Core.Bool.{Bool, not}
+use mathlib.Core.Bool.{Bool, not, not-not}
 use mathlib.Core.List.{List, [], ◌∷◌, ◌++◌}
 use native.Mathlib.Omega.{arith}
 use lib.ListN.{length, get_or, take, drop, set, replicate}
 use borrow.Author.Tests.{lt-ltb, le-ltb}
 use Rattle.laws.proofs.Lists.{filled_step}
-use Rattle.runs.proofs.SeekLaws.{seek_to}
+use Rattle.styles.specs.Bits.{MaskOf}
+use Rattle.styles.specs.Marks.{key_is}
+use Rattle.runs.specs.Runs.{set_at}
+use Rattle.runs.specs.Positions.{seek_from}
+use Rattle.runs.specs.Scan.{meets, CanScan}
+use Rattle.runs.proofs.SeekLaws.{seek_to, seek_ext}
+use Rattle.tank.specs.declared.Tank.{Tank}
+use Rattle.tank.specs.State.{runs_of, table_of, view, Formed}
+use Rattle.tank.proofs.Shape.{can_look}
 use Rattle.night.specs.declared.Range.{Range}
-use Rattle.night.specs.Plans.{range, no_range, plan_of}
-use Rattle.night.specs.Proposing.{seek, ranges_from}
+use Rattle.night.specs.Plans.{range, no_range, plan_of, held_at}
+use Rattle.night.specs.Proposing.{unheld_at, seek, ranges_from, unheld_below}
+use Rattle.night.proofs.FitLaws.{meets_held}
+use Rattle.night.proofs.RangeLaws.{seek_cut}
 
 -- ---- a list by what is left of it
 module _ {A : Type 0} (d : A) where
@@ -39,21 +49,47 @@ module _ {A : Type 0} (d : A) where
   all_taken (x ∷ xs) (suc k) h = ap (λ (ys : List A). x ∷ ys) (all_taken xs k (omega arith))
 
 -- k ranges are gathered, and the rest is sought from `at` on
-pub record Gathered (test : ℕ → Bool) (below : ℕ) (ranges : List Range) (k at : ℕ) : Type 0 where
+pub record Gathered (t : Tank) (hold below : ℕ) (ranges : List Range) (k at : ℕ) : Type 0 where
   pub few : k ≤ 32
   pub within : at ≤ below
-  pub count : k ≤ length (ranges_from 32 test below 0)
-  pub is : ranges ≡ take k (ranges_from 32 test below 0) ++ replicate (32 - k) no_range
-  pub rest : drop k (ranges_from 32 test below 0) ≡ ranges_from (32 - k) test below at
+  pub count : k ≤ length (unheld_below hold (view t) below)
+  pub is : ranges ≡ take k (unheld_below hold (view t) below) ++ replicate (32 - k) no_range
+  pub rest : drop k (unheld_below hold (view t) below) ≡ ranges_from (32 - k) (unheld_at hold (view t)) below at
 
-pub none_yet : (test : ℕ → Bool) (below : ℕ) → Gathered test below (replicate 32 no_range) 0 0
-none_yet test below = record { few = omega arith; within = omega arith; count = omega arith; is = refl; rest = refl }
+pub none_yet : (t : Tank) (hold below : ℕ) → Gathered t hold below (replicate 32 no_range) 0 0
+none_yet t hold below = record { few = omega arith; within = omega arith; count = omega arith; is = refl; rest = refl }
 
-module _ (test : ℕ → Bool) (below : ℕ) where
+-- what seeking from a position within the length asks
+pub can_seek : {t : Tank} → Formed t → (at : ℕ) → at ≤ t.length → CanScan t.lens t.sets t.runs at
+can_seek f at h = let s = f.laid.sum in record { look = can_look f.laid; reach = omega arith }
+
+-- what a walk over all runs finds, clipped at `below`
+pub clipped : (test : ℕ → Bool) (at below all first : ℕ) → at ≤ below → below ≤ all → first ≡ seek_from test at (all - at)
+    → min first below ≡ seek_from test at (below - at)
+clipped test at below all first h l e =
+    let k : all - at ≡ below - at + (all - below) = omega arith in
+    let b : at + (below - at) ≡ below = omega arith in
+    ap₂ min (e ∙ ap (seek_from test at) k) (sym b) ∙ seek_cut test at (below - at) (all - below)
+
+module _ {t : Tank} (f : Formed t) (hold : ℕ) {mask : ℕ} (m : MaskOf (key_is hold) (table_of t) mask) (below : ℕ) where
+  abbrev test : ℕ → Bool
+  test p = unheld_at hold (view t) p
+
   abbrev all : List Range
-  all = ranges_from 32 test below 0
+  all = unheld_below hold (view t) below
 
-  module _ {ranges : List Range} {k at : ℕ} (inv : Gathered test below ranges k at) where
+  abbrev met : ℕ → Bool
+  met p = meets mask (set_at (runs_of t) p)
+
+  -- what the runs find is what the rule says
+  pub without_is : (at a : ℕ) → a ≡ seek_from (λ p. not (met p)) at (below - at) → a ≡ seek test below at
+  without_is at a e = e ∙ seek_ext (λ p. not (met p)) test at (below - at) (λ p c d. ap not (meets_held f hold m p))
+
+  pub with_is : (at b : ℕ) → b ≡ seek_from met at (below - at) → b ≡ seek (λ p. not (test p)) below at
+  with_is at b e =
+      e ∙ seek_ext met (λ p. not (test p)) at (below - at) (λ p c d. meets_held f hold m p ∙ sym (not-not (held_at hold (view t) p)))
+
+  module _ {ranges : List Range} {k at : ℕ} (inv : Gathered t hold below ranges k at) where
     -- nothing is left: the plan is whole
     whole : drop k all ≡ [] → record { count = k; ranges = ranges } ≡ plan_of all
     whole e =
@@ -77,7 +113,7 @@ module _ (test : ℕ → Bool) (below : ℕ) where
       gathered_last a e h = whole (next ∙ rw (le-ltb (seek test below at) below (omega arith)) refl)
 
       pub gathered_more : (a b : ℕ) → a ≡ seek test below at → b ≡ seek (λ p. not (test p)) below a → a < below
-          → Gathered test below (set ranges k (range a b)) (k + 1) b
+          → Gathered t hold below (set ranges k (range a b)) (k + 1) b
       unfolding ranges_from
       gathered_more a b e g h =
           let x : drop k all ≡ range a b ∷ ranges_from (32 - suc k) test below b =

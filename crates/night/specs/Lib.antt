@@ -3,4 +3,3 @@ pub mod Ageings
 pub mod Plans
 pub mod Planning
 pub mod Proposing
-pub mod Standing

@@ -1,10 +1,12 @@
 -- Document 02, request 9: the plan that is proposed for a tank. It takes the oldest first and no more than needed: the unheld ranges below
 -- the least position for which they are accepted.
-use Rattle.std.specs.Prelude.{ℕ, zero, suc, ◌-◌, Bool, true, false, cond, ◌&&◌, not, List, [], ◌∷◌, ltb}
+use Rattle.std.specs.Prelude.{ℕ, zero, suc, ◌-◌, ◌≤◌, ◌<◌, ◌≡◌, Bool, true, false, cond, ◌&&◌, not, List, [], ◌∷◌, ltb}
 use Rattle.std.proofs.Math.Option.{Option, none, some}
 use Rattle.runs.specs.Positions.{sum_below, seek_from}
 use Rattle.tank.specs.Rules.{View}
+use Rattle.tanks.specs.declared.Tanks.{Tanks}
 use Rattle.tanks.specs.House.{House, tank_at, no_tank}
+use Rattle.tanks.specs.Pool.{meaning, Sound}
 use Rattle.night.specs.declared.Range.{Range}
 use Rattle.night.specs.declared.Plan.{Plan}
 use Rattle.night.specs.declared.Proposal.{Proposal}
@@ -61,6 +63,21 @@ proposal_of (some xs) = gives (plan_of xs)
 -- the plan proposed for a tank, or 1
 unfoldable pub proposal_at : House → ℕ → ℕ → ℕ → Proposal
 proposal_at h t hold most = cond (no_tank t) (gives_none 1) (proposal_of (proposed hold most (tank_at h t)))
+
+-- ---- What trying asks
+-- one of the eight tanks, and a position of it or its length
+pub record CanTry (s : Tanks) (t below : ℕ) : Type 0 where
+  pub sound : Sound s
+  pub tank : t < 8
+  pub fits : below ≤ (tank_at (meaning s) t).length
+
+-- what finding the least position asks: that nothing would not do, and that all that is unheld would
+pub record CanNarrow (s : Tanks) (t hold most length : ℕ) : Type 0 where
+  pub sound : Sound s
+  pub tank : t < 8
+  pub whole : length ≡ (tank_at (meaning s) t).length
+  pub some : works_below hold most (tank_at (meaning s) t) 0 ≡ false
+  pub all : works_below hold most (tank_at (meaning s) t) length ≡ true
 
 -- ---- What the theorems speak of
 -- 1 where a maximal range of positions that pass the test begins

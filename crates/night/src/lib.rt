@@ -1,7 +1,6 @@
 // The night's work on eight tanks, made of deletions: ageing a bit at a time, and plans of ranges to delete.
 mod plans; // plans.rt: whether the ranges of a plan may go
-mod proposals; // proposals.rt: the plan that is proposed for a tank
-mod standing; // standing.rt: walks over a tank's runs where they stand
+mod proposals; // proposals.rt: the unheld ranges below a position, and the least position below which they are accepted
 
 ghost use Rattle.std.specs.Prelude.{◌≡◌, ◌≤◌, ◌<◌};
 ghost use Rattle.runs.specs.Positions.{stretch_count, part_of};
@@ -12,7 +11,7 @@ ghost use Rattle.tanks.specs.Pool.{meaning, Sound};
 ghost use Rattle.night.specs.Ageings.{AgedAt, LeftAlone, AgedBy, barred_number};
 ghost use Rattle.night.specs.Plans.{ranges_of};
 ghost use Rattle.night.specs.Planning.{AppliedAt, AppliedBy, CanApply, Applies};
-ghost use Rattle.night.specs.Proposing.{proposal_at};
+ghost use Rattle.night.specs.Proposing.{gives, gives_none, proposal_at};
 
 pub use proposals::empty_plan;
 use runs::FirstRuns;
@@ -161,20 +160,45 @@ pub struct Proposal {
     pub plan: Plan,
 }
 
+// No plan, beside a number.
+fn no_proposal(number: u64) -> Proposal
+    ensures { result ≡ gives_none number }
+{
+    Proposal {
+        number: number,
+        found: false,
+        plan: proposals::empty_plan(),
+    }
+}
+
+// A plan that is given.
+fn proposing(plan: Plan) -> Proposal
+    ensures { result ≡ gives plan }
+{
+    Proposal {
+        number: 0,
+        found: true,
+        plan: plan,
+    }
+}
+
 // A plan that would be accepted, the oldest first and no more than needed: the unheld ranges below the least position for which they are.
 pub fn propose(s: Tanks, tank: u64, hold: u16, most: u64) -> Proposal
     requires { Sound s }
     ensures { result ≡ proposal_at (meaning s) tank hold most }
 {
     if 8 <= tank {
-        return proposals::no_proposal(1);
+        return no_proposal(1);
     }
-    let t = tank as usize;
-    let heads = s.heads;
-    let pool = s.pool;
-    let tables = s.tables;
-    let table = tables[t];
-    proposals::propose_in(heads, pool, table, t, hold, most)
+    if proposals::works_below(s, tank, hold, most, 0) {
+        return proposing(proposals::empty_plan());
+    }
+    let x = s.take(tank as usize);
+    if proposals::works_below(s, tank, hold, most, x.length) {
+        let below = proposals::least_below(s, tank, hold, most, x.length);
+        return proposing(proposals::unheld_below(x, hold, below));
+    }
+    no_proposal(0)
 }
 
 // The number of a night's call that the laboratory tries: 1 where there is no such tank, else 16.

@@ -1,8 +1,8 @@
 // The tanks' bands: the parties' marks, what is held, and the positions at the edges.
-ghost use Rattle.std.specs.Prelude.{cond, [], ◌∷◌, ◌++◌, ◌≡◌, ℕ, ◌+◌, ◌*◌, ◌≤◌, ◌<◌, ltb, length, take};
+ghost use Rattle.std.specs.Prelude.{cond, [], ◌∷◌, ◌++◌, ◌≡◌, ◌+◌, ◌*◌, ◌≤◌, ◌<◌, ltb, length, take};
 ghost use Rattle.answers.specs.Waiting.{Adds, piece_room};
 ghost use Rattle.tank.specs.State as state;
-ghost use Rattle.tanks.specs.House.{House, tank_at};
+ghost use Rattle.tanks.specs.House.{tank_at};
 ghost use Rattle.tanks.specs.Pool.{meaning, Sound};
 ghost use Rattle.picture.specs.Bands.{held_in, hatch_says, holds_say, room_of, label_says, tick_says, labelled, last_after, edge_says, edges_from, edges_say, break_says, name_says, runs_say, length_says, beside_says, empty_says, end_of, depth_of, sides_say, over_says, drawn_says, tank_says, tanks_say};
 
@@ -264,20 +264,27 @@ fn depth(t: Tank) -> u64
     40
 }
 
-// The plant's marks, and the laboratory's under them, in whatever house the tank stands. A party's tank is made of this one: out of the state it
-// would be taken anew.
-fn sides(t: Tank, keys: [u64; 12], end: u64, top: u64, out: &mut [u8], at: usize) -> usize
-    requires { (piece_room ≤ length out.old) × (state.Sound t) × (0 < end) × (top ≤ 4000) }
-    ensures { (h : House) (tank : ℕ) → state.view t ≡ tank_at h tank → Adds out.old at (sides_say h keys tank end top) result out.new }
+// The plant's marks, and the laboratory's under them.
+fn sides(
+    s: Tanks,
+    tank: u64,
+    keys: [u64; 12],
+    end: u64,
+    top: u64,
+    out: &mut [u8],
+    at: usize,
+) -> usize
+    requires { (piece_room ≤ length out.old) × (Sound s) × (0 < end) × (top ≤ 4000) }
+    ensures { Adds out.old at (sides_say (meaning s) keys tank end top) result out.new }
 {
-    let plant = t.only(Party::Plant);
+    let plant = ask::shown(s, tank, Party::Plant);
     let upper = Band {
         end: end,
         top: top,
         height: 40,
     };
     let a = side(plant, keys, upper, out, at);
-    let lab = t.only(Party::Lab);
+    let lab = ask::shown(s, tank, Party::Lab);
     let lower = Band {
         end: end,
         top: top + 42,
@@ -304,7 +311,9 @@ fn over(t: Tank, hold: u64, end: u64, top: u64, list: &[u64], out: &mut [u8], at
 
 // A tank's band, from the list of its marked stretches.
 fn drawn(
+    s: Tanks,
     t: Tank,
+    tank: u64,
     keys: [u64; 12],
     hold: u64,
     top: u64,
@@ -312,20 +321,22 @@ fn drawn(
     out: &mut [u8],
     at: usize,
 ) -> usize
-    requires { (piece_room ≤ length out.old) × (state.Sound t) × (top ≤ 4000) }
-    ensures { (h : House) (tank : ℕ) → state.view t ≡ tank_at h tank → Adds out.old at (drawn_says h keys hold tank top list.now) result out.new }
+    requires { (piece_room ≤ length out.old) × (Sound s) × (state.Sound t) × (state.view t ≡ tank_at (meaning s) tank) × (top ≤ 4000) }
+    ensures { Adds out.old at (drawn_says (meaning s) keys hold tank top list.now) result out.new }
 {
     let end = end_of(list);
     if end < 1 {
         return empty(top, out, at);
     }
-    let a = sides(t, keys, end, top, out, at);
+    let a = sides(s, tank, keys, end, top, out, at);
     over(t, hold, end, top, list, out, a)
 }
 
 // The same from the first n numbers of a list.
 fn drawn_over(
+    s: Tanks,
     t: Tank,
+    tank: u64,
     keys: [u64; 12],
     hold: u64,
     top: u64,
@@ -334,10 +345,10 @@ fn drawn_over(
     out: &mut [u8],
     at: usize,
 ) -> usize
-    requires { (piece_room ≤ length out.old) × (state.Sound t) × (top ≤ 4000) × (n ≤ length list.now) }
-    ensures { (h : House) (tank : ℕ) → state.view t ≡ tank_at h tank → Adds out.old at (drawn_says h keys hold tank top (take n list.now)) result out.new }
+    requires { (piece_room ≤ length out.old) × (Sound s) × (state.Sound t) × (state.view t ≡ tank_at (meaning s) tank) × (top ≤ 4000) × (n ≤ length list.now) }
+    ensures { Adds out.old at (drawn_says (meaning s) keys hold tank top (take n list.now)) result out.new }
 {
-    drawn(t, keys, hold, top, &list[..n], out, at)
+    drawn(s, t, tank, keys, hold, top, &list[..n], out, at)
 }
 
 // A tank: the words beside its band, and the band.
@@ -353,7 +364,7 @@ fn tank_drawn(s: Tanks, tank: usize, keys: [u64; 12], hold: u64, out: &mut [u8],
     let mut list = [0u64; 1536];
     let listed = lists::list_whole(t, &mut list);
     let a = beside(t, number, x, top, out, at);
-    drawn_over(t, keys, hold, top, &list, listed.count, out, a)
+    drawn_over(s, t, number, keys, hold, top, &list, listed.count, out, a)
 }
 
 // The eight tanks.

@@ -1,11 +1,11 @@
 // Questions over a range of positions. Each costs a walk over the runs, whatever their lengths.
 
-ghost use Rattle.std.specs.Prelude.{◌≡◌, ◌&&◌, ◌+◌, ◌-◌, ltb};
-ghost use Rattle.runs.specs.Runs.{runs, set_at};
-ghost use Rattle.runs.specs.Positions.{any_at, all_at, stretch_to};
+ghost use Rattle.std.specs.Prelude.{◌≡◌, not, ◌&&◌, ◌+◌, ◌-◌, ltb};
+ghost use Rattle.runs.specs.Runs.{runs, set_at, total};
+ghost use Rattle.runs.specs.Positions.{any_at, all_at, stretch_to, seek_from};
 ghost use Rattle.runs.specs.Scan.{meets, shows, passes, common_at, CanScan, CanFind};
 
-use super::{clip, find, set_at, sooner};
+use super::{clip, find, later, set_at, sooner};
 
 // What a scan looks for in a set: a bit of a mask; none of it; that the highest bit of a first mask is not in a second; that its bits of a mask
 // are others than these.
@@ -100,6 +100,41 @@ pub fn back(lens: &[u64], sets: &[u64], n: usize, mask: u64, last: u64) -> u64
         }
     }
     from
+}
+
+// The first position from `from` on that passes the test, or the number of positions.
+fn first_from(lens: &[u64], sets: &[u64], n: usize, from: u64, test: Test) -> u64
+    requires { CanScan lens.now sets.now n from }
+    ensures { result ≡ seek_from (λ p. passes test (set_at (runs lens.now sets.now n) p)) from (total (runs lens.now sets.now n) - from) }
+{
+    let mut j = 0;
+    let mut start: u64 = 0;
+    while j < n {
+        let end = start + lens[j];
+        let len = clip(from, end, start, end);
+        if here(len, test, sets[j]) {
+            return later(from, start);
+        }
+        start = end;
+        j += 1;
+    }
+    start
+}
+
+// The first position from `from` on that has a bit of the mask, or the number of positions.
+pub fn first_with(lens: &[u64], sets: &[u64], n: usize, from: u64, mask: u64) -> u64
+    requires { CanScan lens.now sets.now n from }
+    ensures { result ≡ seek_from (λ p. meets mask (set_at (runs lens.now sets.now n) p)) from (total (runs lens.now sets.now n) - from) }
+{
+    first_from(lens, sets, n, from, Test::Meets(mask))
+}
+
+// The first position from `from` on that has no bit of the mask, or the number of positions.
+pub fn first_without(lens: &[u64], sets: &[u64], n: usize, from: u64, mask: u64) -> u64
+    requires { CanScan lens.now sets.now n from }
+    ensures { result ≡ seek_from (λ p. not (meets mask (set_at (runs lens.now sets.now n) p))) from (total (runs lens.now sets.now n) - from) }
+{
+    first_from(lens, sets, n, from, Test::Misses(mask))
 }
 
 // What the positions pos - 1 and pos have in common: what positions put in between them get. Nothing at either end.

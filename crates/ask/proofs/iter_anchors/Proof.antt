@@ -37,36 +37,37 @@ use denote.Triple.Spec.{Meets, triple_of}
 use denote.Triple.Table.{entered, cited}
 use denote.Triple.Walked.{says, needs, Stays, gave_slice, stay_none, walk_of, Goes-gave_slice, Goes-none, Walks, ends_at, walked, walk_Meets}
 use denote.Exit.{yes as is-kept}
-use Rattle.ask.specs.declared.records.Place.{Place}
+use Rattle.tank.specs.declared.Tank.{Tank}
 use Rattle.tanks.specs.declared.Tanks.{Tanks}
 use Rattle.lists.specs.declared.Listed.{Listed}
 use Rattle.lists.specs.declared.anchors.Anchor.{Anchor}
+use Rattle.tank.specs.State as state
 use Rattle.ask.specs.declared.Spot.{Spot}
-use Rattle.ask.specs.Records.{Fits, PlacedIn}
+use Rattle.ask.specs.Asks.{ShownIn}
 use Rattle.tanks.specs.House.{ask_number}
 use Rattle.tanks.specs.Pool.{Sound}
-use Rattle.ask.proofs.RecordLaws.{Said-listed, Says-asked, anchors_asked}
+use Rattle.ask.proofs.AskLaws.{Said-listed, Says-asked, anchors_asked}
 use Rattle.tanks.specs.contracts.Tanks as S
 use Rattle.tanks.proofs.Tanks.TheLaws as S'
 use Rattle.ask.specs.contracts.Spot as K
 use Rattle.ask.proofs.Spot.TheLaws as K'
-use Rattle.ask.specs.contracts.records.Place as X
-use Rattle.ask.proofs.records.Place.TheLaws as X'
+use Rattle.tank.specs.contracts.Tank as X
+use Rattle.tank.proofs.Tank.TheLaws as X'
 use Rattle.lists.specs.contracts.Listed as R
 use Rattle.lists.proofs.Listed.TheLaws as R'
 use Rattle.lists.specs.contracts.anchors.Anchor as T
-use Rattle.ask.specs.contracts.records.placed as found
-use Rattle.ask.proofs.records.placed.Symbol as Found-def
-use Rattle.ask.proofs.records.placed.Symbol.{name as #found}
-use Rattle.ask.proofs.records.placed.Met as found-thm
+use Rattle.ask.specs.contracts.own as found
+use Rattle.ask.proofs.own.Symbol as Found-def
+use Rattle.ask.proofs.own.Symbol.{name as #found}
+use Rattle.ask.proofs.own.Met as found-thm
 use Rattle.ask.specs.contracts.missing as missing
 use Rattle.ask.proofs.missing.Symbol as missing-def
 use Rattle.ask.proofs.missing.Symbol.{name as #missing}
 use Rattle.ask.proofs.missing.Met as missing-thm
-use Rattle.ask.specs.contracts.records.iter_anchors as list
-use Rattle.ask.proofs.records.iter_anchors.Symbol as list-def
-use Rattle.ask.proofs.records.iter_anchors.Symbol.{name as #list}
-use Rattle.ask.proofs.records.iter_anchors.Met as list-thm
+use Rattle.lists.specs.contracts.anchors.iter_anchors as list
+use Rattle.lists.proofs.anchors.iter_anchors.Symbol as list-def
+use Rattle.lists.proofs.anchors.iter_anchors.Symbol.{name as #list}
+use Rattle.lists.proofs.anchors.iter_anchors.Met as list-thm
 use Rattle.ask.specs.contracts.iter_anchors.Key.{name as #iter-anchors}
 use Rattle.ask.specs.contracts.iter_anchors as iter-anchors
 use Rattle.ask.proofs.iter_anchors.Statement as stated
@@ -87,8 +88,8 @@ module _ {M : Type 1} {𝓤 : Ura M} (𝓛 : Logic 𝓤) (mem : Memory → SProp
   List-of = triple_of 𝓛 list.signature (list.spec 𝓛 mem run)
 
   -- of the covered callees' `ensured`, the clause alone
-  found_of : (h : Tanks) (k : Spot) (r : Place) → ent 𝓤 (ensured 𝓛 found.ended (found.clauses 𝓛 mem run) tt (h, (k, tt)) tt r) (fact 𝓤 (PlacedIn h k.tank k.who r))
-  found_of h k r = ex_e 𝓤 _ (λ ws. snd∗ 𝓤 (sem 𝓛 (lasts found.ended tt (h, (k, tt)) ws)) (fact 𝓤 (PlacedIn h k.tank k.who r)))
+  found_of : (h : Tanks) (k : Spot) (r : Tank) → ent 𝓤 (ensured 𝓛 found.ended (found.clauses 𝓛 mem run) tt (h, (k, tt)) tt r) (fact 𝓤 (ShownIn h k.tank k.who r))
+  found_of h k r = ex_e 𝓤 _ (λ ws. snd∗ 𝓤 (sem 𝓛 (lasts found.ended tt (h, (k, tt)) ws)) (fact 𝓤 (ShownIn h k.tank k.who r)))
 
   missing-of : (k : Spot) (r : ℕ) → ent 𝓤 (ensured 𝓛 missing.ended (missing.clauses 𝓛 mem run) tt (k, tt) tt r) (fact 𝓤 (r ≡ ask_number k.tank))
   missing-of k r = ex_e 𝓤 _ (λ ws. snd∗ 𝓤 (sem 𝓛 (lasts missing.ended tt (k, tt) ws)) (fact 𝓤 (r ≡ ask_number k.tank)))
@@ -144,7 +145,7 @@ module _ {M : Type 1} {𝓤 : Ura M} (𝓛 : Logic 𝓤) (mem : Memory → SProp
   goes-missing : ent 𝓤 (sem 𝓛 ftrue) ((Missing 𝓛 mem run).pre to-missing)
   goes-missing = qed 𝓛 (‵ ftrue ∷ []) ∵ nothing ! $ owned ! K.the_row (Is K.the_row) (LL.makes K.the_type K'.the_plain 𝓛) k _ is-k $ fjoin ! $ move ! (1 ∷ 0 ∷ []) $ join ! $ frame ! $ done !
 
-  module _ (d : Place) (dv : Val) (n : ℕ) (is-d : Is X.the_row d (dv ∷ [])) (is-n : Is u64 n (uint_vals w64 n)) (sound-d : Fits d) where
+  module _ (d : Tank) (dv : Val) (n : ℕ) (is-d : Is X.the_row d (dv ∷ [])) (is-n : Is u64 n (uint_vals w64 n)) (sound-d : state.Sound d) where
     abbrev to-list : (List-of 𝓛 mem run).Ghost
     to-list = (((κ, tt), (q, tt), tt, (d, (n, (slice, tt))), (dv ∷ [], (vint w64 n ∷ [], (sv ∷ [], tt)))), tt)
 
@@ -162,8 +163,8 @@ module _ {M : Type 1} {𝓤 : Ura M} (𝓛 : Logic 𝓤) (mem : Memory → SProp
         -- [_7; …; _6; …; … _0; …; the token; what the parameters own]
         nothing ! $ use1 𝓛 (raw ((Found 𝓛 mem run).pre to-found)) goes-found $
         calls_at ! fm (Found 𝓛 mem run) known-found to-found (and_then ! (load ! (from ! (stop !)) (look ! 13 refl)) (and_then ! (load ! (from ! (stop !)) (look ! 11 refl)) (no_more !))) (λ dv.
-        use1 𝓛 (later (some (λ (d : Place). (‵ ftrue ⊛ ‵ ((X.the_row).own_val d (dv ∷ []))) ⊛ raw (ensured 𝓛 found.ended (found.clauses 𝓛 mem run) tt (h, (k, tt)) tt d)))) (id⊢ 𝓤 _) $ await ! tt $ pick ! (λ d.
-        split ! $ move ! (1 ∷ []) $ use1 𝓛 (raw (fact 𝓤 (PlacedIn h k.tank k.who d))) (found_of 𝓛 mem run h k d) $ heard ! (PlacedIn h k.tank k.who d) (λ e.
+        use1 𝓛 (later (some (λ (d : Tank). (‵ ftrue ⊛ ‵ ((X.the_row).own_val d (dv ∷ []))) ⊛ raw (ensured 𝓛 found.ended (found.clauses 𝓛 mem run) tt (h, (k, tt)) tt d)))) (id⊢ 𝓤 _) $ await ! tt $ pick ! (λ d.
+        split ! $ move ! (1 ∷ []) $ use1 𝓛 (raw (fact 𝓤 (ShownIn h k.tank k.who d))) (found_of 𝓛 mem run h k d) $ heard ! (ShownIn h k.tank k.who d) (λ e.
         split ! $ drop ! $ peeks ! X.the_row (Is X.the_row) (shows 𝓛 X.the_row) d (dv ∷ []) (λ is-d. drop ! $
         land ! (from ! (stop !)) (init ! 6 refl ((LL.lawful X.the_type X'.the_laws 𝓛).typed d _ is-d).0) $
         -- the number
@@ -178,8 +179,8 @@ module _ {M : Type 1} {𝓤 : Ura M} (𝓛 : Logic 𝓤) (mem : Memory → SProp
         assigns ! (addr ! (from ! (fld ! refl (hop ! (look_in ! 8 (sub ! 0 refl (whole !))) (stop !))))) (from ! (stop !)) (init ! 2 refl (tt, tt)) $
         assigns ! (agg ! (and_then ! (load ! (from ! (stop !)) (look ! 2 refl)) (and_then ! (load ! (from ! (fld ! refl (stop !))) (look_in ! 8 (sub ! 1 refl (whole !)))) (no_more !)))) (from ! (stop !)) (init ! 0 refl (tt, (tt, (record { fits = room.0 }, tt)))) $
         move ! (17 ∷ []) $ fsplit ! $ move ! (1 ∷ []) $ fsplit ! $ move ! (1 ∷ []) $ fsplit ! $ move ! (20 ∷ 0 ∷ []) $
-        use2 𝓛 (raw ((List-of 𝓛 mem run).pre (to-list d dv n is-d (refl, is.1) e.fits))) (goes-list d dv n is-d (refl, is.1) e.fits) $
-        calls_at ! fm (List-of 𝓛 mem run) known-list (to-list d dv n is-d (refl, is.1) e.fits) (and_then ! (load ! (from ! (stop !)) (look ! 10 refl)) (and_then ! (load ! (from ! (stop !)) (look ! 8 refl)) (and_then ! (load ! (from ! (stop !)) (look ! 4 refl)) (no_more !)))) (λ w.
+        use2 𝓛 (raw ((List-of 𝓛 mem run).pre (to-list d dv n is-d (refl, is.1) e.sound))) (goes-list d dv n is-d (refl, is.1) e.sound) $
+        calls_at ! fm (List-of 𝓛 mem run) known-list (to-list d dv n is-d (refl, is.1) e.sound) (and_then ! (load ! (from ! (stop !)) (look ! 10 refl)) (and_then ! (load ! (from ! (stop !)) (look ! 8 refl)) (and_then ! (load ! (from ! (stop !)) (look ! 4 refl)) (no_more !)))) (λ w.
         use1 𝓛 (later (some (λ (r : Listed). ((‵ (flft κ q) ⊛ ‵ ftrue) ⊛ ‵ ((R.the_row).own_val r (w ∷ []))) ⊛ raw (ensured 𝓛 list.ended (list.clauses 𝓛 mem run) (κ, tt) (d, (n, (slice, tt))) tt r)))) (id⊢ 𝓤 _) $ await ! tt $ pick ! (λ r.
         split ! $ move ! (1 ∷ []) $ use1 𝓛 (some (λ (ws : Lasts list.ended (κ, tt) (d, (n, (slice, tt)))). ‵ (lasts list.ended (κ, tt) (d, (n, (slice, tt))) ws) ⊛ raw (fact 𝓤 (Said-listed d n ys r ws.1.1.0)))) (id⊢ 𝓤 _) $ pick ! (λ ws.
         split ! $ move ! (1 ∷ []) $ heard ! (Said-listed d n ys r ws.1.1.0) (λ g.
@@ -214,6 +215,6 @@ iter-anchors-spec 𝓤 𝓛 𝓜 𝓡 =
     entered 𝓤 𝓛.H (triple_of 𝓛 iter-anchors.signature (iter-anchors.spec 𝓛 𝓜.mem 𝓡.run))
     (tables 𝓤 𝓛.H 𝓜 𝓡 code.env).C (tables 𝓤 𝓛.H 𝓜 𝓡 code.env).Λ #iter-anchors code.function (code.unfolded 𝓤 𝓛.H 𝓜 𝓡)
     (iter-anchors-meets 𝓛 𝓜.mem 𝓡.run (tables_of 𝓤 𝓛.H 𝓜 (tables 𝓤 𝓛.H 𝓜 𝓡 code.env))
-    (cited 𝓤 𝓛.H (Found 𝓛 𝓜.mem 𝓡.run) 𝓜 𝓡 code.env #found Found-def.routine code.calls-ask::records::placed (found-thm.met 𝓤 𝓛 𝓜 𝓡))
+    (cited 𝓤 𝓛.H (Found 𝓛 𝓜.mem 𝓡.run) 𝓜 𝓡 code.env #found Found-def.routine code.calls-ask::own (found-thm.met 𝓤 𝓛 𝓜 𝓡))
     (cited 𝓤 𝓛.H (Missing 𝓛 𝓜.mem 𝓡.run) 𝓜 𝓡 code.env #missing missing-def.routine code.calls-ask::missing (missing-thm.met 𝓤 𝓛 𝓜 𝓡))
-    (cited 𝓤 𝓛.H (List-of 𝓛 𝓜.mem 𝓡.run) 𝓜 𝓡 code.env #list list-def.routine code.calls-ask::records::iter-anchors (list-thm.met 𝓤 𝓛 𝓜 𝓡)))
+    (cited 𝓤 𝓛.H (List-of 𝓛 𝓜.mem 𝓡.run) 𝓜 𝓡 code.env #list list-def.routine code.calls-lists::anchors::iter-anchors (list-thm.met 𝓤 𝓛 𝓜 𝓡)))

@@ -6,8 +6,7 @@ use native.Mathlib.Omega.{arith}
 use borrow.Author.Rules.{rules}
 use Rattle.tanks.proofs.LookLaws.{few_in, walk_fits}
 use Rattle.lists.specs.Anchors.{between}
-use Rattle.ask.specs.Records.{bits_at}
-use Rattle.ask.proofs.Borders.{borders_to, Trail, trail_begins, trail_new, trail_same, borders_none, borders_more, borders_same, borders_all, table_full}
+use Rattle.ask.proofs.Borders.{borders_to, bits_at, Trail, trail_begins, trail_new, trail_same, borders_none, borders_more, borders_same, borders_all, table_full}
 use Rattle.answers.specs.Waiting.{Adds}
 use Rattle.answers.specs.Replies.{anchors_say}
 use Rattle.answers.proofs.Laws.{no_piece, adds_as}

@@ -8,7 +8,7 @@ use borrow.Author.Rules.{rules}
 use Rattle.styles.specs.Bits.{pick, without_bit}
 use Rattle.styles.proofs.CountLaws.{lowest_fewer, without_le}
 use Rattle.lists.specs.Anchors.{anchors_of}
-use Rattle.lists.proofs.AnchorLaws.{lowest_in}
+use Rattle.lists.proofs.CursorLaws.{lowest_in}
 use Rattle.answers.specs.Replies.{anchor_says, anchors_say}
 use Rattle.answers.proofs.Laws.{Left, left_all, left_more, left_none, adds_as}
 use Rattle.clerk.proofs.Lists.{side_more, side_none}

@@ -1,21 +1,21 @@
--- What the head and the table say of the tank is what its positions say.
-use native.Mathlib.Omega.{arith}
-use Rattle.key_legend.proofs.Lowest.{marks_few}
+-- The tank that is taken out is the tank that it is.
+use mathlib.Core.Path.{ap₂}
+use Prim.Native.Nat.{ℕ}
+use lib.ListN.{get_or}
+use Rattle.tank.specs.Rules.{View}
+use Rattle.tanks.specs.Settings.{no_setting}
+use Rattle.tanks.specs.Pool.{meaning}
 use Rattle.answers.proofs.Laws.{adds_as}
-use Rattle.glance.proofs.Laws.{row_there}
+use Rattle.glance.specs.Glance.{row_says}
 use borrow.Author.Rules.{rules}
 use Rattle.glance.proofs.table.row_at.Statement.{statement}
 use Rattle.glance.proofs.table.row_at.Tie as tie
 
-row-requires : tie.Need-row-requires
-row-requires c κs =
-    let s = c.before.before.before.before.before.before.before.before.before.before in
-    (omega (arith, marks_few s.args.s s.requires.0 s.args.t s.requires.1), search rules)
-
 returns : tie.Need-returns
+unfolding meaning
 returns c =
-    let s = c.before.before.before.before.before.before.before.before.before.before.before.before.before in
-    adds_as (row_there s.args.s s.requires.0 s.args.t s.requires.1 c.before.before.before.before.before.wide.ensures) c.before.before.row.ensures
+    let a = c.before.before.before.before.before.before.before.before.args in
+    adds_as (ap₂ (λ (n : ℕ) (v : View). row_says n (get_or a.t1.settings a.t no_setting) v) c.before.before.before.before.wide.ensures c.before.before.before.take.ensures.is) c.before.before.row.ensures
 
 pub row-at-spec : {M : Type 1} → statement M
-row-at-spec = tie.close (tie.spec (λ c. search rules) (λ c. search rules) (λ c κs. search rules) (λ c. search rules) (λ c. search rules) (λ c. search rules) (λ c. search rules) row-requires (λ c. search rules) returns)
+row-at-spec = tie.close (tie.spec (λ c. search rules) (λ c. search rules) (λ c κs. search rules) (λ c κs. search rules) (λ c κs. search rules) (λ c. search rules) returns)

@@ -2,37 +2,34 @@
 use mathlib.Core.Path.{◌≡◌}
 use Prim.Native.Nat.{◌-◌, ◌≤◌}
 use native.Mathlib.Omega.{arith}
-use Rattle.key_legend.proofs.Lowest.{lowest_below, tanks_none, tanks_on, tanks_all, marks_few}
+use Rattle.tanks.specs.Pool.{meaning}
+use Rattle.tank.specs.State.{view}
+use Rattle.key_legend.specs.Keys.{first_below}
+use Rattle.key_legend.proofs.Lowest.{tanks_none, tanks_on, tanks_all}
 use borrow.Author.Rules.{rules}
 use Rattle.key_legend.proofs.keys.first_key.Statement.{statement}
 use Rattle.key_legend.proofs.keys.first_key.Tie as tie
 
 abbrev invariant-loop : tie.invariant-loop
-invariant-loop whose least heads tables first₀ t₀ first t = (t ≤ 8) × (first ≡ lowest_below whose least heads tables t)
+invariant-loop s whose least first₀ t₀ first t = (t ≤ 8) × (first ≡ first_below whose least (meaning s) t)
 
 abbrev decreases-loop : tie.decreases-loop
-decreases-loop whose least heads tables first₀ t₀ first t = 8 - t
+decreases-loop s whose least first₀ t₀ first t = 8 - t
 
 loop-holds : tie.Need-loop-init invariant-loop decreases-loop
-loop-holds c = let a = c.before.before.args in (omega arith, tanks_none a.whose a.least a.s.heads a.s.tables)
-
-first-in-requires : tie.Need-first-in-requires invariant-loop decreases-loop
-first-in-requires c κs =
-    let s = c.before.before.before.before.before.before.before in
-    omega (arith, marks_few s.args.s s.requires c.before.before.before.before.loop.t c.before.before.before.loop-test.true)
+loop-holds c = let a = c.args in (omega arith, tanks_none a.whose a.least (meaning a.s))
 
 loop-again : tie.Need-loop-preserved invariant-loop decreases-loop
 loop-again c =
-    let a = c.before.before.before.before.before.before.before.before.before.args in
-    let l = c.before.before.before.before.before.before.loop in
-    let more = c.before.before.before.before.before.loop-test.true in
-    (omega arith, tanks_on a.whose a.least a.s.heads a.s.tables l.t l.first _ _ l.invariant.1 c.before.first-in.ensures c.sooner.ensures)
+    let a = c.before.before.before.before.before.args in
+    let l = c.before.before.before.before in
+    (omega (arith, c.before.before.before.loop-test.true), tanks_on a.whose a.least (meaning a.s) l.loop.t l.loop.first _ _ (view c.before.before.take.result) c.before.before.take.ensures.is l.loop.invariant.1 c.before.first-in.ensures c.sooner.ensures)
 
 returns : tie.Need-returns invariant-loop decreases-loop
 returns c =
-    let s = c.before.before.before.before in
-    let l = c.before.loop in
-    tanks_all s.args.s s.requires s.args.whose s.args.least l.t _ l.invariant.0 c.loop-test.false l.invariant.1
+    let a = c.before.before.args in
+    let l = c.before in
+    tanks_all a.whose a.least (meaning a.s) l.loop.t _ l.loop.invariant.0 c.loop-test.false l.loop.invariant.1
 
 pub first-key-spec : {M : Type 1} → statement M
-first-key-spec = tie.close (tie.spec invariant-loop decreases-loop loop-holds (λ c. search rules) (λ c. search rules) (λ c. search rules) (λ c. search rules) first-in-requires (λ c κs. search rules) (λ c. search rules) (λ c. search rules) loop-again returns)
+first-key-spec = tie.close (tie.spec invariant-loop decreases-loop loop-holds (λ c κs. search rules) (λ c κs. c.take.ensures.sound) (λ c κs. search rules) (λ c. omega (arith, c.before.before.before.loop-test.true)) (λ c. omega (arith, c.before.before.before.loop-test.true)) loop-again returns)

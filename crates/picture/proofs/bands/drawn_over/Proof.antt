@@ -6,7 +6,7 @@ use Rattle.picture.proofs.bands.drawn_over.Statement.{statement}
 use Rattle.picture.proofs.bands.drawn_over.Tie as tie
 
 slice-aggregate-drawn : tie.Need-slice-aggregate-drawn
-slice-aggregate-drawn c = sym (length-take-le _ _ c.before.before.before.requires.3)
+slice-aggregate-drawn c = sym (length-take-le _ _ c.before.before.before.requires.5)
 
 returns : tie.Need-returns
 returns c = c.before.before.drawn.ensures

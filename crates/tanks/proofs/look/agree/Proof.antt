@@ -33,7 +33,7 @@ returns c =
     let a = s.args in
     let own = o.own-bits.result in
     let set : ℕ → ℕ = λ p. set_at (run_list a.heads a.pool a.t) p in
-    let first = b.both.ensures ∙ ap (λ (x : ℕ). bit_and x own) k.set-in.ensures in
+    let first = b.both.ensures ∙ ap (λ (x : ℕ). bit_and x own) k.set_in_lem.ensures in
     let same : ℕ → Bool = λ p. eqb (bit_and (set p) own) b.both.result in
     ap not c.some_in.ensures
     ∙ sym (all_is same a.start a.end)

@@ -23,7 +23,7 @@ returns c =
     let o = k.before in
     let s = o.before in
     let a = s.args in
-    let e = c.both.ensures ∙ ap (λ (x : ℕ). bit_and x o.own-bits.result) k.set-in.ensures in (
+    let e = c.both.ensures ∙ ap (λ (x : ℕ). bit_and x o.own-bits.result) k.set_in_lem.ensures in (
       ap (pick (take (get_or a.heads a.t no_head).marks a.table.marks)) e
           ∙ seen_marks a.heads a.pool a.table a.t a.who _ a.pos o.own-bits.ensures,
       omega (arith, e, seen_small s.requires o.own-bits.result a.pos),

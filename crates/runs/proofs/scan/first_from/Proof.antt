@@ -1,0 +1,137 @@
+-- `scan::first_from` meets its contract. The invariant: no position before run k passes.
+use Prim.Native.Nat.{ℕ, ◌+◌, ◌-◌, ◌≤◌, ◌<◌, max}
+use mathlib.Core.Path.{◌≡◌, refl, sym, ap, ◌∙◌}
+use mathlib.Core.Bool.{Bool, true, false, ◌&&◌, and-eq-true_iff}
+use mathlib.Core.List.{List}
+use native.Mathlib.Omega.{arith}
+use native.Mathlib.Decide.{dec_lt}
+use borrow.Author.Rules.{rules}
+use borrow.Author.Tests.{ltb-true, lt-ltb}
+use lib.Dec.{ltb}
+use lib.ListN.{get_or}
+use Rattle.runs.specs.Runs.{runs, total, set_at}
+use Rattle.runs.specs.Positions.{seek_from}
+use Rattle.runs.specs.Scan.{passes, CanScan}
+use Rattle.runs.proofs.Copies.{clip}
+use Rattle.runs.proofs.Laws.{total_more, total_mono, turn_end}
+use Rattle.runs.proofs.ScanLaws.{at_run, second_fails}
+use Rattle.runs.proofs.SeekLaws.{seek_is}
+use Rattle.runs.proofs.scan.first_from.Statement.{statement}
+use Rattle.runs.proofs.scan.first_from.Tie as tie
+
+record Sought (test : ℕ → Bool) (lens sets : List ℕ) (n from k start : ℕ) : Type 0 where
+  within : k ≤ n
+  begun : start ≡ total (runs lens sets k)
+  clear : (p : ℕ) → from ≤ p → p < start → test (set_at (runs lens sets n) p) ≡ false
+
+-- of the turn's run, what is asked
+abbrev part : ℕ → ℕ → List ℕ → ℕ → ℕ
+part from start lens k = clip from (start + get_or lens k 0) start (get_or lens k 0)
+
+module _ {test : ℕ → Bool} {lens sets : List ℕ} {n from k start : ℕ} (can : CanScan lens sets n from) (inv : Sought test lens sets n from k start) (in-turn : k < n) where
+  -- the positions of the turn's run have its set
+  on-run : (p : ℕ) → start ≤ p → p < start + get_or lens k 0 → test (set_at (runs lens sets n) p) ≡ test (get_or sets k 0)
+  on-run p a b = let z = inv.begun in ap test (at_run lens sets n k p in-turn (omega arith) (omega arith))
+
+  turn-found : (ltb 0 (part from start lens k) && test (get_or sets k 0)) ≡ true
+      → max from start ≡ seek_from (λ p. test (set_at (runs lens sets n) p)) from (total (runs lens sets n) - from)
+  turn-found e =
+      let b = (and-eq-true_iff (ltb 0 (part from start lens k)) (test (get_or sets k 0))).0 e in
+      let some = ltb-true 0 (part from start lens k) b.0 in
+      let z = inv.begun in
+      let r = can.reach in
+      let m = total_more lens sets k in
+      let u = total_mono lens sets (k + 1) n (omega arith) in
+      sym
+      (seek_is (λ p. test (set_at (runs lens sets n) p)) from (total (runs lens sets n) - from) (max from start) (omega arith) (omega arith)
+      (λ p c d. inv.clear p c (omega arith))
+      (λ h. on-run (max from start) (omega arith) (omega arith) ∙ b.1))
+
+  turn : (ltb 0 (part from start lens k) && test (get_or sets k 0)) ≡ false → Sought test lens sets n from (k + 1) (start + get_or lens k 0)
+  turn e =
+      let z = inv.begun in
+      record {
+        within = omega arith;
+        begun = omega (arith, total_more lens sets k);
+        clear = λ p a h.
+            elim (dec_lt p start) [
+              | yes g ↦ inv.clear p a g
+              | no g ↦
+                  let some : 0 < part from start lens k = omega arith in
+                  on-run p (omega arith) h ∙ second_fails (ltb 0 (part from start lens k)) (test (get_or sets k 0)) (lt-ltb 0 (part from start lens k) some) e
+            ];
+      }
+
+at-end : {test : ℕ → Bool} {lens sets : List ℕ} {n from k start : ℕ} → CanScan lens sets n from → Sought test lens sets n from k start → n ≤ k
+    → start ≡ seek_from (λ p. test (set_at (runs lens sets n) p)) from (total (runs lens sets n) - from)
+at-end {test} {lens} {sets} {n} {from} {k} {start} can inv h =
+    let w = inv.within in
+    let z = inv.begun in
+    let r = can.reach in
+    let e : k ≡ n = omega arith in
+    let t = ap (λ (x : ℕ). total (runs lens sets x)) e in
+    sym
+    (seek_is (λ p. test (set_at (runs lens sets n) p)) from (total (runs lens sets n) - from) start (omega arith) (omega arith)
+    (λ p c d. inv.clear p c d) (λ g. absurd (omega arith)))
+
+abbrev invariant-loop : tie.invariant-loop
+invariant-loop lens sets n from test k₀ start₀ k start = Sought (passes test) lens sets n from k start
+
+abbrev decreases-loop : tie.decreases-loop
+decreases-loop lens sets n from test k₀ start₀ k start = n - k
+
+loop-holds : tie.Need-loop-init invariant-loop decreases-loop
+unfolding runs total
+loop-holds c = record { within = omega arith; begun = refl; clear = λ p a h. absurd (omega arith) }
+
+add-end : tie.Need-overflow-add-end invariant-loop decreases-loop
+add-end c =
+    let i = c.before in
+    omega (arith, turn_end _ _ _ i.before.loop.invariant.begun (omega arith) i.before.before.before.before.requires.look.small)
+
+-- what the turn's test says
+asked : (c : tie.After-here invariant-loop decreases-loop) → let i = c.before.before.before.before in
+    let l = i.before.loop in
+    let a = i.before.before.before.before.args in
+    c.here.result ≡ (ltb 0 (part a.from l.start a.lens.now l.j) && passes a.test (get_or a.sets.now l.j 0))
+asked c =
+    let i = c.before.before.before.before in
+    let a = i.before.before.before.before.args in
+    c.here.ensures ∙ ap (λ (x : ℕ). ltb 0 x && passes a.test (get_or a.sets.now i.before.loop.j 0)) c.before.before.clip.ensures
+
+returns : tie.Need-returns invariant-loop decreases-loop
+returns c =
+    let t = c.before in
+    let h = t.before in
+    let i = h.before.before.before.before in
+    c.later.ensures ∙ turn-found i.before.before.before.before.requires i.before.loop.invariant (omega arith) (sym (asked h) ∙ t.if1.true)
+
+loop-again : tie.Need-loop-preserved invariant-loop decreases-loop
+loop-again c =
+    let h = c.before in
+    let i = h.before.before.before.before in
+    turn i.before.before.before.before.requires i.before.loop.invariant (omega arith) (sym (asked h) ∙ c.if1.false)
+
+returns-2 : tie.Need-returns-2 invariant-loop decreases-loop
+returns-2 c = at-end c.before.before.before.before.requires c.before.loop.invariant (omega arith)
+
+pub first-from-spec : {M : Type 1} → statement M
+first-from-spec =
+    tie.close
+    (tie.spec
+    invariant-loop
+    decreases-loop
+    loop-holds
+    (λ c. omega arith)
+    (λ c. omega arith)
+    add-end
+    (λ c κs. search rules)
+    (λ c. omega arith)
+    (λ c. omega arith)
+    (λ c κs. search rules)
+    (λ c κs. search rules)
+    returns
+    (λ c. omega arith)
+    (λ c. omega arith)
+    loop-again
+    returns-2)
