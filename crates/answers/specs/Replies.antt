@@ -15,8 +15,8 @@ use Rattle.night.specs.declared.Proposal.{Proposal}
 use Rattle.night.specs.declared.Range.{Range}
 use Rattle.night.specs.Plans.{no_range}
 use Rattle.lists.specs.declared.anchors.Anchor.{Anchor}
-use Rattle.log.specs.declared.Log.{Log}
-use Rattle.log.specs.declared.Stop.{Stop}
+use Rattle.day_log.specs.declared.Log.{Log}
+use Rattle.day_log.specs.declared.Stop.{Stop}
 use Rattle.tank.specs.Rules.{when_accepted}
 use Rattle.settings_text.specs.declared.Asked as sets
 use Rattle.settings_text.specs.declared.Taken.{Taken}

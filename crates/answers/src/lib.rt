@@ -1,6 +1,8 @@
 // Answers as text: each is put piece by piece into a buffer whose front waits to be written out.
 //
 // A piece is one line or a few. Every function here takes how much of the buffer waits, and answers how much waits then.
+#![tactic(auto)]
+
 mod pieces; // pieces.rt: a line, a value, a mark
 mod sets; // sets.rt: sets of marks
 mod replies; // replies.rt: what edits and questions answer

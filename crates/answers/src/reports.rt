@@ -4,7 +4,7 @@ ghost use Rattle.answers.specs.Waiting.{Adds, piece_room};
 ghost use Rattle.answers.specs.Replies.{stop_says, report_says};
 
 use super::pieces::{refuse, say};
-use log::{Log, Stop};
+use day_log::{Log, Stop};
 
 // The lines that were taken, or the refusal and the line where the log stopped.
 fn put_stop(out: &mut [u8], at: usize, stop: Stop, lines: u64) -> usize

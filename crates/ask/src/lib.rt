@@ -1,4 +1,6 @@
 // The questions and lists of eight tanks, with the tank's number in front.
+#![tactic(auto)]
+
 pub mod parts; // parts.rt: questions of one tank, on the parts of a state that it stands in
 pub mod listed; // listed.rt: lists of one tank, likewise
 pub mod windowed; // windowed.rt: what shows in equal windows over one tank, likewise
@@ -21,7 +23,7 @@ use tank::Tank;
 use tanks::Tanks;
 
 // A tank's number, and the party that asks.
-#[derive(Drop)]
+#[derive(Clone, Copy)]
 pub struct Spot {
     pub tank: u64,
     pub who: Party,

@@ -1,4 +1,6 @@
 // Prints document 01's case 5 before the insert, whole tank.
+#![tactic(auto)]
+
 use styles::{Mark, Party, Value};
 use tanks::Setting;
 

@@ -1,4 +1,6 @@
 // Document 01's examples 1 to 11 on the code, one tank each: every call with its answer and what the tank holds after it.
+#![tactic(auto)]
+
 mod cases;
 mod print;
 

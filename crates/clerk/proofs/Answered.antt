@@ -30,8 +30,8 @@ use Rattle.tanks.specs.Promises.{counts, says}
 use Rattle.night.specs.Ageings.{age_number_by, dropped_by, remaining_by}
 use Rattle.night.specs.Planning.{plan_number_by}
 use Rattle.night.specs.Proposing.{proposal_at}
-use Rattle.log.specs.Log.{log_at}
-use Rattle.log.specs.Log as logs
+use Rattle.day_log.specs.Log.{log_at}
+use Rattle.day_log.specs.Log as logs
 use Rattle.strip.specs.Strip.{strip, strip_number}
 use Rattle.saved.specs.Reads.{restore_number, restore_line}
 use Rattle.saved.specs.Writes.{written, write_number}

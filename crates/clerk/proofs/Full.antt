@@ -14,8 +14,8 @@ use Rattle.questions.specs.declared.Asked.{Asked}
 use Rattle.questions.specs.declared.Shown.{Shown}
 use Rattle.questions.specs.declared.Told.{Told}
 use Rattle.lists.specs.declared.anchors.Anchor.{Anchor}
-use Rattle.log.specs.declared.Log.{Log}
-use Rattle.log.specs.declared.Stop.{Stop}
+use Rattle.day_log.specs.declared.Log.{Log}
+use Rattle.day_log.specs.declared.Stop.{Stop}
 use Rattle.night.specs.declared.Range.{Range}
 use Rattle.night.specs.declared.Plan.{Plan}
 use Rattle.night.specs.Plans.{no_range}

@@ -5,8 +5,8 @@ use Rattle.settings_text.specs.declared.Kept.{Kept}
 use Rattle.settings_text.specs.declared.Taken.{Taken}
 use Rattle.settings_text.specs.Kept as keeping
 use Rattle.settings_text.specs.Text as reading
-use Rattle.log.specs.declared.Log.{Log}
-use Rattle.log.specs.Log as logs
+use Rattle.day_log.specs.declared.Log.{Log}
+use Rattle.day_log.specs.Log as logs
 use Rattle.night.specs.declared.Plan.{Plan}
 use Rattle.night.specs.declared.Range.{Range}
 use Rattle.night.specs.Plans.{range, plan_of}

@@ -2,7 +2,7 @@
 ghost use Rattle.std.specs.Prelude.{◌≡◌, ◌≤◌, length};
 ghost use Rattle.script.specs.declared.Both as boths;
 ghost use Rattle.script.specs.declared.Desk as desks;
-ghost use Rattle.log.specs.Log as logs;
+ghost use Rattle.day_log.specs.Log as logs;
 ghost use Rattle.tanks.specs.Pool.{Sound, meaning};
 ghost use Rattle.answers.specs.Waiting.{piece_room};
 ghost use Rattle.answers.specs.Replies.{taken_says, report_says};
@@ -10,7 +10,7 @@ ghost use Rattle.clerk.specs.Desk.{Settled, with_sets, with_log, with_pending, w
 
 use super::{Moved, Noted, Side};
 use answers::{accept, none, put_found, put_report, put_taken, say};
-use log::Log;
+use day_log::Log;
 use night::{Plan, Range};
 use script::{Call, key_of, party_of};
 use styles::Party;
@@ -217,7 +217,7 @@ pub fn read_log(s: Tanks, side: Side, body: &[u8], out: &mut [u8], at: usize) ->
     ensures { Moves (log_read (meaning s) side body.now).house (with_log side (logs.log_at (log_read (meaning s) side body.now))) (report_says (logs.log_at (log_read (meaning s) side body.now))) out.old at result out.new }
 {
     let before = side.log;
-    let t = log::take(s, before, body);
+    let t = day_log::take(s, before, body);
     let tanks = t.tanks;
     let after = t.log;
     let k = put_report(out, at, after);
@@ -236,7 +236,7 @@ pub fn end_log(side: Side, out: &mut [u8], at: usize) -> Noted
     ensures { Notes (with_log side logs.fresh) (report_says (logs.atEnd side.log)) out.old at result out.new }
 {
     let before = side.log;
-    let k = put_report(out, at, log::end(before));
-    let next = with_log(side, log::begin());
+    let k = put_report(out, at, day_log::end(before));
+    let next = with_log(side, day_log::begin());
     Noted { side: next, at: k }
 }

@@ -1,4 +1,6 @@
 // The clerk of the tank map: takes calls as they are read, and writes their answers as text.
+#![tactic(auto)]
+
 mod editing; // editing.rt: the four edits of one tank
 mod changes; // changes.rt: other calls that change the state
 mod asking; // asking.rt: calls that ask
@@ -22,8 +24,8 @@ ghost use Rattle.clerk.specs.Course.{malformed_says, Eats, Closes, Reads, Runs, 
 
 use answers::say;
 use changes::{aged, opened};
+use day_log::Log;
 pub use listing::whole;
-use log::Log;
 use night::Plan;
 use script::{Both, Call, Change, Desk, Ending, Event, Inlet, Listing, Op, Question, Reader, Text};
 use settings_text::Kept;
@@ -32,7 +34,7 @@ use styles::Party;
 use tanks::{Edit, Head, Run, Setting, Table, Tanks};
 
 // What is asked of one tank where it stands.
-#[derive(Drop)]
+#[derive(Clone, Copy)]
 pub enum Look {
     Question(Question),
     Listing(Listing),
@@ -41,7 +43,7 @@ pub enum Look {
 
 // What the loop over calls does with one: it tells what is asked of the state, or of one tank where that stands, makes an edit of one
 // tank where the state stands, or hands the state on.
-#[derive(Drop)]
+#[derive(Clone, Copy)]
 pub enum Kind {
     Asks,
     Looks(Look),
@@ -50,7 +52,7 @@ pub enum Kind {
 }
 
 // The state after a call, and how much of the output waits.
-#[derive(Drop)]
+#[derive(Clone, Copy)]
 pub struct Done {
     pub tanks: Tanks,
     pub at: usize,
@@ -58,7 +60,7 @@ pub struct Done {
 
 // What is kept beside the tanks: the last four sets of settings that were read, the log that is under way, the
 // ranges that wait for a plan, the legend of strips, and as whom calls are made.
-#[derive(Drop)]
+#[derive(Clone, Copy)]
 pub struct Side {
     pub sets: Kept,
     pub log: Log,
@@ -68,14 +70,14 @@ pub struct Side {
 }
 
 // What is kept after a call, and how much of the output waits.
-#[derive(Drop)]
+#[derive(Clone, Copy)]
 pub struct Noted {
     pub side: Side,
     pub at: usize,
 }
 
 // The state and what is kept after a call, and how much of the output waits.
-#[derive(Drop)]
+#[derive(Clone, Copy)]
 pub struct Moved {
     pub tanks: Tanks,
     pub side: Side,
@@ -84,7 +86,7 @@ pub struct Moved {
 
 // Where a run stands but for the tanks: the script, what is kept beside them, how much of the output waits, and whether it
 // is over.
-#[derive(Drop)]
+#[derive(Clone, Copy)]
 pub struct Stand {
     pub inlet: Inlet,
     pub side: Side,
@@ -93,7 +95,7 @@ pub struct Stand {
 }
 
 // The tanks, and where the run stands, after some of the input.
-#[derive(Drop)]
+#[derive(Clone, Copy)]
 pub struct Eaten {
     pub tanks: Tanks,
     pub stand: Stand,
@@ -141,7 +143,7 @@ pub fn empty() -> Side
     ensures { (result ≡ empty_side) × Settled result }
 {
     let sets = settings_text::none();
-    let log = log::begin();
+    let log = day_log::begin();
     let pending = night::empty_plan();
     let legend = strip::legend::digits();
     Side {

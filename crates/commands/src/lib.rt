@@ -1,8 +1,10 @@
 // The keeper's commands: which word is which, how many files each takes, and which options.
+#![tactic(auto)]
+
 ghost use Rattle.std.specs.Prelude.{◌≡◌, ◌&&◌, not};
 ghost use Rattle.commands.specs.Commands.{reading_of, command_of, is_option, no_options, with_option, rule, rules_of, problem_of};
 
-#[derive(Drop)]
+#[derive(Clone, Copy)]
 pub enum Command {
     New,
     Feed,
@@ -18,7 +20,7 @@ pub enum Command {
 }
 
 // What the options ask for, and whether one of them was none.
-#[derive(Drop)]
+#[derive(Clone, Copy)]
 pub struct Options {
     pub afresh: bool,
     pub sync: bool,
@@ -27,7 +29,7 @@ pub struct Options {
 }
 
 // How many files a command takes, and which options.
-#[derive(Drop)]
+#[derive(Clone, Copy)]
 struct Rules {
     known: bool,
     least: usize,
@@ -37,7 +39,7 @@ struct Rules {
 }
 
 // What is wrong with a command, its options and its files.
-#[derive(Drop)]
+#[derive(Clone, Copy)]
 pub enum Problem {
     None,
     NoCommand,

@@ -1,4 +1,6 @@
 // Which way each named style grows: a table of up to 32 names and an optional default, held by value.
+#![tactic(auto)]
+
 ghost use Rattle.std.specs.Prelude.{◌≡◌, ◌++◌, cond, eqb, ◌-◌, ◌≤◌, ◌<◌, length};
 ghost use Rattle.std.proofs.Math.Option.{none, some};
 ghost use Rattle.text.specs.Bytes.{same_of};
@@ -21,7 +23,7 @@ const REFUSED: u64 = 19;
 const RETIRED: u64 = 18;
 
 // How a style grows.
-#[derive(Drop)]
+#[derive(Clone, Copy)]
 pub struct StyleConfig {
     pub expand: ExpandType,
 }
@@ -45,14 +47,14 @@ impl StyleConfig {
 }
 
 // What a table may have for a default.
-#[derive(Drop)]
+#[derive(Clone, Copy)]
 pub enum MaybeStyle {
     Style(StyleConfig),
     Nothing,
 }
 
 // The answer to `get`: a style, no entry and no default, or refusal 19.
-#[derive(Drop)]
+#[derive(Clone, Copy)]
 pub enum Got {
     Style(StyleConfig),
     Nothing,
@@ -60,7 +62,7 @@ pub enum Got {
 }
 
 // The answer to the two questions for a flag, in the same way.
-#[derive(Drop)]
+#[derive(Clone, Copy)]
 pub enum GotFlag {
     Flag(TextStyleInfoFlag),
     Nothing,
@@ -68,7 +70,7 @@ pub enum GotFlag {
 }
 
 // A name with its style: the first `len` bytes are the name, the others zero.
-#[derive(Drop)]
+#[derive(Clone, Copy)]
 pub struct Entry {
     name: [u8; 32],
     len: usize,
@@ -76,7 +78,7 @@ pub struct Entry {
 }
 
 // The first `count` places hold the entries in the order of their first insertion; the others are blank.
-#[derive(Drop)]
+#[derive(Clone, Copy)]
 pub struct StyleConfigMap {
     entries: [Entry; 32],
     count: usize,
@@ -84,7 +86,7 @@ pub struct StyleConfigMap {
 }
 
 // The refusal of an insertion or of a new default, 0 where there is none, and the table after it.
-#[derive(Drop)]
+#[derive(Clone, Copy)]
 pub struct Inserted {
     pub refusal: u64,
     pub map: StyleConfigMap,

@@ -1,5 +1,7 @@
 // Call scripts on standard input, answers on standard output; with the argument --explain, beside them on standard error why a call was refused
 // and what is wrong with a line; with --help the page of use.
+#![tactic(auto)]
+
 ghost use Rattle.std.specs.Prelude.{◌≤◌, length};
 
 fn say(text: &[u8]) {

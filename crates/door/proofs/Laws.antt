@@ -24,9 +24,9 @@ use Rattle.saved.specs.Saying.{Said, newest, saying, house_in}
 use Rattle.saved.specs.Reads.{restore_number, restore_line, restored, Restores}
 use Rattle.saved.specs.Writes.{written, write_number}
 use Rattle.script.specs.declared.Ending.{Ending}
-use Rattle.log.specs.declared.Stop.{Stop}
-use Rattle.log.specs.declared.Took.{Took}
-use Rattle.log.specs.Groups.{TakesGroups}
+use Rattle.day_log.specs.declared.Stop.{Stop}
+use Rattle.day_log.specs.declared.Took.{Took}
+use Rattle.day_log.specs.Groups.{TakesGroups}
 use Rattle.door.specs.declared.Outcome.{Outcome}
 use Rattle.door.specs.Door.{Result, wrong, right, fed_on, if_fits, begun_by, begun, most_answers, handed, run_from, bad_in, bad_line, answers_of, house_after, on_text, told, Writes, Runs, ReadsText, FeedsBy, FeedsFrom, Feeds, Tells, report_of, run, stop_number, stop_line}
 

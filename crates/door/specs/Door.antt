@@ -17,9 +17,9 @@ use Rattle.script.specs.declared.Ending.{Ending}
 use Rattle.script.specs.Reading.{fresh_of}
 use Rattle.script.specs.Lines.{reader_at, state_of, counted_of}
 use Rattle.script.specs.Bodies.{in_lines}
-use Rattle.log.specs.declared.Stop.{Stop}
-use Rattle.log.specs.declared.Took.{Took}
-use Rattle.log.specs.Groups.{TakesGroups}
+use Rattle.day_log.specs.declared.Stop.{Stop}
+use Rattle.day_log.specs.declared.Took.{Took}
+use Rattle.day_log.specs.Groups.{TakesGroups}
 use Rattle.answers.specs.Waiting.{waiting}
 use Rattle.clerk.specs.Desk.{empty_side}
 use Rattle.clerk.specs.Course.{Course, after_bytes, said_bytes, ending_at}

@@ -3,6 +3,8 @@
 //
 // A refusal writes nothing but the report. The answers of a run are put into memory of its own first, which is held and never written out, and
 // handed over when the text has been written.
+#![tactic(auto)]
+
 ghost use Rattle.std.specs.Prelude.{◌≡◌, [], ◌∷◌, ◌≤◌, min, length, take};
 ghost use Rattle.script.specs.Bodies.{ending_in};
 ghost use Rattle.script.specs.Lines.{state_of, counted_of};
@@ -11,14 +13,14 @@ ghost use Rattle.tanks.specs.Pool.{Sound, meaning};
 ghost use Rattle.door.specs.Door as meant;
 ghost use Rattle.door.specs.Door.{Writes, Runs, Feeds, Begins, RunsScript, FeedsLog, ReadsText, RunsCalls, most_answers};
 
-use log::Stop;
+use day_log::Stop;
 use saved::Restored;
 use script::{Ending, Inlet};
 use tanks::{Setting, Tanks};
 
 // What a call has come to: the number, the line, how many bytes of text and of answers stand in what is lent; and of a log how many bytes were
 // taken, how many edits were applied, and by which number and at which line it stopped.
-#[derive(Drop)]
+#[derive(Clone, Copy)]
 struct Outcome {
     number: u64,
     line: u64,
@@ -31,7 +33,7 @@ struct Outcome {
 }
 
 // The tanks behind a script, its wrong line, and the place behind the answers.
-#[derive(Drop)]
+#[derive(Clone, Copy)]
 struct Ran {
     tanks: Tanks,
     line: u64,
@@ -225,7 +227,7 @@ fn feed_in(text: &[u8], bytes: &[u8], next: &mut [u8]) -> Outcome
         return wrong(13, t.line);
     }
     let s = t.tanks;
-    let k = log::take_groups(s, bytes);
+    let k = day_log::take_groups(s, bytes);
     let after = k.tanks;
     let l = saved::write(after, next);
     if 0 < l.number {

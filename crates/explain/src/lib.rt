@@ -1,5 +1,7 @@
 // The clerk's run, explained: the answers go to standard output as ever, and beside them, to standard error, of each refused call the refusal
 // in words, and of a line at which the run ends what was expected and what came.
+#![tactic(auto)]
+
 mod refused; // refused.rt: a refused call
 mod bad; // bad.rt: a line at which the run ends
 mod told; // told.rt: what is told of a line, by its answer
@@ -20,7 +22,7 @@ use tanks::{Setting, Tanks};
 use told::put_told;
 
 // What came in place of a line that was expected.
-#[derive(Drop)]
+#[derive(Clone, Copy)]
 pub enum Came {
     Long,
     Empty,
@@ -39,14 +41,14 @@ pub enum Came {
 }
 
 // Which bytes of those that were read are still to be taken.
-#[derive(Drop)]
+#[derive(Clone, Copy)]
 struct Rest {
     from: usize,
     to: usize,
 }
 
 // The same, and where the first line of them ends.
-#[derive(Drop)]
+#[derive(Clone, Copy)]
 struct Spot {
     from: usize,
     end: usize,

@@ -8,7 +8,7 @@ use config::StyleConfigMap;
 use richtext::ExpandType;
 
 // A table, and where the sequence stands.
-#[derive(Drop)]
+#[derive(Clone, Copy)]
 struct Drawn {
     map: StyleConfigMap,
     seed: u64,

@@ -1,4 +1,6 @@
 // All 256 flag bytes, the words for expand types, and calls of the config, chosen and then drawn, each with its answer beside it.
+#![tactic(auto)]
+
 mod calls;
 mod draw;
 mod print;

@@ -1,6 +1,8 @@
 // What a caller knows of a buffer of which a part is handed back. `front` does what `ask::iter` does, with nothing else around it: its
 // contract says what the part holds and where it begins, and can say nothing of the rest while the part is lent. `first_of` is the way out:
 // it lends no more than the part, so that the rest is its own and stays, whatever the callee does.
+#![tactic(auto)]
+
 ghost use Rattle.std.specs.Prelude.{◌≡◌, ◌≤◌, length, take, drop};
 
 // The first k numbers.

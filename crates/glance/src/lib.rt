@@ -1,6 +1,8 @@
 // The eight tanks at a glance: a line on the log and the pool, a table of numbers, a strip of each tank, and the strips' legend.
 //
 // All of it is put piece by piece behind what waits in a lent buffer, as `pen` and `answers` do.
+#![tactic(auto)]
+
 mod table; // table.rt: the top line and the table
 mod strips; // strips.rt: the strips
 mod entries; // entries.rt: the legend

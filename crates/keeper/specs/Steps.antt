@@ -2,8 +2,8 @@
 use Rattle.std.specs.Prelude.{◌≡◌, true, List, ℕ, ◌≤◌, length, take}
 use Rattle.tanks.specs.House.{House}
 use Rattle.tanks.specs.Pool.{Sound, meaning}
-use Rattle.log.specs.declared.Took.{Took}
-use Rattle.log.specs.Groups.{TakesGroups}
+use Rattle.day_log.specs.declared.Took.{Took}
+use Rattle.day_log.specs.Groups.{TakesGroups}
 use Rattle.keeper_file.specs.declared.Renewed.{Renewed}
 use Rattle.keeper_file.specs.File.{further_by, Renews}
 use Rattle.keeper_file.specs.Keeping.{Holds}

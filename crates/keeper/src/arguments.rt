@@ -5,7 +5,7 @@ use super::words::{complain, complain_of};
 use commands::{Command, Options, Problem};
 
 // The options, which argument was the last that is none, and which is the first that names a file.
-#[derive(Drop)]
+#[derive(Clone, Copy)]
 pub struct Given {
     pub options: Options,
     pub odd: usize,

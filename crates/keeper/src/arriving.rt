@@ -8,7 +8,7 @@ use super::files::within;
 use super::kept::{Feeding, Kept, fed, from_place, load, say_overtaken};
 use super::refusing::stopped;
 use super::words::{failed, note, tell, tell_number, wrong};
-use log::Stop;
+use day_log::Stop;
 
 fn gone() -> Arrived
     ensures held_bound { result.held ≤ 65536 }

@@ -14,7 +14,7 @@ use super::words::{complain, failed};
 use clerk::Stand;
 
 // Where a script stands after a line: whether it is over, STATE as it is kept, and where the clerk stands.
-#[derive(Drop)]
+#[derive(Clone, Copy)]
 struct Lined {
     over: bool,
     kept: Kept,

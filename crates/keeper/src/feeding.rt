@@ -6,11 +6,11 @@ use super::files::within;
 use super::kept::{Feeding, Kept, fed, from_place, load, say_overtaken};
 use super::refusing::stopped;
 use super::words::{complain_of, failed, note, note_number, refused_at};
-use log::Stop;
+use day_log::Stop;
 
 // What came of a piece of a log: whether all went well, whether reading ends with it, how many edits it applied, up to where the log has been
 // read then, and how many bytes wait behind that place.
-#[derive(Drop)]
+#[derive(Clone, Copy)]
 struct Turn {
     good: bool,
     over: bool,
@@ -21,7 +21,7 @@ struct Turn {
 
 // What came of what has arrived: whether reading ends with it, whether it is to be taken again, how many lines were taken so far, and how many
 // bytes are held.
-#[derive(Drop)]
+#[derive(Clone, Copy)]
 pub struct Arrived {
     pub over: bool,
     pub again: bool,

@@ -5,14 +5,14 @@ ghost use Rattle.io.specs.Counts.{IsPrefixLen};
 use super::words::{complain_of, failed};
 
 // Whether a file was read whole, and how many bytes of the room it fills.
-#[derive(Drop)]
+#[derive(Clone, Copy)]
 pub struct Whole {
     pub good: bool,
     pub size: usize,
 }
 
 // What came of replacing a file: it is the new one; or it could not be replaced; or it was no longer what had been read of it, and is left so.
-#[derive(Drop)]
+#[derive(Clone, Copy)]
 pub enum Replacing {
     Done,
     Failed,

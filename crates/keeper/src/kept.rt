@@ -6,12 +6,12 @@ ghost use Rattle.keeper.specs.Steps.{InStep, Saves, Writes, Feeds};
 
 use super::files::{Replacing, read_whole, replaced, within};
 use super::words::{complain_of, refused_at};
+use day_log::Stop;
 use keeper_file::Renewed;
-use log::Stop;
 use tanks::{Setting, Tanks};
 
 // What a file says, and how long its text is.
-#[derive(Drop)]
+#[derive(Clone, Copy)]
 pub struct Kept {
     pub good: bool,
     pub place: u64,
@@ -20,7 +20,7 @@ pub struct Kept {
 }
 
 // Whether all went well, or another keeper had changed STATE meanwhile, and how long the text is that is kept now.
-#[derive(Drop)]
+#[derive(Clone, Copy)]
 pub struct Saving {
     pub good: bool,
     pub other: bool,
@@ -29,7 +29,7 @@ pub struct Saving {
 
 // Whether all went well, or another keeper had changed STATE meanwhile, and what came of a read: up to where the log has been read, how many bytes, lines and edits were taken, and where it
 // stopped.
-#[derive(Drop)]
+#[derive(Clone, Copy)]
 pub struct Feeding {
     pub good: bool,
     pub other: bool,

@@ -1,5 +1,7 @@
 // The keeper: tanks in a file, a log taken into it, and answers. Which command a word names, what is written after which read, and what show and
 // picture print stands in libraries; here are the files themselves, the arguments and the messages.
+#![tactic(auto)]
+
 mod words; // words.rt: what is said
 mod files; // files.rt: files read whole and replaced whole
 mod kept; // kept.rt: STATE

@@ -6,11 +6,11 @@ use super::feeding::note_edits;
 use super::files::within;
 use super::kept::{load, say_overtaken, written};
 use super::words::{failed, note, refused_at, tell};
+use day_log::Stop;
 use keeper_file::Merge;
-use log::Stop;
 
 // A merge after a read: whether the log is read to its end with it, and whether it could be.
-#[derive(Drop)]
+#[derive(Clone, Copy)]
 struct Poured {
     over: bool,
     good: bool,
@@ -18,7 +18,7 @@ struct Poured {
 }
 
 // A merge after a log, and whether that was read and accepted.
-#[derive(Drop)]
+#[derive(Clone, Copy)]
 struct Merged {
     good: bool,
     merge: Merge,

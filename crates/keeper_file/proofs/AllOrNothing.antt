@@ -11,10 +11,10 @@ use Rattle.script.proofs.CutLaws.{held_holding}
 use Rattle.tanks.specs.declared.Tanks.{Tanks}
 use Rattle.tanks.specs.House.{House}
 use Rattle.tanks.specs.Pool as pool
-use Rattle.log.specs.declared.Log.{Log}
-use Rattle.log.specs.declared.Stop.{Stop}
-use Rattle.log.specs.Log.{Course, going, after_bytes, at_end, course_at, log_at}
-use Rattle.log.proofs.Bytes.{cut_anywhere, stopped_stays}
+use Rattle.day_log.specs.declared.Log.{Log}
+use Rattle.day_log.specs.declared.Stop.{Stop}
+use Rattle.day_log.specs.Log.{Course, going, after_bytes, at_end, course_at, log_at}
+use Rattle.day_log.proofs.Bytes.{cut_anywhere, stopped_stays}
 use Rattle.keeper_file.specs.declared.Merge.{Merge}
 use Rattle.keeper_file.specs.declared.Renewed.{Renewed}
 use Rattle.keeper_file.specs.File.{file_of, most_bytes, kept_then}

@@ -18,11 +18,11 @@ use Rattle.script.specs.declared.Call.{Call}
 use Rattle.script.specs.declared.Event.{Event}
 use Rattle.script.specs.declared.Progress.{Progress}
 use Rattle.script.specs.Lines.{has_end, grown_of, State, read_of, brings_of, after_of, turned_of, counted_of}
-use Rattle.log.specs.declared.Stop.{Stop}
-use Rattle.log.specs.declared.Took.{Took}
-use Rattle.log.specs.Log.{Course, logged, going, call_of, read_on, stopped, on_line, after_line, after_byte, after_bytes}
-use Rattle.log.specs.Groups.{Between, begun, after_first, TakesGroups}
-use Rattle.log.proofs.Grouping.{first_more}
+use Rattle.day_log.specs.declared.Stop.{Stop}
+use Rattle.day_log.specs.declared.Took.{Took}
+use Rattle.day_log.specs.Log.{Course, logged, going, call_of, read_on, stopped, on_line, after_line, after_byte, after_bytes}
+use Rattle.day_log.specs.Groups.{Between, begun, after_first, TakesGroups}
+use Rattle.day_log.proofs.Grouping.{first_more}
 use Rattle.keeper_file.specs.declared.Back.{Back}
 use Rattle.keeper_file.specs.declared.Fed.{Fed}
 use Rattle.keeper_file.specs.File.{file_of, further_by, most_bytes, kept_then, FiledAgain, ReadsBack, Reads}

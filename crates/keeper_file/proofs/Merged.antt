@@ -8,13 +8,13 @@ use native.Mathlib.Omega.{arith}
 use Rattle.script.specs.Lines.{counted_of}
 use Rattle.tanks.specs.declared.Tanks.{Tanks}
 use Rattle.tanks.specs.Pool as pool
-use Rattle.log.specs.declared.Log.{Log}
-use Rattle.log.specs.declared.Stop.{Stop}
-use Rattle.log.specs.declared.Taken.{Taken}
-use Rattle.log.specs.Log as logs
-use Rattle.log.specs.Log.{Course, going, fresh, at_end, course_of, Takes}
-use Rattle.log.proofs.Cuts.{taken_course}
-use Rattle.log.proofs.Tidy.{log_of}
+use Rattle.day_log.specs.declared.Log.{Log}
+use Rattle.day_log.specs.declared.Stop.{Stop}
+use Rattle.day_log.specs.declared.Taken.{Taken}
+use Rattle.day_log.specs.Log as logs
+use Rattle.day_log.specs.Log.{Course, going, fresh, at_end, course_of, Takes}
+use Rattle.day_log.proofs.Cuts.{taken_course}
+use Rattle.day_log.proofs.Tidy.{log_of}
 use Rattle.keeper_file.specs.declared.Merge.{Merge}
 use Rattle.keeper_file.specs.declared.Renewed.{Renewed}
 use Rattle.keeper_file.specs.File.{further_by, Renews}

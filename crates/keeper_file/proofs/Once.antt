@@ -19,12 +19,12 @@ use Rattle.script.specs.declared.Progress.{Progress}
 use Rattle.script.specs.declared.Read.{Read}
 use Rattle.script.specs.Reading.{line_of}
 use Rattle.script.specs.Lines.{has_end, grown_of, State, read_of, brings_of, after_of, turned_of, counted_of}
-use Rattle.log.specs.declared.Stop.{Stop}
-use Rattle.log.specs.declared.Took.{Took}
-use Rattle.log.specs.Log.{Course, logged, call_of, on_line, after_line, after_byte, after_bytes}
-use Rattle.log.specs.Groups.{Between, between_at, begun, after_first, TakesGroups}
-use Rattle.log.proofs.Bytes.{cut_anywhere}
-use Rattle.log.proofs.Grouping.{first_more, first_rest}
+use Rattle.day_log.specs.declared.Stop.{Stop}
+use Rattle.day_log.specs.declared.Took.{Took}
+use Rattle.day_log.specs.Log.{Course, logged, call_of, on_line, after_line, after_byte, after_bytes}
+use Rattle.day_log.specs.Groups.{Between, between_at, begun, after_first, TakesGroups}
+use Rattle.day_log.proofs.Bytes.{cut_anywhere}
+use Rattle.day_log.proofs.Grouping.{first_more, first_rest}
 use Rattle.keeper_file.specs.File.{further_by}
 
 -- ---- What the theorem speaks of
@@ -93,7 +93,7 @@ module _ (k : ℕ) where
     unfolding on_line left right
     on_like Event.Nothing = by (logged c.op) where
       one : Bool → State → Course → Course
-      one b w x = cond {A = Course} b (record { house = h; reader = w; edits = x.edits; stop = Stop.Going }) (record { house = h; reader = Rattle.log.specs.Log.at_start; edits = x.edits; stop = Stop.Refused w.newlines 13 })
+      one b w x = cond {A = Course} b (record { house = h; reader = w; edits = x.edits; stop = Stop.Going }) (record { house = h; reader = Rattle.day_log.specs.Log.at_start; edits = x.edits; stop = Stop.Refused w.newlines 13 })
 
       by : (b : Bool) → Like k (one b r left) (one b u right)
       by true = record { house = refl; held = l.held; call = l.call; along = l.newlines }
@@ -104,7 +104,7 @@ module _ (k : ℕ) where
       number = refusal_at h (call_of c).tank (call_of c).edit
 
       halt : ℕ → State → Course → Course
-      halt n w x = record { house = h; reader = Rattle.log.specs.Log.at_start; edits = x.edits; stop = Stop.Refused w.newlines n }
+      halt n w x = record { house = h; reader = Rattle.day_log.specs.Log.at_start; edits = x.edits; stop = Stop.Refused w.newlines n }
 
       one : Bool → Bool → State → Course → Course
       one known good w x = cond {A = Course} known (cond {A = Course} good (record { house = after_at h (call_of c).tank (call_of c).edit; reader = w; edits = counted_of x.edits; stop = Stop.Going }) (halt number w x)) (halt 13 w x)

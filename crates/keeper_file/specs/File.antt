@@ -10,8 +10,8 @@ use Rattle.tanks.specs.House.{House}
 use Rattle.tanks.specs.Pool.{Sound, meaning}
 use Rattle.saved.specs.Saying.{Said, newest, saying, house_in}
 use Rattle.saved.specs.Writes.{written}
-use Rattle.log.specs.declared.Took.{Took}
-use Rattle.log.specs.Groups.{TakesGroups}
+use Rattle.day_log.specs.declared.Took.{Took}
+use Rattle.day_log.specs.Groups.{TakesGroups}
 use Rattle.keeper_file.specs.declared.Back.{Back}
 use Rattle.keeper_file.specs.declared.Fed.{Fed}
 use Rattle.keeper_file.specs.declared.Renewed.{Renewed}

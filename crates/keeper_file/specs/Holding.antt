@@ -2,8 +2,8 @@
 use Rattle.std.specs.Prelude.{◌≡◌, ℕ, ◌-◌, List, take, drop}
 use Rattle.runs.specs.Stretches.{in_front}
 use Rattle.tanks.specs.declared.Tanks.{Tanks}
-use Rattle.log.specs.declared.Took.{Took}
-use Rattle.log.specs.Groups.{TakesGroups}
+use Rattle.day_log.specs.declared.Took.{Took}
+use Rattle.day_log.specs.Groups.{TakesGroups}
 
 -- the bytes at .. end of a list
 abbrev pub cut_out : ℕ → ℕ → List ℕ → List ℕ

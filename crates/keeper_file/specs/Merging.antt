@@ -4,11 +4,11 @@ use mathlib.Core.List.{List, [], ◌∷◌, foldl}
 use Rattle.script.specs.Lines.{counted_of}
 use Rattle.tanks.specs.House.{House}
 use Rattle.tanks.specs.Pool as pool
-use Rattle.log.specs.declared.Log.{Log}
-use Rattle.log.specs.declared.Stop.{Stop}
-use Rattle.log.specs.Log as logs
-use Rattle.log.specs.Log.{Course, going, after_bytes, at_end, course_at, course_of, log_at}
-use Rattle.log.specs.Groups.{begun}
+use Rattle.day_log.specs.declared.Log.{Log}
+use Rattle.day_log.specs.declared.Stop.{Stop}
+use Rattle.day_log.specs.Log as logs
+use Rattle.day_log.specs.Log.{Course, going, after_bytes, at_end, course_at, course_of, log_at}
+use Rattle.day_log.specs.Groups.{begun}
 use Rattle.keeper_file.specs.declared.Merge.{Merge}
 use Rattle.keeper_file.specs.declared.Renewed.{Renewed}
 use Rattle.keeper_file.specs.File.{further_by, Renews}

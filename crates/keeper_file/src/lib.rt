@@ -1,4 +1,6 @@
 // The keeper's file: up to which byte a log was read and the tanks as they were then, as one text, and back.
+#![tactic(auto)]
+
 mod group; // group.rt: what a group of a log says of itself
 mod holding; // holding.rt: what is held of a log as it arrives
 mod merging; // merging.rt: logs one after another, all or nothing
@@ -10,10 +12,10 @@ ghost use Rattle.lists.specs.Lists.{filled_beside, unless_refused};
 ghost use Rattle.tanks.specs.Pool.{Sound, meaning};
 ghost use Rattle.keeper_file.specs.File.{place_text, file_of, room_number, file_number, further_by, differs, FiledAgain, ReadsBack, Renews, Reads};
 
+use day_log::{Log, Took};
 pub use group::field;
 pub use holding::hold;
 use lists::Listed;
-use log::{Log, Took};
 pub use merging::{begin_merge, next_log, pour, settle};
 use tanks::Tanks;
 use text_lines::Taken as Line;
@@ -22,7 +24,7 @@ use text_lines::Taken as Line;
 pub const MOST: usize = 117956;
 
 // What a file says: 0, a place and tanks; or 13, its first wrong line, and the tanks as they were.
-#[derive(Drop)]
+#[derive(Clone, Copy)]
 pub struct Back {
     pub number: u64,
     pub line: u64,
@@ -31,7 +33,7 @@ pub struct Back {
 }
 
 // What became of a file's text: 0 or 11, how many bytes it has, and whether it is another than the one that is kept.
-#[derive(Drop)]
+#[derive(Clone, Copy)]
 pub struct Renewed {
     pub number: u64,
     pub count: usize,
@@ -39,7 +41,7 @@ pub struct Renewed {
 }
 
 // What came of a read: what was taken of it, up to where the log has been read then, and the file's text.
-#[derive(Drop)]
+#[derive(Clone, Copy)]
 pub struct Fed {
     pub took: Took,
     pub place: u64,
@@ -48,7 +50,7 @@ pub struct Fed {
 
 // Logs one after another as far as they have come: the tanks, the log that is being read, how many logs ended well before it, and how many edits
 // those applied. Where that log stopped, the merge stopped.
-#[derive(Drop)]
+#[derive(Clone, Copy)]
 pub struct Merge {
     pub tanks: Tanks,
     pub log: Log,
@@ -186,7 +188,7 @@ pub fn after_read(s: Tanks, place: u64, bytes: &[u8], kept: &[u8], next: &mut [u
     requires { Sound s }
     ensures { Reads s place bytes.now kept.now next.old result next.new }
 {
-    let t = log::take_groups(s, bytes);
+    let t = day_log::take_groups(s, bytes);
     let tanks = t.tanks;
     let to = further(place, t.at);
     let file = renew(tanks, to, kept, next);

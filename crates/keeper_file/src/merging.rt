@@ -6,7 +6,7 @@ ghost use Rattle.keeper_file.specs.File.{further_by};
 ghost use Rattle.keeper_file.specs.Merging.{set_out, poured_on, log_over, standing_of, nothing_new, Sound, Stands, Settles};
 
 use super::{Merge, Renewed, counted, renew};
-use log::Stop;
+use day_log::Stop;
 use tanks::Tanks;
 
 // A sum as far as 64 bits count.
@@ -24,7 +24,7 @@ pub fn begin_merge(s: Tanks) -> Merge
     requires { pool.Sound s }
     ensures { Stands result (set_out (pool.meaning s)) }
 {
-    let log = log::begin();
+    let log = day_log::begin();
     Merge {
         tanks: s,
         log: log,
@@ -40,7 +40,7 @@ pub fn pour(m: Merge, bytes: &[u8]) -> Merge
 {
     let tanks = m.tanks;
     let log = m.log;
-    let t = log::take(tanks, log, bytes);
+    let t = day_log::take(tanks, log, bytes);
     let next = t.tanks;
     let more = t.log;
     Merge {
@@ -58,7 +58,7 @@ pub fn next_log(m: Merge) -> Merge
 {
     let tanks = m.tanks;
     let log = m.log;
-    let last = log::end(log);
+    let last = day_log::end(log);
     let stop = last.stop;
     let Stop::Going = stop else {
         return Merge {
@@ -68,7 +68,7 @@ pub fn next_log(m: Merge) -> Merge
             edits: m.edits,
         };
     };
-    let fresh = log::begin();
+    let fresh = day_log::begin();
     Merge {
         tanks: tanks,
         log: fresh,

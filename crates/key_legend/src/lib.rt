@@ -1,11 +1,13 @@
 // The keys that are shown: which occur in the tanks, and their letters in the strips.
+#![tactic(auto)]
+
 pub mod keys; // keys.rt: which keys occur
 pub mod letters; // letters.rt: the keys of the strips, and their letters
 
 use styles::Party;
 
 // Whose marks: either party's, or one's.
-#[derive(Drop)]
+#[derive(Clone, Copy)]
 pub enum Whose {
     Either,
     One(Party),

@@ -1,4 +1,6 @@
 // Names of keys, from a text of lines such as `hold=7`.
+#![tactic(auto)]
+
 ghost use Rattle.std.specs.Prelude.{◌≡◌, true, [], ℕ, ◌+◌, ◌*◌, ◌≤◌, ◌<◌, length, get_or, take, drop};
 ghost use Rattle.script.specs.Writing.{Puts};
 ghost use Rattle.text.specs.Bytes.{same_of};
@@ -9,7 +11,7 @@ use text::Parsed;
 
 // So many names: the key, the length and the 24 bytes of each at its place. Of a key that is named twice the first name holds, and of a
 // name that stands twice the first key.
-#[derive(Drop)]
+#[derive(Clone, Copy)]
 pub struct Names {
     count: usize,
     keys: [u16; 64],
@@ -18,14 +20,14 @@ pub struct Names {
 }
 
 // What a text of names says: 0 and its names, or its first wrong line and none.
-#[derive(Drop)]
+#[derive(Clone, Copy)]
 pub struct NamesRead {
     pub line: u64,
     pub names: Names,
 }
 
 // A line that names a key: the key, the length of its name and where the next line begins; or that it is wrong.
-#[derive(Drop)]
+#[derive(Clone, Copy)]
 enum NameLine {
     Bad,
     Line(u16, usize, usize),

@@ -13,7 +13,7 @@ use styles::Mark;
 use tank::Tank;
 
 // A position, the side, and the mark's identity.
-#[derive(Drop)]
+#[derive(Clone, Copy)]
 pub struct Anchor {
     pub at: u64,
     pub side: AnchorType,
@@ -24,7 +24,7 @@ pub struct Anchor {
 
 // Where a walk through the anchors stands: at the boundary before run `index`, which is before position `at`. Of the marks that end there
 // and start there, those that are left.
-#[derive(Drop)]
+#[derive(Clone, Copy)]
 pub struct AnchorCursor {
     pub index: usize,
     pub at: u64,
@@ -33,7 +33,7 @@ pub struct AnchorCursor {
 }
 
 // A step of the walk.
-#[derive(Drop)]
+#[derive(Clone, Copy)]
 pub enum NextAnchor {
     NoMore,
     Found(Anchor, AnchorCursor),

@@ -1,4 +1,6 @@
 // The stretches of a range and of the whole tank, as numbers at the front of a lent buffer: three a stretch, start, end and count of marks.
+#![tactic(auto)]
+
 pub mod anchors; // anchors.rt: where marks start and end
 
 ghost use Rattle.std.specs.Prelude.{◌≡◌, length};
@@ -9,7 +11,7 @@ ghost use Rattle.tank.specs.State.{view, Sound};
 use tank::Tank;
 
 // What a list's call hands back: 0 or the refusal's number, and how many places of the lent list are filled, or would be.
-#[derive(Drop)]
+#[derive(Clone, Copy)]
 pub struct Listed {
     pub number: u64,
     pub count: usize,

@@ -12,7 +12,7 @@ use styles::Party;
 use tanks::Tanks;
 
 // The answer, and the places after the call.
-#[derive(Drop)]
+#[derive(Clone, Copy)]
 struct Filled {
     listed: Listed,
     places: [Anchor; 4],

@@ -1,5 +1,7 @@
 // The three lists that fill what a caller lends, on a house of a few marks: the refusal or the count, the part that is filled, and the rest
 // of the buffer, which stays.
+#![tactic(auto)]
+
 ghost use Rattle.tanks.specs.Pool.{Sound};
 
 mod anchors;

@@ -1,4 +1,6 @@
 // The night's work on eight tanks, made of deletions: ageing a bit at a time, and plans of ranges to delete.
+#![tactic(auto)]
+
 mod plans; // plans.rt: whether the ranges of a plan may go
 mod proposals; // proposals.rt: the unheld ranges below a position, and the least position below which they are accepted
 
@@ -20,7 +22,7 @@ use tank::Tank;
 use tanks::{Edited, Tanks};
 
 // What ageing hands back: 0 or the refusal's number, how many stretches were dropped, what remains of `before`, and the next state.
-#[derive(Drop)]
+#[derive(Clone, Copy)]
 pub struct Aged {
     pub number: u64,
     pub dropped: u64,
@@ -83,14 +85,14 @@ fn age_as_plant(s: Tanks, tank: u64, before: u64, budget: u64) -> Aged
 }
 
 // The positions start .. end.
-#[derive(Drop)]
+#[derive(Clone, Copy)]
 pub struct Range {
     pub start: u64,
     pub end: u64,
 }
 
 // Ranges to delete from one tank, the first `count` of these, in the numbering before the first deletion.
-#[derive(Drop)]
+#[derive(Clone, Copy)]
 pub struct Plan {
     pub count: usize,
     pub ranges: [Range; 32],
@@ -153,7 +155,7 @@ fn apply_as_plant(s: Tanks, tank: u64, hold: u16, most: u64, plan: Plan) -> Edit
 }
 
 // A plan if one is found, beside 0 or the refusal's number; the empty plan stands where there is none.
-#[derive(Drop)]
+#[derive(Clone, Copy)]
 pub struct Proposal {
     pub number: u64,
     pub found: bool,

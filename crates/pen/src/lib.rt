@@ -1,5 +1,7 @@
 // Words and numbers put piece by piece behind what waits in a lent buffer, in the terms of `answers`: where there is no room for a piece,
 // what waits is written out first. Each function takes how much of the buffer waits, and answers how much waits then.
+#![tactic(auto)]
+
 mod numbers; // numbers.rt: differences that stop at 0, the larger and the smaller of two
 
 ghost use Rattle.std.specs.Prelude.{[], ◌∷◌, ◌≡◌, ◌+◌, ◌≤◌, length, take, replicate};

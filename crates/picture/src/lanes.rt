@@ -15,7 +15,7 @@ use styles::Mark;
 use tank::Tank;
 
 // A row of a band: which key it shows, the key's place among those that have a colour, and where it lies.
-#[derive(Drop)]
+#[derive(Clone, Copy)]
 pub struct Lane {
     pub place: u64,
     pub key: u64,
@@ -23,7 +23,7 @@ pub struct Lane {
 }
 
 // The rows of a band, one for each lane.
-#[derive(Drop)]
+#[derive(Clone, Copy)]
 pub struct Rows {
     pub count: u64,
     pub band: Band,

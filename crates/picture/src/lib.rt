@@ -1,4 +1,6 @@
 // The eight tanks as a picture, in SVG: a band for each, as wide as its marked part; a colour for each key; held stretches hatched.
+#![tactic(auto)]
+
 mod scale; // scale.rt: where a position stands
 mod elements; // elements.rt: the elements that the picture is made of
 mod lanes; // lanes.rt: the marks of a party

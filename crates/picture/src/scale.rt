@@ -5,7 +5,7 @@ ghost use Rattle.picture.specs.Scale.{place_of, width_of};
 use pen::{larger, minus, sooner};
 
 // A band, or a row of one: it lies so many units from the top, and its right edge is the position `end`.
-#[derive(Drop)]
+#[derive(Clone, Copy)]
 pub struct Band {
     pub end: u64,
     pub top: u64,

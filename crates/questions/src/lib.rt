@@ -1,4 +1,6 @@
 // The questions on one tank. None walks a range by positions: each looks at the runs, and at the table once.
+#![tactic(auto)]
+
 ghost use Rattle.std.specs.Prelude.{◌≡◌, false, [], ◌≤◌, ◌<◌, ◌^◌};
 ghost use Rattle.styles.specs.Bits.{pick};
 ghost use Rattle.runs.specs.Runs.{set_at, Found};
@@ -13,7 +15,7 @@ use styles::{Mark, Ranked, Styles, Value, Winner};
 use tank::Tank;
 
 // The answer of a yes/no question, or the refusal's number.
-#[derive(Drop)]
+#[derive(Clone, Copy)]
 pub enum Told {
     Refused(u64),
     No,
@@ -21,7 +23,7 @@ pub enum Told {
 }
 
 // The value shown for a key, or the refusal's number; nothing where no mark has the key, and where the winner says null.
-#[derive(Drop)]
+#[derive(Clone, Copy)]
 pub enum Shown {
     Refused(u64),
     Nothing,
@@ -29,7 +31,7 @@ pub enum Shown {
 }
 
 // The mark of a rank, or the refusal's number; past the last there is none.
-#[derive(Drop)]
+#[derive(Clone, Copy)]
 pub enum Asked {
     Refused(u64),
     Nothing,
@@ -37,14 +39,14 @@ pub enum Asked {
 }
 
 // A set of marks, beside 0 or the refusal's number.
-#[derive(Drop)]
+#[derive(Clone, Copy)]
 pub struct SetAsked {
     pub number: u64,
     pub styles: Styles,
 }
 
 // Do all positions agree, and in which set? Beside 0 or the refusal's number. The empty set may be the one that they share.
-#[derive(Drop)]
+#[derive(Clone, Copy)]
 pub struct Shared {
     pub number: u64,
     pub agree: bool,
@@ -52,7 +54,7 @@ pub struct Shared {
 }
 
 // From where to where a stretch goes, both ends in it, beside 0 or the refusal's number.
-#[derive(Drop)]
+#[derive(Clone, Copy)]
 pub struct Extent {
     pub number: u64,
     pub first: u64,

@@ -1,4 +1,6 @@
 // The refusals in words: one table for whoever has to say what a number means.
+#![tactic(auto)]
+
 ghost use Rattle.std.specs.Prelude.{◌≡◌, ◌+◌, ◌≤◌, min, length, take, drop};
 ghost use Rattle.text.specs.Bytes.{up_to};
 ghost use Rattle.script.specs.Writing.{Puts};

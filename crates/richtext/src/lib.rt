@@ -1,4 +1,6 @@
 // How a style grows when text is inserted beside it, and the flag byte that a style carries.
+#![tactic(auto)]
+
 ghost use Rattle.std.specs.Prelude.{◌≡◌};
 ghost use Rattle.richtext.specs.Flags.{expands_before, expands_after, type_of, before_at, flag_of, new_byte, deleted_byte};
 ghost use Rattle.richtext.specs.Types.{grows_before, grows_after, retired, reversed, named};
@@ -10,7 +12,7 @@ const EXPAND_AFTER_MASK: u8 = 0b0000_0100;
 const ALIVE_MASK: u8 = 0b1000_0000;
 
 // On which sides of a style new text takes the style over.
-#[derive(Drop)]
+#[derive(Clone, Copy)]
 pub enum ExpandType {
     Before,
     After,
@@ -19,14 +21,14 @@ pub enum ExpandType {
 }
 
 // Which end of a style an anchor marks.
-#[derive(Drop)]
+#[derive(Clone, Copy)]
 pub enum AnchorType {
     Start,
     End,
 }
 
 // The type that a word names, or none of the four.
-#[derive(Drop)]
+#[derive(Clone, Copy)]
 pub enum NamedType {
     Is(ExpandType),
     NoneOfThese,
@@ -102,7 +104,7 @@ impl ExpandType {
 }
 
 // A style's flag byte. Any byte may be carried.
-#[derive(Drop)]
+#[derive(Clone, Copy)]
 pub struct TextStyleInfoFlag {
     data: u8,
 }

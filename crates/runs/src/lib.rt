@@ -1,5 +1,6 @@
 // Run lists on lent number slices: run i of the first n has the length lens[i] and the set sets[i]. Nothing is allocated, and no state is copied.
 // A result goes into slices of its own, run by run, so that it is in joined form as soon as it is written.
+#![tactic(auto)]
 
 pub mod stretches; // stretches.rt: the stretches of a range, in a lent buffer
 pub mod scan; // scan.rt: questions over a range
@@ -98,7 +99,7 @@ pub fn copy(
 }
 
 // A run by its number, and its positions start .. end.
-#[derive(Drop)]
+#[derive(Clone, Copy)]
 pub struct Place {
     pub index: usize,
     pub start: u64,
@@ -244,7 +245,7 @@ pub fn set_at(lens: &[u64], sets: &[u64], n: usize, all: u64, pos: u64) -> u64
 }
 
 // The first runs of a list: how many, and where they end.
-#[derive(Drop)]
+#[derive(Clone, Copy)]
 pub struct FirstRuns {
     pub count: usize,
     pub end: u64,

@@ -9,7 +9,7 @@ use super::{clip, find, later, set_at, sooner};
 
 // What a scan looks for in a set: a bit of a mask; none of it; that the highest bit of a first mask is not in a second; that its bits of a mask
 // are others than these.
-#[derive(Drop)]
+#[derive(Clone, Copy)]
 pub enum Test {
     Meets(u64),
     Misses(u64),

@@ -1,4 +1,6 @@
 // Settings and eight tanks as a text, and back.
+#![tactic(auto)]
+
 mod words; // words.rt: lines that hold a word
 mod marks; // marks.rt: the lines of marks
 mod spans; // spans.rt: the lines of runs
@@ -18,49 +20,49 @@ use tanks::Tanks;
 pub use writing::{MOST, needed, write};
 
 // A party that was read, how many lines were read with it, and the place behind them; or that the line is wrong.
-#[derive(Drop)]
+#[derive(Clone, Copy)]
 enum PartyLine {
     Bad,
     Party(Party, u64, usize),
 }
 
 // The same of a counter.
-#[derive(Drop)]
+#[derive(Clone, Copy)]
 enum CounterLine {
     Bad,
     Counter(i32, u64, usize),
 }
 
 // A kind that was read with the place behind its line, or that the line is wrong.
-#[derive(Drop)]
+#[derive(Clone, Copy)]
 enum KindLine {
     Bad,
     Kind(Kind, usize),
 }
 
 // The same of a value.
-#[derive(Drop)]
+#[derive(Clone, Copy)]
 enum ValueLine {
     Bad,
     Value(Value, usize),
 }
 
 // An identity that was read with the place behind its lines, or the number of the line that is wrong.
-#[derive(Drop)]
+#[derive(Clone, Copy)]
 enum IdentityLine {
     Bad(u64),
     Identity(Identity, usize),
 }
 
 // A mark that was read, how many lines were read with it, and the place behind them; or the number of the line that is wrong.
-#[derive(Drop)]
+#[derive(Clone, Copy)]
 enum MarkLine {
     Bad(u64),
     Mark(Mark, u64, usize),
 }
 
 // Marks that were read, how many lines were read with them, and the place behind them; or the number of the line that is wrong.
-#[derive(Drop)]
+#[derive(Clone, Copy)]
 struct ReadMarks {
     line: u64,
     at: usize,
@@ -69,7 +71,7 @@ struct ReadMarks {
 }
 
 // A run that was read with the place behind its lines, or the number of the line that is wrong.
-#[derive(Drop)]
+#[derive(Clone, Copy)]
 enum RunLine {
     Bad(u64),
     Run(u64, u64, usize),
@@ -77,7 +79,7 @@ enum RunLine {
 
 // Runs that were read, and the place behind their lines: the sum of their lengths as far as 2^63, and all their sets together. Or the number
 // of the line that is wrong.
-#[derive(Drop)]
+#[derive(Clone, Copy)]
 struct ReadRuns {
     line: u64,
     at: usize,
@@ -89,7 +91,7 @@ struct ReadRuns {
 
 // A tank as far as its runs, how many lines were read with it, and the place behind them; or the number of the line that is wrong. The flag
 // is 1 for a touched tank.
-#[derive(Drop)]
+#[derive(Clone, Copy)]
 struct TankHead {
     line: u64,
     at: usize,
@@ -101,7 +103,7 @@ struct TankHead {
 }
 
 // A tank that was read, how many lines were read with it, and the place behind them; or the number of the line that is wrong.
-#[derive(Drop)]
+#[derive(Clone, Copy)]
 struct TankLine {
     line: u64,
     at: usize,
@@ -111,7 +113,7 @@ struct TankLine {
 
 // Eight fresh tanks with the settings of a text, its version, and the place behind its first 17 lines; or the number of the line that is
 // wrong.
-#[derive(Drop)]
+#[derive(Clone, Copy)]
 struct Begun {
     line: u64,
     at: usize,
@@ -121,7 +123,7 @@ struct Begun {
 
 // Tanks that were filled from their lines, how many lines were read so far, and the place behind them; or the number of the line that is
 // wrong.
-#[derive(Drop)]
+#[derive(Clone, Copy)]
 struct Filled {
     line: u64,
     at: usize,
@@ -130,7 +132,7 @@ struct Filled {
 }
 
 // What a restore hands back: 0 and the tanks of the text, or 13, its first wrong line and the tanks as they were.
-#[derive(Drop)]
+#[derive(Clone, Copy)]
 pub struct Restored {
     pub number: u64,
     pub line: u64,

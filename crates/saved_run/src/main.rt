@@ -1,4 +1,6 @@
 // Saved texts of each version restored, and wrong ones: the number and the line that each is answered with, and what tank 0 holds then.
+#![tactic(auto)]
+
 ghost use Rattle.tanks.specs.Pool.{Sound};
 
 use tanks::{Count, Setting, Tanks};

@@ -2,6 +2,8 @@
 //
 // `take` takes bytes as they come, however they are cut, and answers with a call when a group's last line has ended, or the body
 // behind it. `feed` does the same for scripts of lines alone.
+#![tactic(auto)]
+
 mod names; // names.rt: the names of ops, fields and kinds
 mod fields; // fields.rt: which fields an op has
 mod reading; // reading.rt: what a line gives to a call
@@ -21,7 +23,7 @@ use styles::Value;
 pub use writing::{emit, flushed, put_counter, put_field, put_line, put_mark, put_name, put_value};
 
 // Ops that change the tanks.
-#[derive(Drop)]
+#[derive(Clone, Copy)]
 pub enum Change {
     Open,
     Annotate,
@@ -32,7 +34,7 @@ pub enum Change {
 }
 
 // Ops that ask for a number, a yes or no, a value, a mark or a set.
-#[derive(Drop)]
+#[derive(Clone, Copy)]
 pub enum Question {
     Length,
     Touched,
@@ -50,7 +52,7 @@ pub enum Question {
 }
 
 // Ops that ask for a list or for the text of all tanks, or for what one takes.
-#[derive(Drop)]
+#[derive(Clone, Copy)]
 pub enum Listing {
     Stretches,
     StretchesNeeded,
@@ -62,7 +64,7 @@ pub enum Listing {
 }
 
 // Ops that bring a text, as the body behind their line.
-#[derive(Drop)]
+#[derive(Clone, Copy)]
 pub enum Text {
     Settings,
     Log,
@@ -70,7 +72,7 @@ pub enum Text {
 }
 
 // Ops that have to do with what is kept beside the tanks alone.
-#[derive(Drop)]
+#[derive(Clone, Copy)]
 pub enum Desk {
     Set,
     LogEnd,
@@ -80,7 +82,7 @@ pub enum Desk {
 }
 
 // Ops that have to do with that and with the tanks.
-#[derive(Drop)]
+#[derive(Clone, Copy)]
 pub enum Both {
     OpenSet,
     Plan,
@@ -88,7 +90,7 @@ pub enum Both {
 }
 
 // An op, by what it does; Nothing stands for the time between two groups.
-#[derive(Drop)]
+#[derive(Clone, Copy)]
 pub enum Op {
     Nothing,
     Change(Change),
@@ -100,13 +102,13 @@ pub enum Op {
 }
 
 // A name of at most 16 bytes.
-#[derive(Drop)]
+#[derive(Clone, Copy)]
 pub struct Name {
     pub text: [u8; 16],
     pub len: usize,
 }
 
-#[derive(Drop)]
+#[derive(Clone, Copy)]
 pub enum Kind {
     Null,
     Bool,
@@ -115,7 +117,7 @@ pub enum Kind {
 }
 
 // What a field's line gives: a number is at most so much, a counter is a signed number of 32 bits, a byte any one, and a party one of two.
-#[derive(Drop)]
+#[derive(Clone, Copy)]
 pub enum Holds {
     Nothing,
     Op,
@@ -129,7 +131,7 @@ pub enum Holds {
 
 // A call, as far as its lines have come: its op and that op's row in the table, how many of its fields are read, and each
 // number at its field's place. A counter has a place of its own, since it has a sign.
-#[derive(Drop)]
+#[derive(Clone, Copy)]
 pub struct Call {
     pub op: Op,
     pub row: usize,
@@ -141,7 +143,7 @@ pub struct Call {
 }
 
 // How a call stands after a line: the line was bad, lines are to come, or the call is whole.
-#[derive(Drop)]
+#[derive(Clone, Copy)]
 pub enum Progress {
     Bad,
     More,
@@ -149,47 +151,47 @@ pub enum Progress {
 }
 
 // What a line makes of a call; a bad line leaves it as it was.
-#[derive(Drop)]
+#[derive(Clone, Copy)]
 pub struct Read {
     pub call: Call,
     pub progress: Progress,
 }
 
 // An op by its row.
-#[derive(Drop)]
+#[derive(Clone, Copy)]
 pub enum ReadOp {
     Bad,
     Row(usize),
 }
 
-#[derive(Drop)]
+#[derive(Clone, Copy)]
 pub enum ReadKind {
     Bad,
     Kind(Kind),
 }
 
-#[derive(Drop)]
+#[derive(Clone, Copy)]
 pub enum ReadValue {
     Bad,
     Value(Value),
 }
 
 // Where the value of a line starts.
-#[derive(Drop)]
+#[derive(Clone, Copy)]
 pub enum Start {
     Nowhere,
     At(usize),
 }
 
 // A line that is being read: its first 65 bytes, which is one more than a line may have.
-#[derive(Drop)]
+#[derive(Clone, Copy)]
 pub struct Line {
     pub text: [u8; 65],
     pub count: usize,
 }
 
 // A line with bytes added, the place behind them, and whether the line has ended.
-#[derive(Drop)]
+#[derive(Clone, Copy)]
 pub struct Cut {
     pub line: Line,
     pub at: usize,
@@ -197,7 +199,7 @@ pub struct Cut {
 }
 
 // The line and the call that are being read, and how many lines were good.
-#[derive(Drop)]
+#[derive(Clone, Copy)]
 pub struct Reader {
     pub line: Line,
     pub call: Call,
@@ -205,7 +207,7 @@ pub struct Reader {
 }
 
 // What bytes bring: nothing yet, a bad line, or a whole call.
-#[derive(Drop)]
+#[derive(Clone, Copy)]
 pub enum Event {
     Nothing,
     Bad,
@@ -213,7 +215,7 @@ pub enum Event {
 }
 
 // A reader that has taken bytes, what they brought, the call where they brought one, and the place behind them.
-#[derive(Drop)]
+#[derive(Clone, Copy)]
 pub struct Fed {
     pub reader: Reader,
     pub event: Event,
@@ -223,7 +225,7 @@ pub struct Fed {
 
 // Where a script with bodies stands: the reader of its lines, and, within a body, the call that it belongs to, how many of its
 // bytes have come, and how many are left. The bytes themselves lie in memory that is lent.
-#[derive(Drop)]
+#[derive(Clone, Copy)]
 pub struct Inlet {
     pub reader: Reader,
     pub call: Call,
@@ -233,7 +235,7 @@ pub struct Inlet {
 
 // An inlet that has taken bytes, what they brought, the call where they brought one, how long its body is, and the place
 // behind them.
-#[derive(Drop)]
+#[derive(Clone, Copy)]
 pub struct Taken {
     pub inlet: Inlet,
     pub event: Event,
@@ -243,7 +245,7 @@ pub struct Taken {
 }
 
 // How an input ends: between two groups, or in the middle of a line, a group or a body.
-#[derive(Drop)]
+#[derive(Clone, Copy)]
 pub enum Ending {
     Clean,
     Cut,

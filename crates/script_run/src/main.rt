@@ -1,11 +1,13 @@
 // Reads a call script to its end and prints each call again from what was read of it; a bad line, or an end in the middle
 // of a line or a group, ends the run with its number.
+#![tactic(auto)]
+
 ghost use Rattle.std.specs.Prelude.{◌+◌, ◌≤◌, ◌<◌, length};
 
 use script::{Call, Ending, Event, Fed, Holds, Name, Reader};
 
 // Where the run stands: the reader, how much of the output waits, and whether the run is over.
-#[derive(Drop)]
+#[derive(Clone, Copy)]
 struct State {
     reader: Reader,
     at: usize,

@@ -1,4 +1,6 @@
 // Settings from a text of 17 lines, and the last four sets that were read.
+#![tactic(auto)]
+
 ghost use Rattle.std.specs.Prelude.{◌≡◌, Bool, true, false, cond, ◌+◌, ◌*◌, ◌≤◌, ◌<◌, length};
 ghost use Rattle.settings_text.specs.Text.{share_name, limit_name, least_limit, settings_of, reading_of, no_settings, ReadsPair, ReadsPairs};
 ghost use Rattle.settings_text.specs.Kept.{kept_none, taken_of, asked_of, Sound};
@@ -7,14 +9,14 @@ use tanks::Setting;
 use text_lines::Taken as Line;
 
 // A pair that was read with the place behind its lines, or the number of the line that is wrong.
-#[derive(Drop)]
+#[derive(Clone, Copy)]
 enum Pair {
     Bad(u64),
     Pair(u64, u64, usize),
 }
 
 // Eight pairs that were read, and the place behind their lines; or the number of the line that is wrong.
-#[derive(Drop)]
+#[derive(Clone, Copy)]
 pub struct Pairs {
     pub line: u64,
     pub at: usize,
@@ -22,7 +24,7 @@ pub struct Pairs {
 }
 
 // What a text says: 0 and eight pairs, or 12 and the number of its first wrong line.
-#[derive(Drop)]
+#[derive(Clone, Copy)]
 pub struct Reading {
     pub number: u64,
     pub line: u64,
@@ -30,20 +32,20 @@ pub struct Reading {
 }
 
 // One set of settings.
-#[derive(Drop)]
+#[derive(Clone, Copy)]
 pub struct Set {
     pub settings: [Setting; 8],
 }
 
 // The number of the last set that was read, and the last four sets, the newest first.
-#[derive(Drop)]
+#[derive(Clone, Copy)]
 pub struct Kept {
     pub number: u32,
     pub sets: [Set; 4],
 }
 
 // What taking a text hands back: 0, or 12 with a line, and what is kept then.
-#[derive(Drop)]
+#[derive(Clone, Copy)]
 pub struct Taken {
     pub number: u64,
     pub line: u64,
@@ -51,7 +53,7 @@ pub struct Taken {
 }
 
 // A set that was asked for, where it is kept.
-#[derive(Drop)]
+#[derive(Clone, Copy)]
 pub struct Asked {
     pub found: bool,
     pub settings: [Setting; 8],

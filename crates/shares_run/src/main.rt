@@ -1,4 +1,6 @@
 // Document 01's case 12 through the calls, then a long run of mixed calls at the boundary of 512 runs, and what both found.
+#![tactic(auto)]
+
 ghost use Rattle.std.specs.Prelude.{◌≤◌};
 ghost use Rattle.tanks.specs.Pool.{Sound};
 
@@ -6,14 +8,14 @@ use styles::{Identity, Mark, Party, Value};
 use tanks::{Count, Edited, Setting, Tanks};
 
 // The long run: calls by the number they got, how often the sum was 512 after a call, and how often something was amiss.
-#[derive(Drop)]
+#[derive(Clone, Copy)]
 struct Tally {
     by_number: [u64; 11],
     full: u64,
     amiss: u64,
 }
 
-#[derive(Drop)]
+#[derive(Clone, Copy)]
 struct Run {
     tanks: Tanks,
     tally: Tally,

@@ -3,7 +3,7 @@ ghost use Rattle.std.specs.Prelude.{◌≡◌};
 ghost use Rattle.strip.specs.Legend.{first_legend, with_letter};
 
 // A key and a letter at each of eight places.
-#[derive(Drop)]
+#[derive(Clone, Copy)]
 pub struct Legend {
     pub keys: [u16; 8],
     pub letters: [u8; 8],

@@ -1,5 +1,7 @@
 // The strip for the tanker bay: 96 cells over a tank's positions, each with the letter of the first of eight keys that shows a value in it.
 // It is the plant's. It asks the map once, and knows nothing of how a tank is stored: the parts of a state are handed on as they came.
+#![tactic(auto)]
+
 pub mod legend; // legend.rt: eight keys and their letters
 
 ghost use Rattle.std.specs.Prelude.{◌≡◌, ◌≤◌, length};

@@ -13,7 +13,7 @@ use super::{Room, is_lab, mark_number, room_for, shown_bits};
 use styles::{Identity, Mark, Party};
 
 // A tank but for its runs and its marks, which are so many.
-#[derive(Drop)]
+#[derive(Clone, Copy)]
 pub struct Outline {
     pub touched: bool,
     pub length: u64,
@@ -22,7 +22,7 @@ pub struct Outline {
 }
 
 // What becomes of a table: it stays, a mark enters at its place, or the marks of some bits are left.
-#[derive(Drop)]
+#[derive(Clone, Copy)]
 pub enum Tabled {
     Same,
     Entered(usize, Mark),
@@ -31,7 +31,7 @@ pub enum Tabled {
 
 // What an edit leaves beside the runs, and what it answers: 0 or the refusal's number, whether anything has changed, the first position of a
 // removal, and the bits of an insertion's set in the table before the call.
-#[derive(Drop)]
+#[derive(Clone, Copy)]
 pub struct Left {
     pub number: u64,
     pub changed: bool,

@@ -1,4 +1,6 @@
 // One tank by value: its runs over a table of marks, and the four edits, each judged by refusals 3 to 8, 14, 16 and 18.
+#![tactic(auto)]
+
 ghost use Rattle.std.specs.Prelude.{◌≡◌, ◌+◌, ◌≤◌, ◌<◌, ◌^◌, max, false, ltb, take, []};
 ghost use Rattle.styles.specs.Order.{id_of};
 ghost use Rattle.styles.specs.Bits.{pick};
@@ -15,7 +17,7 @@ use richtext::TextStyleInfoFlag;
 use styles::{Identity, Mark, Party, Styles};
 
 // The first `runs` places of `lens` and `sets` are the runs, a length and a set of bits each; the first `marks` of the table are the marks.
-#[derive(Drop)]
+#[derive(Clone, Copy)]
 pub struct Tank {
     pub touched: bool,
     pub length: u64,
@@ -27,14 +29,14 @@ pub struct Tank {
 }
 
 // What an edit hands back: 0 or the refusal's number, and the tank after the call.
-#[derive(Drop)]
+#[derive(Clone, Copy)]
 pub struct Edited {
     pub number: u64,
     pub tank: Tank,
 }
 
 // An insertion's result: besides, the set that the new positions got.
-#[derive(Drop)]
+#[derive(Clone, Copy)]
 pub struct Inserted {
     pub number: u64,
     pub styles: Styles,
@@ -42,7 +44,7 @@ pub struct Inserted {
 }
 
 // A removal's result: besides, the first position of the stretch that lost the mark.
-#[derive(Drop)]
+#[derive(Clone, Copy)]
 pub struct Removed {
     pub number: u64,
     pub first: u64,
@@ -50,7 +52,7 @@ pub struct Removed {
 }
 
 // How a mark stands to a table: it has its place there, or a place for it; another content stands there; there is no room.
-#[derive(Drop)]
+#[derive(Clone, Copy)]
 enum Room {
     Known(usize),
     New(usize),

@@ -1,4 +1,6 @@
 // Eight tanks in one state: settings at opening, the edits and the questions with the tank's number in front.
+#![tactic(auto)]
+
 mod settings; // settings.rt: shares and limits
 pub mod pool; // pool.rt: the tanks' runs and marks in one state
 mod within; // within.rt: edits that change the length of one run alone
@@ -22,14 +24,14 @@ use tank::lent::{Left, Outline};
 use within::{choose, place_before, place_within, resize_of, shown_by};
 
 // What a tank may count on, and what it may not pass.
-#[derive(Drop)]
+#[derive(Clone, Copy)]
 pub struct Setting {
     pub share: u64,
     pub limit: u64,
 }
 
 // A tank but for its runs and its marks, which are so many.
-#[derive(Drop)]
+#[derive(Clone, Copy)]
 pub struct Head {
     pub touched: bool,
     pub length: u64,
@@ -38,7 +40,7 @@ pub struct Head {
 }
 
 // So many neighbouring positions with one set of marks, by their bits in the tank's table.
-#[derive(Drop)]
+#[derive(Clone, Copy)]
 pub struct Run {
     pub len: u64,
     pub set: u64,
@@ -46,8 +48,8 @@ pub struct Run {
 
 // Where a tank's runs begin and those of the tanks behind it, how many runs and places there are from there on, and whether those behind
 // it move up. Of them there are `left`, and where they stay none of the places `behind` the tank's own has to be written.
-#[derive(Drop)]
-struct Spots {
+#[derive(Clone, Copy)]
+pub struct Spots {
     at: usize,
     from: usize,
     full: usize,
@@ -59,8 +61,8 @@ struct Spots {
 
 // An edit that makes one run longer or shorter and leaves the others as they are: the run that has all the positions from .. to, or the next one,
 // loses `less` of its positions, though not all, and gains `more`. Of any other edit `to` is 0.
-#[derive(Drop)]
-struct Resize {
+#[derive(Clone, Copy)]
+pub struct Resize {
     from: u64,
     to: u64,
     less: u64,
@@ -68,14 +70,14 @@ struct Resize {
 }
 
 // A tank's marks.
-#[derive(Drop)]
+#[derive(Clone, Copy)]
 pub struct Table {
     pub marks: [Mark; 64],
 }
 
 // In the pool stand the runs of tank 0, then those of tank 1, and so on, and blanks behind them. A crate above reads it where a call for each run
 // would copy the pool each time, and writes what `edit_parts` hands back to where it was read; the rest it asks for.
-#[derive(Drop)]
+#[derive(Clone, Copy)]
 pub struct Tanks {
     pub settings: [Setting; 8],
     pub heads: [Head; 8],
@@ -84,21 +86,21 @@ pub struct Tanks {
 }
 
 // What opening hands back: 0 or 2, and the state.
-#[derive(Drop)]
+#[derive(Clone, Copy)]
 pub struct Opened {
     pub tanks: Tanks,
     pub number: u64,
 }
 
 // What annotate and delete hand back: 0 or the refusal's number, and the next state.
-#[derive(Drop)]
+#[derive(Clone, Copy)]
 pub struct Edited {
     pub tanks: Tanks,
     pub number: u64,
 }
 
 // What insert hands back: beside those the set that the new positions carry, empty where it is refused.
-#[derive(Drop)]
+#[derive(Clone, Copy)]
 pub struct Inserted {
     pub tanks: Tanks,
     pub number: u64,
@@ -106,7 +108,7 @@ pub struct Inserted {
 }
 
 // What a removal hands back: beside those the first position of the stretch, 0 where it is refused.
-#[derive(Drop)]
+#[derive(Clone, Copy)]
 pub struct Removed {
     pub tanks: Tanks,
     pub number: u64,
@@ -114,7 +116,7 @@ pub struct Removed {
 }
 
 // An edit of one tank. Insertions and deletions name the party that tries them.
-#[derive(Drop)]
+#[derive(Clone, Copy)]
 pub enum Edit {
     Annotate(u64, u64, Mark),
     Insert(Party, u64, u64),
@@ -123,7 +125,7 @@ pub enum Edit {
 }
 
 // What an edit hands back, whichever it is: the set of an insertion, the first position of a removal.
-#[derive(Drop)]
+#[derive(Clone, Copy)]
 pub struct Done {
     pub tanks: Tanks,
     pub number: u64,
@@ -134,7 +136,7 @@ pub struct Done {
 // What an edit leaves of the parts of a state that it has to do with, and what it hands back beside them: the set of an insertion by its bits in
 // the table before the call, since a set of marks is another table to copy. With the table right behind the pool both would be copied once
 // more as one piece.
-#[derive(Drop)]
+#[derive(Clone, Copy)]
 pub struct Parts {
     pub pool: [Run; 512],
     pub head: Head,
@@ -145,14 +147,14 @@ pub struct Parts {
 }
 
 // A number that was asked for, or the refusal's.
-#[derive(Drop)]
+#[derive(Clone, Copy)]
 pub enum Count {
     Refused(u64),
     Counts(u64),
 }
 
 // Yes or no, or the refusal's number.
-#[derive(Drop)]
+#[derive(Clone, Copy)]
 pub enum YesNo {
     Refused(u64),
     Says(bool),

@@ -18,7 +18,7 @@ use runs::scan::{Test, holds};
 use styles::{Party, Ranked, Styles, Value, Winner};
 
 // From where to where a stretch goes, both ends in it.
-#[derive(Drop)]
+#[derive(Clone, Copy)]
 pub struct Reach {
     pub first: u64,
     pub last: u64,

@@ -1,4 +1,6 @@
 // Byte strings: words, a search, and numbers as text, of which what is accepted is exactly what is printed.
+#![tactic(auto)]
+
 mod widths; // widths.rt: narrower numbers as 64 bits
 
 ghost use Rattle.std.specs.Prelude.{◌≡◌, cond, ◌+◌, ◌*◌, ◌^◌, ◌≤◌, length, drop};
@@ -10,28 +12,28 @@ ghost use Rattle.text.specs.Number.{digit_of, is_digit, fitting, number_in, deci
 pub use widths::{wide, wide_signed, wide8, wide16, wide32};
 
 // A number that was read, or none.
-#[derive(Drop)]
+#[derive(Clone, Copy)]
 pub enum Parsed {
     Bad,
     Number(u64),
 }
 
 // A signed number that was read, or none.
-#[derive(Drop)]
+#[derive(Clone, Copy)]
 pub enum Signed {
     Bad,
     Number(i64),
 }
 
 // A signed number of 32 bits that was read, or none.
-#[derive(Drop)]
+#[derive(Clone, Copy)]
 pub enum Signed32 {
     Bad,
     Number(i32),
 }
 
 // A number's sign and size.
-#[derive(Drop)]
+#[derive(Clone, Copy)]
 enum Size {
     Plus(u64),
     Minus(u64),

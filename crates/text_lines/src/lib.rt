@@ -1,4 +1,6 @@
 // Lines of a text that is lent whole: a name, and behind it a number, up to one newline.
+#![tactic(auto)]
+
 ghost use Rattle.std.specs.Prelude.{◌≡◌, ◌≤◌, length, drop};
 ghost use Rattle.std.proofs.Math.Option.{none, some};
 ghost use Rattle.text_lines.specs.Lines.{named, within, decimal_from, hex_from, at as at_place, taken_by};
@@ -6,7 +8,7 @@ ghost use Rattle.text_lines.specs.Lines.{named, within, decimal_from, hex_from, 
 use text::Parsed;
 
 // A number that was read, and the place behind its line; or that the line is wrong.
-#[derive(Drop)]
+#[derive(Clone, Copy)]
 pub enum Taken {
     Bad,
     Number(u64, usize),

@@ -1,6 +1,8 @@
 // The work of `bench/` on the tank map: a tank is built, one call is made on it `turns` times, and what the calls answer is added up, so that
 // the benchmark sees that both sides did the same. `specs/Work.antt` says what the sum is, by the rules alone. Which of the eight tanks it is,
 // and what its keys are counted from, is handed in, so that no compiler can make a call for one tank or key.
+#![tactic(auto)]
+
 ghost use Rattle.std.specs.Prelude.{◌≡◌, ◌/◌, ◌%◌, ◌<◌, ◌≤◌, if◌then◌else◌, nat_eq};
 ghost use Rattle.styles.specs.Order.{id_of};
 ghost use Rattle.tanks.specs.House.{tank_at};

@@ -1,5 +1,7 @@
 // Equal windows over a tank's positions: for each, which of eight keys is the first that shows a value in it. Here is what a walk over runs that
 // fills them does with one run, by the masks of the keys; the walk itself stands where the runs are.
+#![tactic(auto)]
+
 ghost use Rattle.std.specs.Prelude.{◌≡◌, ℕ, ◌+◌, ◌*◌, ◌^◌, ◌<◌, ◌≤◌, min, max, ltb, eqb, get_or, take, cond};
 ghost use Rattle.styles.specs.Marks.{key_is};
 ghost use Rattle.styles.specs.Bits.{MaskOf};

@@ -1,7 +1,7 @@
 -- By where the log stands.
 use borrow.Author.Rules.{rules}
 use mathlib.Core.Path.{◌≡◌, refl, sym, ap, ap₂, subst, ◌∙◌}
-use Rattle.log.specs.declared.Stop.{Stop}
+use Rattle.day_log.specs.declared.Stop.{Stop}
 use Rattle.door.specs.Door.{stop_number, stop_line}
 use Rattle.door.proofs.Laws.{counted_fed}
 use Rattle.door.proofs.fed.Statement.{statement}

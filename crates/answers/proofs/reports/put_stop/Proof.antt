@@ -1,7 +1,7 @@
 -- By where the log stands.
 use borrow.Author.Rules.{rules}
 use mathlib.Core.Path.{◌≡◌, sym, ap}
-use Rattle.log.specs.declared.Stop.{Stop}
+use Rattle.day_log.specs.declared.Stop.{Stop}
 use Rattle.answers.proofs.Laws.{and_then, adds_as}
 use Rattle.answers.specs.Replies.{stop_says}
 use Rattle.answers.proofs.reports.put_stop.Statement.{statement}

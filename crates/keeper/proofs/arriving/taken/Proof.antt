@@ -7,7 +7,7 @@ use lib.ListN.{take}
 use lib.Seq.{length-take-le}
 use native.Mathlib.Omega.{arith}
 use borrow.Author.Rules.{rules}
-use Rattle.log.specs.Groups.{TakesGroups}
+use Rattle.day_log.specs.Groups.{TakesGroups}
 use Rattle.keeper_file.specs.Holding.{moved_to_front}
 use Rattle.keeper.proofs.Over.{over_not}
 use Rattle.keeper.proofs.arriving.taken.Statement.{statement}

@@ -1,7 +1,7 @@
 -- By how the log ended.
 use mathlib.Core.Path.{ap}
 use borrow.Author.Rules.{rules}
-use Rattle.log.specs.Log.{going}
+use Rattle.day_log.specs.Log.{going}
 use Rattle.keeper_file.proofs.Merged.{over_stopped, over_well}
 use Rattle.keeper_file.proofs.merging.next_log.Statement.{statement}
 use Rattle.keeper_file.proofs.merging.next_log.Tie as tie

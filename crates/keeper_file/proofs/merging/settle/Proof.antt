@@ -1,7 +1,7 @@
 -- By whether a log stopped.
 use mathlib.Core.Path.{refl, ap}
 use borrow.Author.Rules.{rules}
-use Rattle.log.specs.Log.{going}
+use Rattle.day_log.specs.Log.{going}
 use Rattle.keeper_file.proofs.Merged.{settled_none, settled_all}
 use Rattle.keeper_file.proofs.merging.settle.Statement.{statement}
 use Rattle.keeper_file.proofs.merging.settle.Tie as tie
