@@ -1,0 +1,13 @@
+-- `iter_range` meets its contract: the front part is what was written, and nothing where there is no such tank.
+use mathlib.Core.Path.{refl}
+use lib.ListN.{length}
+use Rattle.lists.specs.Lists.{range_number, range_list}
+use Rattle.tanks.specs.Pool.{meaning}
+use Rattle.ask.proofs.AskLaws.{asked_part, asked_count}
+use Rattle.ask.proofs.iter_range.Goals as goal
+
+pub slice_bounds-result-end : goal.slice_bounds-result-end
+slice_bounds-result-end c = asked_count (meaning c.args.s) c.args.tank c.args.who (λ v. range_number c.args.start c.args.end (length c.args.out.now) v) (range_list c.args.start c.args.end) c.args.out.now _ _ c.list_range-listed.ensures
+
+pub returns : goal.returns
+returns c = record { result_value = asked_part (meaning c.args.s) c.args.tank c.args.who (λ v. range_number c.args.start c.args.end (length c.args.out.now) v) (range_list c.args.start c.args.end) c.args.out.now _ _ c.list_range-listed.ensures; ref_ptr_value = refl }

@@ -1,0 +1,13 @@
+-- `list_range` meets its contract: the parts of the state that the tank stands in are listed for it.
+use lib.ListN.{length}
+use Rattle.lists.specs.Lists.{range_list, range_number}
+use Rattle.ask.proofs.Standing.{can_ask, listed_there}
+use Rattle.ask.proofs.list_range.Goals as goal
+
+pub list_range-requires : goal.list_range-requires
+list_range-requires c = can_ask c.args.s c.args.tank c.place.result c.place.ensures.0 c.requires
+
+pub returns : goal.returns
+returns c =
+    let a = c.args in
+    listed_there a.s a.tank c.place.result c.place.ensures.0 a.who (range_number a.start a.end (length a.out.now)) (range_list a.start a.end) a.out.now c.list_range.ensures

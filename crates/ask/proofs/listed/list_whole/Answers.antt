@@ -1,0 +1,19 @@
+-- `list_whole` meets its contract: no such tank, or the marked stretches of the one that is there.
+use mathlib.Core.Path.{refl}
+use lib.ListN.{length}
+use Rattle.lists.specs.Lists.{whole_list, whole_number}
+use Rattle.ask.proofs.Standing.{list_none_there, list_one_there}
+use Rattle.ask.proofs.listed.list_whole.Goals as goal
+
+pub returns-then-tank-ge8 : goal.returns-then-tank-ge8
+returns-then-tank-ge8 c =
+    let a = c.args in
+    list_none_there a.heads a.pool a.table a.tank a.who (whole_number (length a.out.now)) whole_list a.out.now c.if-tank-ge8.true c.no_list.ensures refl
+
+pub whole_in-requires : goal.whole_in-requires
+whole_in-requires c = c.requires c.if-tank-ge8.false
+
+pub returns : goal.returns
+returns c =
+    let a = c.args in
+    list_one_there a.heads a.pool a.table a.tank a.who (whole_number (length a.out.now)) whole_list a.out.now c.if-tank-ge8.false c.whole_in.ensures

@@ -1,0 +1,27 @@
+-- `get_styles_for_insert` meets its contract: no such tank, 4, or the marks that an insertion would get.
+use native.Mathlib.Omega.{arith}
+use Prim.Native.Nat.{ℕ}
+use Rattle.tank.specs.Rules.{View, for_insert}
+use mathlib.Core.List.{[]}
+use Rattle.questions.specs.Questions.{set_of, styles_for_insert}
+use Rattle.ask.proofs.Standing.{none_there, over_insert, within_insert}
+use Rattle.ask.proofs.parts.get_styles_for_insert.Goals as goal
+
+pub returns-then-tank-ge8 : goal.returns-then-tank-ge8
+returns-then-tank-ge8 c =
+    let a = c.args in
+    none_there a.heads a.pool a.table a.tank a.who (set_of 1 []) (styles_for_insert a.pos) c.if-tank-ge8.true c.no_set.ensures
+
+pub returns-then-length_in-pos : goal.returns-then-length_in-pos
+returns-then-length_in-pos c =
+    let a = c.args in
+    over_insert a.heads a.pool a.table a.tank a.who (λ (c : ℕ) (v : View). set_of c (for_insert a.pos v)) (set_of 1 []) a.pos c.if-tank-ge8.false c.length_in.ensures c.if-length_in-pos.true c.no_set-then-length_in-pos.ensures
+
+pub styles_for_insert-styles-requires : goal.styles_for_insert-styles-requires
+styles_for_insert-styles-requires c = (c.requires c.if-tank-ge8.false, omega (arith, c.length_in.ensures, c.if-length_in-pos.false))
+
+pub returns : goal.returns
+returns c =
+    let a = c.args in
+    within_insert a.heads a.pool a.table a.tank a.who (λ (c : ℕ) (v : View). set_of c (for_insert a.pos v)) (set_of 1 []) a.pos c.if-tank-ge8.false c.length_in.ensures c.if-length_in-pos.false
+    (λ j. record { number = 0; styles = c.styles_for_insert-styles.ensures j })

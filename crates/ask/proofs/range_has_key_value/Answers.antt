@@ -1,0 +1,14 @@
+-- `range_has_key_value` meets its contract: the parts of the state that the tank stands in answer for it.
+use mathlib.Core.Path.{◌∙◌}
+use Rattle.questions.specs.declared.Told.{Told}
+use Rattle.questions.specs.Questions.{range_has_key_value}
+use Rattle.ask.proofs.Standing.{can_ask, asked_there}
+use Rattle.ask.proofs.range_has_key_value.Goals as goal
+
+pub range_has_key_value-requires : goal.range_has_key_value-requires
+range_has_key_value-requires c = can_ask c.args.s c.args.tank c.place.result c.place.ensures.0 c.requires
+
+pub returns : goal.returns
+returns c =
+    let a = c.args in
+    c.range_has_key_value.ensures ∙ asked_there a.s a.tank c.place.result c.place.ensures.0 a.who (Told.Refused 1) (range_has_key_value a.start a.end a.key a.value)

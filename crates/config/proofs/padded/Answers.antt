@@ -1,0 +1,25 @@
+use mathlib.Core.Path.{◌≡◌, refl, ◌∙◌}
+use Prim.Native.Nat.{◌-◌}
+use native.Mathlib.Numerals.{add-one}
+use native.Mathlib.Omega.{arith}
+use lib.ListN.{length}
+use lib.Seq.{take_all}
+use borrow.Author.Rules.{rules}
+use Rattle.laws.proofs.Lists.{filled_step}
+use Rattle.config.proofs.padded.Goals as goal
+
+pub loop-i-init : goal.loop-i-init
+loop-i-init c = (search rules, refl)
+
+pub loop-i-preserved : goal.loop-i-preserved
+loop-again c = (
+  search rules,
+  rw (c.before.before.loop.invariant.1, add-one)
+      (filled_step 0 0 32 c.before.before.before.args.key.now c.before.before.loop.i (search rules) (omega arith)),
+)
+
+pub returns : goal.returns
+returns c =
+    let k = c.args.key.now in
+    let e : c.loop-i.i ≡ length k = omega arith in
+    c.loop-i.invariant.1 ∙ rw (e, take_all (length k) k (omega arith))

@@ -1,0 +1,16 @@
+-- The list has room, and ends where the marked part does.
+use mathlib.Core.Path.{◌∙◌}
+use native.Mathlib.Omega.{arith}
+use lib.ListN.{replicate}
+use Rattle.styles.specs.declared.Party.TheVariants.{Plant}
+use Rattle.glance.proofs.Ends.{listed_count, listed_few, listed_end}
+use Rattle.glance.proofs.strips.marked_end.Goals as goal
+
+pub slice_bounds-list-end : goal.slice_bounds-list-end
+slice_bounds-list-end c = omega (arith, listed_few c.args.s c.requires.0 c.args.tank c.requires.1 Plant (replicate 1536 0) _ _ (omega arith) c.list_whole-l.ensures)
+
+pub slice_bounds-last_end-end : goal.slice_bounds-last_end-end
+slice_bounds-last_end-end c = listed_count c.args.s c.requires.0 c.args.tank c.requires.1 Plant (replicate 1536 0) _ _ (omega arith) c.list_whole-l.ensures
+
+pub returns : goal.returns
+returns c = c.last_end.ensures ∙ listed_end c.args.s c.requires.0 c.args.tank c.requires.1 Plant (replicate 1536 0) _ _ (omega arith) c.list_whole-l.ensures

@@ -1,0 +1,6 @@
+-- Three pieces, one behind the other.
+use Rattle.answers.proofs.Laws.{and_then}
+use Rattle.glance.proofs.table.row_end.Goals as goal
+
+pub returns : goal.returns
+returns c = and_then (and_then c.say_touched-a.ensures c.say_right-b.ensures) c.say.ensures

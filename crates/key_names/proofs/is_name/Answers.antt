@@ -1,0 +1,19 @@
+use mathlib.Core.Path.{sym, ◌∙◌}
+use Prim.Native.Nat.{◌-◌}
+use Rattle.key_names.proofs.Spelled.{name_empty, name_long, name_on, name_stop, name_all}
+use Rattle.key_names.proofs.is_name.Goals as goal
+
+pub returns-then-s-lt1 : goal.returns-then-s-lt1
+returns-then-s-lt1 c = name_empty _ c.if-s-lt1.true
+
+pub returns-then-s-gt24 : goal.returns-then-s-gt24
+returns-then-s-gt24 c = name_long _ c.if-s-gt24.true
+
+pub loop-i-preserved : goal.loop-i-preserved
+loop-i-preserved c = name_on _ _ c.loop-i.invariant c.loop-i-test.true (sym c.in_name.ensures ∙ c.if-in_name.true)
+
+pub returns-else-in_name : goal.returns-else-in_name
+returns-else-in_name c = name_stop _ _ c.loop-i.invariant c.loop-i-test.true (sym c.in_name.ensures ∙ c.if-in_name.false)
+
+pub returns : goal.returns
+returns c = name_all _ _ c.loop-i.invariant c.loop-i-test.false c.if-s-lt1.false c.if-s-gt24.false

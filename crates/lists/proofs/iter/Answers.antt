@@ -1,0 +1,13 @@
+-- `lists::iter` meets its contract: the front part is what was written.
+use mathlib.Core.Path.{refl}
+use lib.ListN.{length}
+use Rattle.tank.specs.State.{view}
+use Rattle.lists.specs.Lists.{whole_number, whole_list}
+use Rattle.lists.proofs.ListLaws.{handed_part, handed_count}
+use Rattle.lists.proofs.iter.Goals as goal
+
+pub slice_bounds-result-end : goal.slice_bounds-result-end
+slice_bounds-result-end c = handed_count (whole_number (length c.args.out.now) (view c.args.t)) (whole_list (view c.args.t)) c.args.out.now _ _ c.list_whole-listed.ensures
+
+pub returns : goal.returns
+returns c = record { result_value = handed_part (whole_number (length c.args.out.now) (view c.args.t)) (whole_list (view c.args.t)) c.args.out.now _ _ c.list_whole-listed.ensures; ref_ptr_value = refl }

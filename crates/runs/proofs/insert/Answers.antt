@@ -1,0 +1,40 @@
+-- `runs::insert` meets its contract: a copy of the part before pos, a push of the new positions, and a copy of the part from pos on.
+use mathlib.Core.Path.{◌≡◌, refl, ◌∙◌}
+use mathlib.Core.List.{[]}
+use Rattle.runs.specs.Runs.{runs, Canon}
+use Rattle.runs.proofs.Copies.{push_run, adding, part, inserted}
+use Rattle.runs.proofs.EditLaws.{inside_self, inside_copy, inside_push, can_copy, can_push, room_of, pushed_is, copied_is, inserted_joined, joined_is}
+use Rattle.runs.proofs.BehindLaws.{count_push, count_copy, behind_on}
+use Rattle.runs.proofs.insert.Goals as goal
+
+pub copy-n-requires : goal.copy-n-requires
+unfolding runs inserted Canon
+copy-n-requires c =
+    can_copy (room_of c.requires.1 (inserted_joined _ _ c.requires.1.all_is c.args.pos c.args.len c.args.set c.requires.0)) c.args.olens.now c.args.osets.now 0 refl refl tt [] refl (adding 0) 0 c.args.pos
+    (inside_push c.args.len c.args.set (inside_copy (adding 0) c.args.pos _ _ (inside_self _)))
+
+pub push-k-requires : goal.push-k-requires
+unfolding inserted runs Canon
+push-k-requires c =
+    can_push (room_of c.requires.1 (inserted_joined _ _ c.requires.1.all_is c.args.pos c.args.len c.args.set c.requires.0)) c.copy-n.new.olens c.copy-n.new.osets c.copy-n.result c.copy-n.auto.olens c.copy-n.auto.osets c.copy-n.ensures.appended.canon _ ((let h : runs c.copy-n.new.olens c.copy-n.new.osets c.copy-n.result ≡ part [] 0 c.args.pos (runs c.args.lens.now c.args.sets.now c.args.m) = copied_is (adding 0) [] _ _ _ tt c.copy-n.ensures.appended in h))
+    c.args.len c.args.set (inside_copy (adding 0) c.args.pos _ _ (inside_self _))
+
+pub copy-requires : goal.copy-requires
+unfolding inserted runs Canon
+copy-requires c =
+    can_copy (room_of c.requires.1 (inserted_joined _ _ c.requires.1.all_is c.args.pos c.args.len c.args.set c.requires.0)) c.push-k.new.lens c.push-k.new.sets c.push-k.result (c.push-k.auto.lens ∙ c.copy-n.auto.olens) (c.push-k.auto.sets ∙ c.copy-n.auto.osets)
+    c.push-k.ensures.appended.canon _ ((let h : let rs = runs c.args.lens.now c.args.sets.now c.args.m in
+    runs c.push-k.new.lens c.push-k.new.sets c.push-k.result ≡ push_run (part [] 0 c.args.pos rs) c.args.len c.args.set = rw ((let h : runs c.copy-n.new.olens c.copy-n.new.osets c.copy-n.result ≡ part [] 0 c.args.pos (runs c.args.lens.now c.args.sets.now c.args.m) = copied_is (adding 0) [] _ _ _ tt c.copy-n.ensures.appended in h)) at (pushed_is _ _ _ c.copy-n.ensures.appended.canon c.push-k.ensures.appended) in h)) (adding 0) c.args.pos c.args.all (rw c.requires.1.all_is (inside_self _))
+
+pub returns : goal.returns
+unfolding inserted runs Canon
+returns c =
+    let k = count_push _ _ _ _ _ _ _ _ c.copy-n.ensures.appended.canon c.push-k.ensures.appended in
+    let l = count_copy (adding 0) _ _ _ _ _ _ _ _ _ c.push-k.ensures.appended.canon c.copy.ensures.appended in record {
+      joined = joined_is (inserted_joined _ _ c.requires.1.all_is c.args.pos c.args.len c.args.set c.requires.0) (rw (
+        (let h : let rs = runs c.args.lens.now c.args.sets.now c.args.m in
+            runs c.push-k.new.lens c.push-k.new.sets c.push-k.result ≡ push_run (part [] 0 c.args.pos rs) c.args.len c.args.set = rw ((let h : runs c.copy-n.new.olens c.copy-n.new.osets c.copy-n.result ≡ part [] 0 c.args.pos (runs c.args.lens.now c.args.sets.now c.args.m) = copied_is (adding 0) [] _ _ _ tt c.copy-n.ensures.appended in h)) at (pushed_is _ _ _ c.copy-n.ensures.appended.canon c.push-k.ensures.appended) in h),
+        c.requires.1.all_is,
+      ) at (copied_is (adding 0) _ _ _ _ c.push-k.ensures.appended.canon c.copy.ensures.appended));
+      same_behind = behind_on _ _ l (behind_on _ _ k c.copy-n.ensures.same_behind c.push-k.ensures.same_behind) c.copy.ensures.same_behind;
+    }

@@ -1,0 +1,27 @@
+use Prim.Native.Nat.{◌+◌, ◌*◌, ◌-◌}
+use native.Mathlib.Omega.{arith}
+use lib.Dec.{eqb}
+use Rattle.saved.specs.Reads.{before_by, ReadsRun}
+use Rattle.saved.proofs.RunsRead.{underway_none, run_wrong, run_more, runs_done}
+use Rattle.saved.proofs.spans.runs_lines.Goals as goal
+
+pub loop-j-init : goal.loop-j-init
+loop-j-init c = let a = c.args in underway_none a.most a.bytes.now a.from a.n a.count c.requires.2
+
+pub run_lines-r-requires : goal.run_lines-r-requires
+run_lines-r-requires c = (omega (arith, c.loop-j.invariant.few), c.loop-j.invariant.inside)
+
+pub returns-in-Bad : goal.returns-in-Bad
+returns-in-Bad c =
+    let a = c.args in
+    rw c.wrong_runs.ensures
+    (run_wrong a.most a.bytes.now a.from a.n a.count c.loop-j.lens c.loop-j.sets c.loop-j.at c.loop-j.before c.loop-j.sum c.loop-j.all c.loop-j.j c.loop-j.invariant c.requires.1 c.loop-j-test.true c.in-Bad.line (rw c.in-Bad.is at ((let h : (let a = c.args in ReadsRun (before_by (eqb c.loop-j.j 0) c.loop-j.before) a.most a.bytes.now c.loop-j.at (a.n + 2 * c.loop-j.j) c.run_lines-r.result) = rw c.wide.ensures at c.run_lines-r.ensures in h))))
+
+pub loop-j-preserved : goal.loop-j-preserved
+loop-j-preserved c =
+    let a = c.args in
+    rw c.capped-sum.ensures
+    (run_more a.most a.bytes.now a.from a.n a.count c.loop-j.lens c.loop-j.sets c.loop-j.at c.loop-j.before c.loop-j.sum c.loop-j.all c.loop-j.j c.loop-j.invariant c.requires.1 c.loop-j-test.true c.in-Run.len c.in-Run.set c.in-Run.next (rw c.in-Run.is at ((let h : (let a = c.args in ReadsRun (before_by (eqb c.loop-j.j 0) c.loop-j.before) a.most a.bytes.now c.loop-j.at (a.n + 2 * c.loop-j.j) c.run_lines-r.result) = rw c.wide.ensures at c.run_lines-r.ensures in h))))
+
+pub returns : goal.returns
+returns c = let a = c.args in runs_done a.most a.bytes.now a.from a.n a.count c.loop-j.lens c.loop-j.sets c.loop-j.at c.loop-j.before c.loop-j.sum c.loop-j.all c.loop-j.j c.loop-j.invariant c.loop-j-test.false

@@ -1,0 +1,7 @@
+-- Three texts, one behind the other.
+use native.Mathlib.Omega.{arith}
+use Rattle.saved.proofs.Laying.{lays_then, lays_more}
+use Rattle.saved.proofs.writing.lay_word.Goals as goal
+
+pub returns : goal.returns
+returns c = lays_more (omega arith) (lays_then (lays_then c.lay-a.ensures c.lay-b.ensures) c.lay.ensures)
