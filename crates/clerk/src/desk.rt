@@ -233,7 +233,7 @@ pub fn read_log(s: Tanks, side: Side, body: &[u8], out: &mut [u8], at: usize) ->
 pub fn end_log(side: Side, out: &mut [u8], at: usize) -> Noted
     requires settled { Settled side }
     requires piece_room_in_bounds { piece_room ≤ length out.old }
-    ensures { Notes (with_log side logs.fresh) (report_says (logs.atEnd side.log)) out.old at result out.new }
+    ensures { Notes (with_log side logs.fresh) (report_says (logs.at_end side.log)) out.old at result out.new }
 {
     let before = side.log;
     let k = put_report(out, at, day_log::end(before));

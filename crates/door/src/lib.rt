@@ -1,4 +1,4 @@
-// The door: what C and Rust link. Each function works on bytes that the caller lends, and keeps nothing: the eight tanks are a saved text, which
+// The door: what C and Rust link, through door_c. Each function works on bytes that the caller lends, and keeps nothing: the eight tanks are a saved text, which
 // is read anew at each call, so that no call trusts memory that it has not checked. `bindings/c/mavelino.h` declares these functions.
 //
 // A refusal writes nothing but the report. The answers of a run are put into memory of its own first, which is held and never written out, and
@@ -87,7 +87,7 @@ fn stopped(text: usize, taken: usize, edits: u64, number: u64, line: u64) -> Out
 
 // A log that was taken up to a place, and whether it goes on.
 fn fed(text: usize, taken: usize, edits: u64, stop: Stop) -> Outcome
-    ensures { result ≡ record { number = 0; line = 0; text = text; answers = 0; taken = taken; applied = edits; stop = meant.stopNumber stop; at = meant.stop_line stop } }
+    ensures { result ≡ record { number = 0; line = 0; text = text; answers = 0; taken = taken; applied = edits; stop = meant.stop_number stop; at = meant.stop_line stop } }
 {
     match stop {
         Stop::Going => stopped(text, taken, edits, 0, 0),
@@ -127,7 +127,7 @@ fn begin_in(settings: &[u8], next: &mut [u8]) -> Outcome
 
 // The line at which a run ended, or in which its script breaks off; 0 for none.
 fn bad_line(over: bool, inlet: Inlet) -> u64
-    ensures { result ≡ meant.badIn over (ending_in inlet.left (state_of inlet.reader)) (counted_of inlet.reader.newlines) }
+    ensures { result ≡ meant.bad_in over (ending_in inlet.left (state_of inlet.reader)) (counted_of inlet.reader.newlines) }
 {
     let r = inlet.reader;
     if over {
@@ -249,8 +249,7 @@ fn tell(report: &mut [u64; 7], o: Outcome) -> u64
 }
 
 // The saved text of eight fresh tanks with the settings of a text.
-#[unsafe(no_mangle)]
-pub extern "C" fn mavelino_begin(settings: &[u8], next: &mut [u8], report: &mut [u64; 7]) -> u64
+pub fn mavelino_begin(settings: &[u8], next: &mut [u8], report: &mut [u64; 7]) -> u64
     ensures { Begins settings.now next.old result next.new report.new }
 {
     let o = begin_in(settings, next);
@@ -258,8 +257,7 @@ pub extern "C" fn mavelino_begin(settings: &[u8], next: &mut [u8], report: &mut 
 }
 
 // The calls of a script on the tanks of a saved text: the next text, and the answers as the console writes them.
-#[unsafe(no_mangle)]
-pub extern "C" fn mavelino_run(
+pub fn mavelino_run(
     text: &[u8],
     calls: &[u8],
     next: &mut [u8],
@@ -274,8 +272,7 @@ pub extern "C" fn mavelino_run(
 }
 
 // A piece of the boxes' log, from the start of a group on, on the tanks of a saved text: the next text, and how much of the piece was taken.
-#[unsafe(no_mangle)]
-pub extern "C" fn mavelino_feed(
+pub fn mavelino_feed(
     text: &[u8],
     bytes: &[u8],
     next: &mut [u8],
@@ -288,25 +285,22 @@ pub extern "C" fn mavelino_feed(
 }
 
 // No saved text has more bytes.
-#[unsafe(no_mangle)]
-pub extern "C" fn mavelino_text_most() -> u64
+pub fn mavelino_text_most() -> u64
     ensures { result ≡ most_bytes }
 {
     117930
 }
 
 // No more bytes of answers come from a run.
-#[unsafe(no_mangle)]
-pub extern "C" fn mavelino_answers_most() -> u64
+pub fn mavelino_answers_most() -> u64
     ensures { result ≡ most_answers }
 {
     262144
 }
 
 // How many numbers a report has.
-#[unsafe(no_mangle)]
-pub extern "C" fn mavelino_report_size() -> u64
-    ensures { result ≡ length (meant.reportOf (meant.wrong 0 0)) }
+pub fn mavelino_report_size() -> u64
+    ensures { result ≡ length (meant.report_of (meant.wrong 0 0)) }
 {
     7
 }

@@ -42,7 +42,7 @@ fn marked(marks: u64) -> u64
 // Mark b of the tank.
 fn mark(base: u64, b: u64) -> Mark
     requires { (base < 32768) × (b ≤ 63) }
-    ensures { result ≡ rules.markB base b }
+    ensures { result ≡ rules.mark_b base b }
 {
     Mark {
         key: (base + b + 1) as u16,
@@ -128,7 +128,7 @@ fn lower(s: Tanks, tank: u64, base: u64, runs: u64, marks: u64) -> Tanks
 fn every_other(s: Tanks, tank: u64, base: u64, runs: u64, b: u64) -> Tanks
     requires sound { Sound s }
     requires base_bound { (base < 32768) × Sized runs × (b ≤ 63) }
-    ensures { MeansHouse (rules.everyOther tank base runs b (meaning s)) result }
+    ensures { MeansHouse (rules.every_other tank base runs b (meaning s)) result }
 {
     let mut u = s;
     let mut j = 0;
@@ -203,7 +203,7 @@ fn middle(runs: u64) -> u64
 // The edit of a turn, for works 0 to 7.
 fn edit_at(work: u64, base: u64, runs: u64, turn: u64) -> Edit
     requires { (base < 32768) × Sized runs }
-    ensures { edit_of result ≡ rules.editAt work base runs turn }
+    ensures { edit_of result ≡ rules.edit_at work base runs turn }
 {
     let at = spot(runs, turn);
     if work == 0 {
@@ -280,7 +280,7 @@ fn score(work: u64, marks: u64, number: u64) -> u64
 
 // 1 for yes.
 fn one_if_yes(t: Told) -> u64
-    ensures { result ≡ rules.oneIfYes t }
+    ensures { result ≡ rules.one_if_yes t }
 {
     match t {
         Told::Refused(_) => 0,
@@ -292,7 +292,7 @@ fn one_if_yes(t: Told) -> u64
 // n, where n is the whole number that is shown, else 0.
 fn if_shown(n: u64, s: Shown) -> u64
     requires { n ≤ 63 }
-    ensures { result ≡ rules.ifShown n s }
+    ensures { result ≡ rules.if_shown n s }
 {
     match s {
         Shown::Refused(_) => 0,
@@ -310,7 +310,7 @@ fn if_shown(n: u64, s: Shown) -> u64
 // Whether a mark with the extra one's key is left: 1 for yes.
 fn has_extra(s: Tanks, tank: u64, base: u64) -> u64
     requires { (Sound s) × (base < 32768) }
-    ensures { result ≡ rules.extraLeft tank base (meaning s) }
+    ensures { result ≡ rules.extra_left tank base (meaning s) }
 {
     one_if_yes(ask::range_contains_key(s, tank, Party::Plant, 0, 5000, (base + 777) as u16))
 }
@@ -318,7 +318,7 @@ fn has_extra(s: Tanks, tank: u64, base: u64) -> u64
 // Where the range begins that is asked for a key: three positions of a run, or for the wide work the whole marked part.
 fn key_from(work: u64, runs: u64, turn: u64) -> u64
     requires { Sized runs }
-    ensures { result ≡ rules.keyFrom work runs turn }
+    ensures { result ≡ rules.key_from work runs turn }
 {
     if work % 2 == 0 {
         spot(runs, turn) + 3
@@ -330,7 +330,7 @@ fn key_from(work: u64, runs: u64, turn: u64) -> u64
 // Where it ends.
 fn key_to(work: u64, runs: u64, turn: u64) -> u64
     requires { Sized runs }
-    ensures { result ≡ rules.keyTo work runs turn }
+    ensures { result ≡ rules.key_to work runs turn }
 {
     if work % 2 == 0 {
         spot(runs, turn) + 6
@@ -343,7 +343,7 @@ fn key_to(work: u64, runs: u64, turn: u64) -> u64
 fn edits(work: u64, s: Tanks, tank: u64, base: u64, runs: u64, turns: u64) -> u64
     requires sound { (Sound s) × (tank < 8) }
     requires base_bound { (base < 32768) × Sized runs }
-    ensures { result ≡ rules.editSum work tank base runs turns (meaning s) }
+    ensures { result ≡ rules.edit_sum work tank base runs turns (meaning s) }
 {
     let mut u = s;
     let mut sum = 0;
@@ -364,7 +364,7 @@ fn edits(work: u64, s: Tanks, tank: u64, base: u64, runs: u64, turns: u64) -> u6
 fn keys(work: u64, s: Tanks, tank: u64, base: u64, runs: u64, turns: u64) -> u64
     requires sound { Sound s }
     requires base_bound { (base < 32768) × Sized runs }
-    ensures { result ≡ rules.summed (rules.keyScore work tank base runs (meaning s)) turns }
+    ensures { result ≡ rules.summed (rules.key_score work tank base runs (meaning s)) turns }
 {
     let mut sum = 0;
     let mut k = 0;
@@ -382,7 +382,7 @@ fn keys(work: u64, s: Tanks, tank: u64, base: u64, runs: u64, turns: u64) -> u64
 fn values(s: Tanks, tank: u64, base: u64, runs: u64, marks: u64, turns: u64) -> u64
     requires sound { Sound s }
     requires base_bound { (base < 32768) × Sized runs × (marks ≤ 63) }
-    ensures { result ≡ rules.summed (rules.valueScore tank base runs marks (meaning s)) turns }
+    ensures { result ≡ rules.summed (rules.value_score tank base runs marks (meaning s)) turns }
 {
     let mut sum = 0;
     let mut k = 0;
@@ -400,7 +400,7 @@ fn values(s: Tanks, tank: u64, base: u64, runs: u64, marks: u64, turns: u64) -> 
 fn sets(s: Tanks, tank: u64, runs: u64, turns: u64) -> u64
     requires sound { Sound s }
     requires sized { Sized runs }
-    ensures { result ≡ rules.summed (rules.setScore tank runs (meaning s)) turns }
+    ensures { result ≡ rules.summed (rules.set_score tank runs (meaning s)) turns }
 {
     let mut sum = 0;
     let mut k = 0;
@@ -416,7 +416,7 @@ fn sets(s: Tanks, tank: u64, runs: u64, turns: u64) -> u64
 fn asking(work: u64, s: Tanks, tank: u64, base: u64, runs: u64, marks: u64, turns: u64) -> u64
     requires sound { Sound s }
     requires base_bound { (base < 32768) × Sized runs × (marks ≤ 63) }
-    ensures { result ≡ rules.askSum work tank base runs marks turns (meaning s) }
+    ensures { result ≡ rules.ask_sum work tank base runs marks turns (meaning s) }
 {
     if work % 4 < 2 {
         return keys(work, s, tank, base, runs, turns);
