@@ -1,5 +1,5 @@
 //! Links the static library of the tank map where it has been written, and says so by the cfg
-//! `ours`: `rt staticlib timing` writes one for x86-64; one for another machine has to be named.
+//! `ours`: `tools/archive timing` writes one for x86-64; one for another machine has to be named.
 //! Without it the original is timed alone. A second archive, of another tree, is linked beside it
 //! where one is named, and the cfg `before` says so.
 

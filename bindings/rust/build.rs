@@ -1,5 +1,5 @@
 //! Links the archive of the proved map: `libdoor.a` in the folder that `MAVELINO_DOOR` names, or in
-//! the repository's `target/staticlib`, where `rt staticlib door` writes it.
+//! the repository's `target/staticlib`, where `tools/archive door` writes it.
 
 use std::path::PathBuf;
 use std::{env, process};
@@ -21,7 +21,7 @@ fn main() {
     }
     if !archive.is_file() {
         stop(&format!(
-            "there is no {}: 'rt staticlib door' in the repository proves the map and writes it, \
+            "there is no {}: 'tools/archive door' in the repository proves the map and writes it, \
              bindings/rust/try makes one without proofs, and {PLACE} names the folder of another",
             archive.display()
         ));
