@@ -5,3 +5,4 @@ pub mod Tidy
 pub mod Turns
 pub mod Begun
 pub mod Grouping
+pub mod Back

@@ -4,16 +4,13 @@ use mathlib.Core.Path.{◌≡◌, refl, sym, ap, ◌∙◌, subst}
 use mathlib.Core.Bool.{Bool, true, false, cond}
 use mathlib.Core.List.{List, [], ◌++◌}
 use native.Mathlib.Omega.{arith}
-use native.Mathlib.Nat.{add-zero}
-use native.Mathlib.Numerals.{add-one}
 use native.Mathlib.Decide.{dec_lt}
 use lib.Dec.{eqb}
 use lib.ListN.{length, get_or, drop}
-use lib.Seq.{drop-drop, get_or-drop, take-length}
+use lib.Seq.{take-length}
 use borrow.Author.Tests.{lt-ltb, le-ltb, ne_eqb}
 use Rattle.laws.proofs.Lists.{stored, stored_is}
 use Rattle.tank.specs.declared.Tank.{Tank}
-use Rattle.lists.specs.declared.Listed.{Listed}
 use Rattle.lists.specs.declared.anchors.Anchor.{Anchor}
 use Rattle.lists.specs.declared.anchors.AnchorCursor.{AnchorCursor}
 use Rattle.lists.specs.declared.anchors.NextAnchor.{NextAnchor}
@@ -21,7 +18,7 @@ use Rattle.lists.specs.declared.anchors.NextAnchor.TheVariants.{NoMore, Found}
 use Rattle.tank.specs.State.{view}
 use Rattle.runs.specs.Stretches.{in_front}
 use Rattle.lists.specs.Lists.{list_refusal, unless_refused, filled_beside}
-use Rattle.lists.specs.Anchors.{anchors, anchors_after, no_anchor, rest, Stands, Steps}
+use Rattle.lists.specs.Anchors.{anchors, no_anchor, rest, Stands, Steps}
 
 -- ---- a step, taken apart
 module _ (t : Tank) (c : AnchorCursor) (r : NextAnchor) (h : Steps t c r) where
@@ -83,36 +80,7 @@ pub stored_front : (number : ℕ) (xs ys : List Anchor) (n : ℕ) → n ≡ leng
 stored_front number xs ys n e h = front_by (eqb number 0) xs ys n e h
 
 -- ---- the walk
--- what each function that the walk calls says of its result
-abbrev pub Said-turns : Tank → ℕ → ℕ → ℕ → Type 0
-Said-turns t lower room r = (r ≡ length (unless_refused (anchors_after lower room (view t)) (anchors (view t)))) × (r ≤ room)
-
-abbrev pub Said-first : Tank → AnchorCursor → Type 0
-Said-first t r = Stands t r × (rest t r ≡ anchors (view t)) × (r.index ≡ 0)
-
-abbrev pub Said-anchor : Tank → AnchorCursor → Anchor → Type 0
-Said-anchor t c r = r ≡ get_or (rest t c) 0 no_anchor
-
-abbrev pub Said-advance : Tank → AnchorCursor → AnchorCursor → Type 0
-Said-advance t c r = Stands t r × (rest t r ≡ drop 1 (rest t c))
-
-abbrev pub Said-judged : Tank → ℕ → ℕ → Listed → Type 0
-Said-judged t lower room r = r ≡ filled_beside (anchors_after lower room (view t)) (anchors (view t))
-
 -- where the walk stands before turn j of n: at a cursor from which the anchors from the j-th on come
 pub record Standing (t : Tank) (j : ℕ) (c : AnchorCursor) : Type 0 where
   pub stands : Stands t c
   pub come : rest t c ≡ drop j (anchors (view t))
-
-pub stand_first : {t : Tank} (c : AnchorCursor) → Said-first t c → Standing t 0 c
-stand_first c g = record { stands = g.0; come = g.1 }
-
-pub stand_next : {t : Tank} (j : ℕ) (c d : AnchorCursor) → Standing t j c → Said-advance t c d → Standing t (suc j) d
-stand_next {t} j c d s g =
-    record {
-      stands = g.0;
-      come = g.1 ∙ ap (drop 1) s.come ∙ drop-drop 1 j (anchors (view t)) ∙ ap (λ i. drop i (anchors (view t))) (add-one j);
-    }
-
-pub stand_anchor : {t : Tank} (j : ℕ) (c : AnchorCursor) → Standing t j c → get_or (rest t c) 0 no_anchor ≡ nth (anchors (view t)) j
-stand_anchor {t} j c s = ap (λ (l : List Anchor). get_or l 0 no_anchor) s.come ∙ get_or-drop j (anchors (view t)) 0 no_anchor ∙ ap (nth (anchors (view t))) (add-zero j)

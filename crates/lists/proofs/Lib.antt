@@ -3,7 +3,6 @@ pub mod AnchorLaws
 pub mod AnchorsOnRuns
 pub mod CursorLaws
 pub mod AnchorListLaws
-pub mod Leaves
 pub mod ListTests
 pub mod Most
 pub mod Stretches

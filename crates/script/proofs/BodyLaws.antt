@@ -1,17 +1,15 @@
 -- What the code's steps hand back is what the next bytes bring.
 use mathlib.Core.Path.{◌≡◌, refl, sym, ap, ap₂, subst, ◌∙◌}
 use mathlib.Core.Bool.{Bool, true, false, cond}
-use mathlib.Core.List.{List, [], ◌∷◌, ◌++◌}
-use Prim.Native.Nat.{ℕ, suc, ◌+◌, ◌-◌, ◌≤◌, ◌<◌, min}
+use mathlib.Core.List.{List, [], ◌++◌}
+use Prim.Native.Nat.{ℕ, ◌+◌, ◌-◌, ◌≤◌, ◌<◌, min}
 use native.Mathlib.Decide.{dec_lt}
-use native.Mathlib.Nat.{add-sub_cancel_left}
 use native.Mathlib.Omega.{arith}
 use lib.Dec.{eqb}
-use lib.ListN.{length, take, drop, get_or, length-take, length-drop, length-append, drop_of_length-le}
-use lib.Seq.{drop-drop, drop-cons}
+use lib.ListN.{length, take, drop, length-take, length-drop, drop_of_length-le}
+use lib.Seq.{drop-drop}
 use borrow.Author.Tests.{ne_eqb, eq-eqb}
 use Rattle.text.specs.Number.{put}
-use Rattle.text.specs.Bytes.{up_to}
 use Rattle.text.proofs.Putting.{take_put, put_room}
 use Rattle.script.specs.declared.Call.{Call}
 use Rattle.script.specs.declared.Event.{Event}
@@ -22,7 +20,7 @@ use Rattle.script.specs.declared.Reader.{Reader}
 use Rattle.script.specs.declared.Taken.{Taken}
 use Rattle.script.specs.Grammar.{most_body}
 use Rattle.script.specs.Args.{number_at}
-use Rattle.script.specs.Lines.{line_front, State, state_of, read_of, brings_of, after_of, past_line, Feeds}
+use Rattle.script.specs.Lines.{line_front, State, state_of, read_of, brings_of, after_of, Feeds}
 use Rattle.script.specs.Bodies.{body_by, body_of, brings_call, brings_nothing, Brought, line_brings, counted_in, passed, body_brings, brought_by, behind_line, behind_part, stage_of, Fits, resting, end_taken, part_taken, brought_of, Takes}
 use Rattle.script.proofs.CutLaws.{take_min}
 use Rattle.script.proofs.Unique.{fed_state}

@@ -1,6 +1,6 @@
 -- A deletion by its cases.
 use Prim.Native.Nat.{ℕ, ◌≤◌, ◌<◌}
-use mathlib.Core.Path.{◌≡◌, refl, ap, ◌∙◌}
+use mathlib.Core.Path.{◌≡◌, refl, sym, ap, ◌∙◌}
 use mathlib.Core.Bool.{true, false}
 use native.Mathlib.Omega.{arith}
 use borrow.Author.Tests.{lt-leb, le-leb, lt-ltb, le-ltb}
@@ -10,6 +10,16 @@ use Rattle.tank.specs.Rules.{View, deleting, is_lab, after, after_delete, barred
 use Rattle.tank.specs.State.{view, Laid, Sound, Called}
 use Rattle.tank.specs.Steps.{Trimmed, CanCut}
 use Rattle.tank.proofs.Calls.{number_16, number_3, number_4, number_0, refused, made}
+
+-- an untouched tank stays as it is
+delete_untouched : (a b : ℕ) (v : View) → v.touched ≡ false → after_delete a b v ≡ v
+unfolding after_delete
+delete_untouched a b v e = rw e
+
+-- and a touched one stays touched
+delete_touched : (a b : ℕ) (v : View) → v.touched ≡ true → (after_delete a b v).touched ≡ true
+unfolding after_delete
+delete_touched a b v e = rw e
 
 module _ {t : Tank} (s : Sound t) (who : Party) (start end : ℕ) where
   pub refused_16 : is_lab who ≡ true → Called (deleting who start end) t 16 t
@@ -36,8 +46,8 @@ module _ {t : Tank} (s : Sound t) (who : Party) (plant : is_lab who ≡ false) (
       accepted = number_0 (deleting who start end) (view t) allowed (lt-leb end start up) (le-ltb t.length end fits) refl refl refl refl
 
       pub untouched : t.touched ≡ false → Called (deleting who start end) t 0 t
-      unfolding after after_delete view
-      untouched e = made accepted s.formed (simp e)
+      unfolding after view
+      untouched e = made accepted s.formed (sym (delete_untouched start end (view t) e))
 
       module _ (e : t.touched ≡ true) where
         pub can_cut : CanCut t start end
@@ -45,8 +55,8 @@ module _ {t : Tank} (s : Sound t) (who : Party) (plant : is_lab who ≡ false) (
 
         module _ {u : Tank} (c : (Laid u) × (view u ≡ after_delete start end (view t))) where
           pub still_touched : u.touched ≡ true
-          unfolding after_delete view
-          still_touched = ap (λ (v : View). v.touched) c.1 ∙ simp e
+          unfolding view
+          still_touched = ap (λ (v : View). v.touched) c.1 ∙ delete_touched start end (view t) e
 
           pub delete_done : {r : Tank} → Trimmed u r → Called (deleting who start end) t 0 r
           unfolding after

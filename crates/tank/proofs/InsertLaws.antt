@@ -14,7 +14,7 @@ use Rattle.runs.specs.Gather.{gather}
 use Rattle.runs.specs.Scan.{common_at}
 use Rattle.tank.specs.declared.Tank.{Tank}
 use Rattle.tank.specs.declared.Inserted.{Inserted}
-use Rattle.tank.specs.Rules.{inserting, is_lab, shown_to, other_of, after, for_insert, after_insert, barred, empty, over, largest, long, own_number, clashes, full, refusal, when_accepted, inserted_set}
+use Rattle.tank.specs.Rules.{View, inserting, is_lab, shown_to, other_of, after, for_insert, after_insert, barred, empty, over, largest, long, own_number, clashes, full, refusal, when_accepted, inserted_set}
 use Rattle.tank.specs.State.{runs_of, table_of, view, Sound, Called}
 use Rattle.tank.specs.Steps.{Stepped, CanGrow}
 use Rattle.tank.proofs.AnnotateLaws.{formed_of}
@@ -22,6 +22,21 @@ use Rattle.tank.proofs.Calls.{number_16, number_3, number_4, number_5, number_0,
 use Rattle.tank.proofs.GrowLaws.{common_small, common_for_insert}
 use Rattle.tank.proofs.PartyLaws.{answer_seen}
 use Rattle.tank.proofs.Unique.{table_length}
+
+-- an untouched tank stays as it is
+insert_same : (pos len : ℕ) (v : View) → v.touched ≡ false → after_insert pos len v ≡ v
+unfolding after_insert
+insert_same pos len v e = rw e
+
+-- and answers the empty set
+answer_none : (pos : ℕ) (v : View) → v.touched ≡ false → for_insert pos v ≡ []
+unfolding for_insert
+answer_none pos v e = rw e
+
+-- a touched one stays touched
+insert_touched : (pos len : ℕ) (v : View) → v.touched ≡ true → (after_insert pos len v).touched ≡ true
+unfolding after_insert
+insert_touched pos len v e = rw e
 
 -- what an insertion hands back
 abbrev pub Gives : Tank → Party → ℕ → ℕ → Inserted → Type 0
@@ -77,11 +92,11 @@ module _ {t : Tank} (s : Sound t) (who : Party) (plant : is_lab who ≡ false) (
         never_long = simp e
 
         pub insert_untouched : {r : Inserted} → Kept t 0 r → Gives t who pos len r
-        unfolding after after_insert for_insert shown_to view
+        unfolding after shown_to view
         insert_untouched g =
             let a = accepted never_long in
-            kept s who pos len g (made a s.formed (simp e))
-            (ap (λ (n : ℕ). when_accepted n (for_insert pos (shown_to who (view t))) []) a ∙ simp e)
+            kept s who pos len g (made a s.formed (sym (insert_same pos len (view t) e)))
+            (ap (λ (n : ℕ). when_accepted n (for_insert pos (shown_to who (view t))) []) a ∙ answer_none pos (shown_to who (view t)) e)
 
       module _ (e : t.touched ≡ true) where
         pub insert_5 : {r : Inserted} → largest - t.length < len → Kept t 5 r → Gives t who pos len r
@@ -115,8 +130,8 @@ module _ {t : Tank} (s : Sound t) (who : Party) (plant : is_lab who ≡ false) (
                 ∙ sym (simp a)
 
             still : (after_insert pos len (view t)).touched ≡ true
-            unfolding after_insert view
-            still = simp e
+            unfolding view
+            still = insert_touched pos len (view t) e
 
             pub insert_done : {styles : Styles} {u : Tank} → styles ≡ styles_of (of_party who (pick (table_of t) set))
                 → Stepped (after_insert pos len (view t)) (table_of t) (gather (runs_of t)) u

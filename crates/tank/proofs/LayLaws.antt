@@ -1,5 +1,5 @@
 -- A mark of the table laid on a range: what the tank then means.
-use Prim.Native.Nat.{ℕ, ◌<◌, ◌^◌}
+use Prim.Native.Nat.{ℕ, ◌%◌, ◌<◌, ◌^◌}
 use mathlib.Core.Path.{◌≡◌, ap, ◌∙◌}
 use mathlib.Core.Bool.{true}
 use mathlib.Core.List.{List}
@@ -10,6 +10,7 @@ use lib.Pow.{pow-lt}
 use Rattle.styles.specs.declared.Mark.{Mark}
 use Rattle.styles.specs.Marks.{Sorted, insert_mark, blank}
 use Rattle.styles.specs.Bits.{pick, with_bit}
+use Rattle.styles.proofs.BitLaws.{with_bit_fits}
 use Rattle.styles.proofs.PickLaws.{pick_with}
 use Rattle.runs.specs.Runs.{runs, set_at, Spare}
 use Rattle.runs.specs.Edits.{Joined}
@@ -30,6 +31,10 @@ use Rattle.tank.proofs.ViewLaws.{view_altered}
 pub one_bit : (i : ℕ) → with_bit i 0 ≡ 2 ^ i
 unfolding with_bit
 one_bit i = or_zero_l (2 ^ i)
+
+-- a mark is one of 64, so its bit fits
+pub bit_is : {b : ℕ} (i : ℕ) → i < 64 → b ≡ with_bit i 0 % 2 ^ 64 → b ≡ with_bit i 0
+bit_is i h e = e ∙ with_bit_fits i 0 h (omega arith)
 
 -- adding bit i to a set adds mark i to its marks
 pub adds_mark : (ms : List Mark) (i : ℕ) → Sorted ms → i < length ms → (s : ℕ) → pick ms (adding (with_bit i 0) s) ≡ insert_mark (get_or ms i blank) (pick ms s)

@@ -14,6 +14,7 @@ pub mod CallLaws
 pub mod AnswerLaws
 pub mod PartsLaws
 pub mod WithinLaws
+pub mod EditLaws
 pub mod AskLaws
 pub mod OpeningLaws
 pub mod Unique

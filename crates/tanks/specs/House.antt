@@ -61,8 +61,8 @@ abbrev pub share_number : Party → ℕ → ℕ → ℕ → ℕ
 share_number who share before n = cond (passes_share who share before n) 17 0
 
 -- what an edit is refused by within its tank: the tank's own (`refusal`), then 17
-abbrev pub field_own : House → ℕ → Edit → ℕ
-field_own h t e =
+abbrev pub own_at : House → ℕ → Edit → ℕ
+own_at h t e =
     first_refusal (refusal e (tank_at h t))
     (share_number (made_by e) (share_of h.settings t) (held h t) (runs_held (after e (tank_at h t))))
 
@@ -70,7 +70,7 @@ field_own h t e =
 unfoldable pub refusal_at : House → ℕ → Edit → ℕ
 refusal_at h t e =
     cond (no_tank t) 1
-    (first_refusal (field_own h t e)
+    (first_refusal (own_at h t e)
     (judgement h.settings (held h) t (runs_held (after e (tank_at h t)))))
 
 -- ---- Edits
@@ -108,7 +108,7 @@ reached st cs = after_all (opening st) cs
 -- when 10 is due: no number before it applies, and the sum over tanks of max(runs after, share) would pass 512
 pub record Ten (h : House) (t : ℕ) (e : Edit) : Type 0 where
   pub tank : t < 8
-  pub own : field_own h t e ≡ 0
+  pub own : own_at h t e ≡ 0
   pub limit : runs_held (after e (tank_at h t)) ≤ limit_of h.settings t
   pub over : 512 < claims h.settings (held_after (held h) t (runs_held (after e (tank_at h t)))) 8
 

@@ -1,20 +1,16 @@
 -- A text up to its first newline, and the text behind it: a text with no newline in it, a newline, and more.
 use mathlib.Core.Path.{◌≡◌, refl, sym, ap, ◌∙◌}
-use mathlib.Core.Bool.{Bool, true, false, ◌||◌, true≢false}
-use mathlib.Core.List.{List, [], ◌∷◌, ◌++◌, append_assoc}
+use mathlib.Core.Bool.{true, false, true≢false}
+use mathlib.Core.List.{List, [], ◌∷◌, ◌++◌}
 use Prim.Native.Nat.{ℕ, zero, suc, ◌+◌, ◌%◌, ◌/◌, ◌≤◌, ◌<◌}
 use native.Mathlib.Decide.{ℕ_discrete, dec_lt}
-use native.Mathlib.Numerals.{add-one}
 use native.Mathlib.Omega.{arith}
-use native.Mathlib.Nat.{mod-lt}
-use lib.ListN.{length, take, drop, take-append-drop, length-drop}
-use lib.Dec.{ltb}
-use lib.Seq.{drop-cons, drop-append_seam}
+use lib.ListN.{length, drop}
 use borrow.Author.Tests.{ltb-true}
 use Rattle.io.specs.Digits.{hex_digit_ascii, last_digits}
 use Rattle.text.specs.Bytes.{up_to, holds}
 use Rattle.text.specs.Number.{decimal_text, places_from, hex_text}
-use Rattle.text.proofs.Finding.{front_here, front_past, front_none, front_take, held_here, held_past, held_by_length}
+use Rattle.text.proofs.Finding.{front_here, front_past, held_here, held_past, held_by_length}
 use Rattle.text.proofs.Steps.{glyph_low, glyph_high}
 
 none_cons : (c : ℕ) (cs : List ℕ) → holds 10 (c ∷ cs) ≡ false → (c ≡ 10 → ⊥) × (holds 10 cs ≡ false)

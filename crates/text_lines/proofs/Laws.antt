@@ -10,13 +10,13 @@ use lib.ListN.{length, take, drop, length-drop}
 use lib.Seq.{drop-append_seam, drop-drop}
 use borrow.Author.Tests.{le-leb, lt-leb, leb-true, lt-ltb, le-ltb}
 use Rattle.text.specs.declared.Parsed.{Parsed}
-use Rattle.text.specs.Bytes.{bytes, up_to, holds, starts_of}
+use Rattle.text.specs.Bytes.{up_to, holds, starts_of}
 use Rattle.text.specs.Number.{decimal_of, hex_of, decimal_text, hex_text}
 use Rattle.text.proofs.Finding.{front_part, held_by_length}
 use Rattle.text.proofs.Prefix.{starts_split, split_starts}
-use Rattle.text.proofs.Laws.{decimal_only, decimal_back, decimal_reads, hex_only, hex_back, hex_reads}
+use Rattle.text.proofs.Laws.{decimal_only, decimal_back, hex_only, hex_back}
 use Rattle.text_lines.specs.declared.Taken.{Taken}
-use Rattle.text_lines.specs.Lines.{Got, bad, got, behind, named, said, line, within, decimal_from, hex_from, number_line, hex_line, word_text, number_text, digits_text, at, taken_by, got_by}
+use Rattle.text_lines.specs.Lines.{bad, got, behind, named, said, line, within, decimal_from, hex_from, number_line, hex_line, word_text, number_text, digits_text, at, taken_by, got_by}
 use Rattle.text_lines.proofs.Ends.{front_line, held_line_lem, held_split, held_inside, holds_append, decimal_none, hex_none}
 
 -- ---- What the code hands back says the same

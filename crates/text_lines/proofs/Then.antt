@@ -7,7 +7,7 @@ use Prim.Native.Nat.{ℕ, ◌+◌, ◌≤◌}
 use native.Mathlib.Omega.{arith}
 use Rattle.text.specs.Bytes.{holds, up_to}
 use Rattle.text_lines.specs.Lines.{Got, bad, got, then, provided, ended, line, behind, named, said, decimal_from, number_line, number_text}
-use Rattle.text_lines.proofs.Laws.{Numbered, number_only}
+use Rattle.text_lines.proofs.Laws.{number_only}
 
 -- what was read on
 pub record Followed {A B : Type 0} (g : Got A) (more : A → ℕ → List ℕ → Got B) (b : B) (m : ℕ) (rest : List ℕ) : Type 0 where

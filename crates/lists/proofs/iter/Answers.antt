@@ -7,7 +7,14 @@ use Rattle.lists.proofs.ListLaws.{handed_part, handed_count}
 use Rattle.lists.proofs.iter.Goals as goal
 
 pub slice_bounds-result-end : goal.slice_bounds-result-end
-slice_bounds-result-end c = handed_count (whole_number (length c.args.out.now) (view c.args.t)) (whole_list (view c.args.t)) c.args.out.now _ _ c.list_whole-listed.ensures
+slice_bounds-result-end c =
+    let e = c.list_whole-listed.ensures in
+    handed_count (whole_number (length c.args.out.now) (view c.args.t)) (whole_list (view c.args.t)) c.args.out.now _ _ (e.value, e.out_after)
 
 pub returns : goal.returns
-returns c = record { result_value = handed_part (whole_number (length c.args.out.now) (view c.args.t)) (whole_list (view c.args.t)) c.args.out.now _ _ c.list_whole-listed.ensures; ref_ptr_value = refl }
+returns c =
+    let e = c.list_whole-listed.ensures in
+    record {
+      result_value = handed_part (whole_number (length c.args.out.now) (view c.args.t)) (whole_list (view c.args.t)) c.args.out.now _ _ (e.value, e.out_after);
+      ref_ptr_value = refl;
+    }

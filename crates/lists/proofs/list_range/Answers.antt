@@ -8,15 +8,18 @@ use Rattle.lists.proofs.list_range.Goals as goal
 pub returns-then-asked-eq0 : goal.returns-then-asked-eq0
 returns-then-asked-eq0 c =
     let v = view c.args.t in
-    handed_none (range_refusal c.args.start c.args.end v) (range_list c.args.start c.args.end v) c.args.out.now _ c.stretches_needed-asked.ensures c.if-asked-eq0.true
+    let h =
+    handed_none (range_refusal c.args.start c.args.end v) (range_list c.args.start c.args.end v) c.args.out.now _ c.stretches_needed-asked.ensures
+    c.if-asked-eq0.true in
+    record { value = h.0; out_after = h.1 }
 
 pub returns-then-out-asked : goal.returns-then-out-asked
 returns-then-out-asked c =
     let a = c.stretches_needed-asked in
     let v = view c.args.t in
     let n = needed_some c.args.start c.args.end v a.result a.ensures c.if-asked-eq0.false in
-    handed_short (range_refusal c.args.start c.args.end v) (range_list c.args.start c.args.end v) c.args.out.now n.0
-    (omega (arith, n.2))
+    let h = handed_short (range_refusal c.args.start c.args.end v) (range_list c.args.start c.args.end v) c.args.out.now n.0 (omega (arith, n.2)) in
+    record { value = h.0; out_after = h.1 }
 
 pub list_range-count-requires : goal.list_range-count-requires
 unfolding view
@@ -32,5 +35,7 @@ returns c =
     let a = c.stretches_needed-asked in
     let v = view c.args.t in
     let n = needed_some c.args.start c.args.end v a.result a.ensures c.if-asked-eq0.false in
+    let h =
     handed_full (range_refusal c.args.start c.args.end v) (range_list c.args.start c.args.end v) _ c.args.out.now _ _ n.0
-    (list_is c.requires.formed.laid 0 c.args.start c.args.end) (omega (arith, n.2, c.if-out-asked.false)) w.ensures.0 w.ensures.1
+    (list_is c.requires.formed.laid 0 c.args.start c.args.end) (omega (arith, n.2, c.if-out-asked.false)) w.ensures.out_after w.ensures.value in
+    record { value = h.0; out_after = h.1 }

@@ -13,7 +13,7 @@ overflow_sub-result c = omega (arith, c.both.ensures, and_le_l c.args.set c.part
 
 pub returns : goal.returns
 returns c = (
-  omega (arith, c.requires.1, fewer c),
+  omega (arith, c.requires.1, c.both.ensures, and_le_l c.args.set c.party_bits-gone.result),
   ap (λ (x : ℕ). pick (take c.args.n c.args.table) (c.args.set - x)) c.both.ensures
       ∙ shown_bits c.args.who (take c.args.n c.args.table) _ (rw c.other.ensures at c.party_bits-gone.ensures) c.args.set,
 )

@@ -2,7 +2,7 @@
 use Prim.Native.Nat.{ℕ, ◌+◌, ◌-◌, ◌≤◌}
 use mathlib.Core.Path.{◌≡◌}
 use mathlib.Core.List.{List, []}
-use lib.ListN.{length, get_or, set}
+use lib.ListN.{length, get_or}
 use Rattle.laws.proofs.Lists.{stored}
 use Rattle.styles.specs.declared.Mark.{Mark}
 use Rattle.tank.specs.declared.Tank.{Tank}
@@ -13,8 +13,8 @@ use Rattle.tanks.specs.Pool.{no_run, lens_in}
 use Rattle.tanks.proofs.LaidLaws.{laid}
 use Rattle.tanks.proofs.Put.{run_of, run_from}
 use Rattle.tanks.proofs.WriteLaws.{part, lowest, Beyond, Inside}
-use Rattle.tanks.proofs.PartsLaws.{
-use Rattle.tanks.proofs.WithinLaws.{
+use Rattle.tanks.proofs.PartsLaws.{outlined}
+use Rattle.tanks.proofs.WithinLaws.{Walked}
 use Rattle.tanks.proofs.edit_parts.Given as goal
 
 -- the tank that is made, by what the second loop knows of it
@@ -32,8 +32,8 @@ abbrev pub invariant-loop-i : goal.invariant-loop-i
 invariant-loop-i l =
     (l.i ≤ l.n)
     × (l.at + l.n ≤ 512)
-    × (l.lens ≡ stored (λ l.k. (get_or l.pool (l.at + l.k) no_run).len) l.initial.lens l.i)
-    × (l.sets ≡ stored (λ l.k. (get_or l.pool (l.at + l.k) no_run).set) l.initial.sets l.i)
+    × (l.lens ≡ stored (λ k. (get_or l.pool (l.at + k) no_run).len) l.initial.lens l.i)
+    × (l.sets ≡ stored (λ k. (get_or l.pool (l.at + k) no_run).set) l.initial.sets l.i)
     × (length l.lens ≡ 514)
     × (length l.sets ≡ 514)
 

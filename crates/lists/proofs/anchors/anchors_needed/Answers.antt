@@ -1,4 +1,3 @@
-use Prim.Native.Nat.{◌-◌}
 use native.Mathlib.Omega.{arith}
 use Rattle.lists.proofs.CursorLaws.{tallied_first, tallied_next, tallied_end}
 use Rattle.lists.proofs.anchors.anchors_needed.Goals as goal

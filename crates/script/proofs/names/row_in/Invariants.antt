@@ -8,7 +8,7 @@ use Rattle.script.specs.Reading.{op_from, op_named}
 use Rattle.script.proofs.names.row_in.Given as goal
 
 -- those from the i-th on give what all do
-pub left : ℕ → List ℕ → Type 0
+unfoldable pub left : ℕ → List ℕ → Type 0
 left i t = op_from i (drop i op_rows) t ≡ op_named t
 
 abbrev pub invariant-loop-i : goal.invariant-loop-i

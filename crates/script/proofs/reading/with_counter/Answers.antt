@@ -1,4 +1,5 @@
 -- A bad line changes nothing; what is read goes into the call.
+use borrow.Author.Rules.{rules}
 use Rattle.script.proofs.CounterLaws.{same_moved}
 use Rattle.script.proofs.reading.with_counter.Goals as goal
 
@@ -6,4 +7,4 @@ pub returns-in_default : goal.returns-in_default
 returns-in_default c = rw c.in_default.is c.bad.ensures
 
 pub returns : goal.returns
-returns c = rw c.in-Number.is (same_moved _ _ _ _ _ _ _ (record { sfits = c.known_told-1.given.0.1 }) c.moved.ensures)
+returns c = rw c.in-Number.is (same_moved _ _ _ _ _ _ _ (record { sfits = search rules }) c.moved.ensures)

@@ -1,4 +1,5 @@
 -- Four lines, one behind the other.
+use borrow.Author.Rules.{rules}
 use mathlib.Core.Path.{ap}
 use native.Mathlib.Omega.{arith}
 use mir.Syntax.{w32}
@@ -13,6 +14,6 @@ pub returns : goal.returns
 returns c =
     let key = puts_as (ap (field_text (bytes "key=")) c.wide16.ensures) c.put_field-a.ensures in
     let lamport = puts_as (ap (field_text (bytes "lamport=")) c.wide32.ensures) c.put_field-b.ensures in
-    let fits : SFits w32 c.args.m.cnt = record { sfits = c.struct_told-1.given.1.1.1.0.1 } in
+    let fits : SFits w32 c.args.m.cnt = record { sfits = search rules } in
     let counter = puts_as (ap counter_text (to_z-of_z fits)) c.put_counter.ensures in
     puts_then (omega arith) (puts_then (omega arith) (puts_then (omega arith) key lamport) c.put_field-c.ensures) counter

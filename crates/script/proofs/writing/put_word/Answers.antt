@@ -1,4 +1,5 @@
 -- By the kind.
+use borrow.Author.Rules.{rules}
 use mathlib.Core.Path.{sym, ap, ◌∙◌}
 use native.Mathlib.Omega.{arith}
 use mir.Syntax.{w64}
@@ -18,7 +19,7 @@ returns-in-Flag c = puts_as (sym (ap value_word c.in-Flag.is)) c.put_flag.ensure
 
 pub returns-in-Whole : goal.returns-in-Whole
 returns-in-Whole c =
-    let f : SFits w64 c.in-Whole.z = record { sfits = c.known_told-in-Whole-1.given.0.1 } in
+    let f : SFits w64 c.in-Whole.z = record { sfits = search rules } in
     puts_as (ap signed_text (to_z-of_z f) ∙ sym (ap value_word c.in-Whole.is)) (puts_few c.put_integer.ensures)
 
 pub returns-in-Decimal : goal.returns-in-Decimal

@@ -1,9 +1,7 @@
 -- `Tank::annotate` meets its contract: each test by its number, and the mark laid where the table has it, or has been given it.
 use mathlib.Core.Path.{sym, ◌∙◌}
-use Rattle.tank.proofs.AnnotateLaws.{
+use Rattle.tank.proofs.AnnotateLaws.{refused_3, refused_4, refused_own, refused_7, refused_8, can_lay, known_done, can_admit, can_lay_new, new_done, none_own}
 use Rattle.tank.proofs.Tank.annotate.Goals as goal
-
-}
 
 pub returns-then-end-start : goal.returns-then-end-start
 returns-then-end-start c = refused_3 c.requires c.args.start c.args.end c.args.mark c.if-end-start.true

@@ -1,31 +1,52 @@
 -- `Tank::remove_style_scanning_backward` meets its contract: an identity that the table has not is nowhere; else its bit's stretch is its stretch.
-use mathlib.Core.Path.{sym, ◌∙◌}
+use mathlib.Core.Path.{sym, ap, ◌∙◌}
+use native.Mathlib.Omega.{arith}
 use borrow.Author.Tests.{not-true, not-false}
-use Rattle.tank.proofs.RemoveLaws.{remove_4, remove_none, can_scan, can_strip, still_touched, remove_done}
+use Rattle.styles.specs.declared.Place.{Place}
+use Rattle.tank.proofs.LayLaws.{bit_is}
+use Rattle.tank.proofs.RemoveLaws.{remove_4, remove_none, place_inside, can_scan, can_strip, still_touched, remove_done}
 use Rattle.tank.proofs.Tank.remove_style_scanning_backward.Goals as goal
 
 pub returns-then-self-last : goal.returns-then-self-last
-returns-then-self-last c = remove_4 c.requires c.args.id c.args.last c.if-self-last.true
+returns-then-self-last c =
+    let made = remove_4 c.requires c.args.id c.args.last c.if-self-last.true in
+    record { called = made.0; first_value = made.1 }
 
 pub returns-then-not-place : goal.returns-then-not-place
-returns-then-not-place c = remove_none c.requires c.args.id c.args.last c.if-self-last.false (sym (there-is c) ∙ not-true _ c.if-not-place.true)
+returns-then-not-place c =
+    let made = remove_none c.requires c.args.id c.args.last c.if-self-last.false (sym (ap (λ (p : Place). p.there) c.placed-place.ensures) ∙ not-true _ c.if-not-place.true) in
+    record { called = made.0; first_value = made.1 }
 
 pub back-first-requires : goal.back-first-requires
-back-first-requires c = can_scan c.requires c.args.id c.args.last c.if-self-last.false _ (at-is c) (sym (there-is c) ∙ not-false _ c.if-not-place.false)
+back-first-requires c =
+    let at = ap (λ (p : Place). p.at) c.placed-place.ensures in
+    let there = sym (ap (λ (p : Place). p.there) c.placed-place.ensures) ∙ not-false _ c.if-not-place.false in
+    can_scan c.requires c.args.id c.args.last c.if-self-last.false _ at there
 
 pub strip-requires : goal.strip-requires
 strip-requires c =
-    can_strip c.requires c.args.id c.args.last c.if-self-last.false _ (at-is c) (sym (there-is c) ∙ not-false _ c.if-not-place.false) _
-    (rw (bit_is c) at c.back-first.ensures)
+    let at = ap (λ (p : Place). p.at) c.placed-place.ensures in
+    let there = sym (ap (λ (p : Place). p.there) c.placed-place.ensures) ∙ not-false _ c.if-not-place.false in
+    let few = c.requires.formed.laid.few in
+    let bit = bit_is c.placed-place.result.at (omega (arith, place_inside c.requires c.args.id c.args.last c.if-self-last.false _ at there)) c.with_bit-bit.ensures in
+    let from = rw bit at c.back-first.ensures in
+    can_strip c.requires c.args.id c.args.last c.if-self-last.false _ at there _ from
 
 pub trim-requires : goal.trim-requires
-trim-requires c = (
-  c.strip.ensures.0,
-  still_touched c.requires c.args.id c.args.last c.if-self-last.false _ (at-is c) (sym (there-is c) ∙ not-false _ c.if-not-place.false) _
-      (rw (bit_is c) at c.back-first.ensures) c.strip.ensures,
-)
+trim-requires c =
+    let at = ap (λ (p : Place). p.at) c.placed-place.ensures in
+    let there = sym (ap (λ (p : Place). p.there) c.placed-place.ensures) ∙ not-false _ c.if-not-place.false in
+    let few = c.requires.formed.laid.few in
+    let bit = bit_is c.placed-place.result.at (omega (arith, place_inside c.requires c.args.id c.args.last c.if-self-last.false _ at there)) c.with_bit-bit.ensures in
+    let from = rw bit at c.back-first.ensures in
+    (c.strip.ensures.0, still_touched c.requires c.args.id c.args.last c.if-self-last.false _ at there _ from c.strip.ensures)
 
 pub returns : goal.returns
 returns c =
-    remove_done c.requires c.args.id c.args.last c.if-self-last.false _ (at-is c) (sym (there-is c) ∙ not-false _ c.if-not-place.false) _
-    (rw (bit_is c) at c.back-first.ensures) c.strip.ensures c.trim.ensures
+    let at = ap (λ (p : Place). p.at) c.placed-place.ensures in
+    let there = sym (ap (λ (p : Place). p.there) c.placed-place.ensures) ∙ not-false _ c.if-not-place.false in
+    let few = c.requires.formed.laid.few in
+    let bit = bit_is c.placed-place.result.at (omega (arith, place_inside c.requires c.args.id c.args.last c.if-self-last.false _ at there)) c.with_bit-bit.ensures in
+    let from = rw bit at c.back-first.ensures in
+    let made = remove_done c.requires c.args.id c.args.last c.if-self-last.false _ at there _ from c.strip.ensures c.trim.ensures in
+    record { called = made.0; first_value = made.1 }

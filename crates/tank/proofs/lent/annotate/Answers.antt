@@ -7,11 +7,9 @@ use Rattle.runs.proofs.Copies.{adding}
 use Rattle.tank.proofs.AdmitLaws.{can_open, admit_done}
 use Rattle.tank.proofs.AlterLaws.{alter_can}
 use Rattle.tank.proofs.LayLaws.{lay_done}
-use Rattle.tank.proofs.AnnotateLaws.{
+use Rattle.tank.proofs.AnnotateLaws.{refused_3, refused_4, refused_own, refused_7, refused_8, can_lay, known_done, can_admit, can_lay_new, new_done, none_own}
 use Rattle.tank.proofs.LentLaws.{kept_leaves, plain_leaves}
 use Rattle.tank.proofs.lent.annotate.Goals as goal
-
-}
 
 pub returns-then-end-start : goal.returns-then-end-start
 returns-then-end-start c = kept_leaves {h = c.args.h} c.kept.ensures (refused_3 c.requires.sound c.args.start c.args.end c.args.mark c.if-end-start.true) refl refl
@@ -67,7 +65,7 @@ returns-in-Known c =
     let l = c.lay in
     plain_leaves refl refl
     (known_done c.requires.sound c.args.start c.args.end c.args.mark c.if-end-start.false c.if-h-end.false (none_own c.args.mark _ c.mark_number-own.ensures c.if-own-gt0.false) _ (sym c.room_for-room.ensures ∙ c.in-Known.is)
-    (lay_done c.args.start c.args.end _ k _ _ _ l.ensures.0 (spare_behind c.requires.blank l.ensures.1) (l.auto.0 ∙ c.requires.olens_514) (l.auto.1.0 ∙ c.requires.osets_514)))
+    (lay_done c.args.start c.args.end _ k _ _ _ l.ensures.joined (spare_behind c.requires.blank l.ensures.same_behind) (l.auto.olens ∙ c.requires.olens_514) (l.auto.osets ∙ c.requires.osets_514)))
     tt refl refl
 
 pub returns-in-New : goal.returns-in-New
@@ -78,5 +76,5 @@ returns-in-New c =
     let l = c.lay-in-New in
     plain_leaves refl refl
     (new_done c.requires.sound c.args.start c.args.end c.args.mark c.if-end-start.false c.if-h-end.false (none_own c.args.mark _ c.mark_number-own.ensures c.if-own-gt0.false) _ (sym c.room_for-room.ensures ∙ c.in-New.is) a
-    (lay_done c.args.start c.args.end _ k _ _ _ l.ensures.0 (spare_behind c.requires.blank l.ensures.1) (l.auto.0 ∙ c.requires.olens_514) (l.auto.1.0 ∙ c.requires.osets_514)))
+    (lay_done c.args.start c.args.end _ k _ _ _ l.ensures.joined (spare_behind c.requires.blank l.ensures.same_behind) (l.auto.olens ∙ c.requires.olens_514) (l.auto.osets ∙ c.requires.osets_514)))
     tt refl refl

@@ -26,15 +26,15 @@ delete-n-requires c = (c.requires.sound.formed.laid.canon, cut_can c.args.start 
 pub trim-requires : goal.trim-requires
 trim-requires c =
     let l = c.delete-n in
-    let d = cut_done c.args.start c.args.end (can_cut c.requires.sound c.args.who (sym c.is_lab.ensures ∙ c.if-is_lab.false) c.args.start c.args.end c.if-end-start.false c.if-h-end.false (not-false _ c.if-not-h.false)) _ _ _ l.ensures.0 (spare_behind c.requires.blank l.ensures.1) (l.auto.0 ∙ c.requires.olens_514) (l.auto.1.0 ∙ c.requires.osets_514) in
+    let d = cut_done c.args.start c.args.end (can_cut c.requires.sound c.args.who (sym c.is_lab.ensures ∙ c.if-is_lab.false) c.args.start c.args.end c.if-end-start.false c.if-h-end.false (not-false _ c.if-not-h.false)) _ _ _ l.ensures.joined (spare_behind c.requires.blank l.ensures.same_behind) (l.auto.olens ∙ c.requires.olens_514) (l.auto.osets ∙ c.requires.osets_514) in
     let a = d.0.most in
-    let c = d.0.sets_514 in
+    let b = d.0.sets_514 in
     omega arith
 
 pub returns : goal.returns
 returns c =
     let l = c.delete-n in
-    let d = cut_done c.args.start c.args.end (can_cut c.requires.sound c.args.who (sym c.is_lab.ensures ∙ c.if-is_lab.false) c.args.start c.args.end c.if-end-start.false c.if-h-end.false (not-false _ c.if-not-h.false)) _ _ _ l.ensures.0 (spare_behind c.requires.blank l.ensures.1) (l.auto.0 ∙ c.requires.olens_514) (l.auto.1.0 ∙ c.requires.osets_514) in
+    let d = cut_done c.args.start c.args.end (can_cut c.requires.sound c.args.who (sym c.is_lab.ensures ∙ c.if-is_lab.false) c.args.start c.args.end c.if-end-start.false c.if-h-end.false (not-false _ c.if-not-h.false)) _ _ _ l.ensures.joined (spare_behind c.requires.blank l.ensures.same_behind) (l.auto.olens ∙ c.requires.olens_514) (l.auto.osets ∙ c.requires.osets_514) in
     let q = c.trim.ensures _ _ d.0 refl in
     plain_leaves q.number_is q.changed_is
     (delete_done c.requires.sound c.args.who (sym c.is_lab.ensures ∙ c.if-is_lab.false) c.args.start c.args.end c.if-end-start.false c.if-h-end.false (not-false _ c.if-not-h.false) d q.trimmed)

@@ -49,5 +49,5 @@ returns c =
     let a = c.shown_bits-shown.ensures in
     let q =
     insert_done c.requires.sound c.args.who (sym c.is_lab.ensures ∙ c.if-is_lab.false) c.args.pos c.args.len c.if-len-eq0.false c.if-h-pos.false (not-false _ c.if-not-h.false) c.if-h-len.false _ c.common_at-set.ensures
-    (ap styles_of a.1) (grow_done c.args.pos c.args.len _ (can_grow c.requires.sound c.args.who (sym c.is_lab.ensures ∙ c.if-is_lab.false) c.args.pos c.args.len c.if-len-eq0.false c.if-h-pos.false (not-false _ c.if-not-h.false) c.if-h-len.false _ c.common_at-set.ensures) _ _ _ l.ensures.0 (spare_behind c.requires.blank l.ensures.1) (l.auto.0 ∙ c.requires.olens_514) (l.auto.1.0 ∙ c.requires.osets_514)) in
+    (ap styles_of a.1) (grow_done c.args.pos c.args.len _ (can_grow c.requires.sound c.args.who (sym c.is_lab.ensures ∙ c.if-is_lab.false) c.args.pos c.args.len c.if-len-eq0.false c.if-h-pos.false (not-false _ c.if-not-h.false) c.if-h-len.false _ c.common_at-set.ensures) _ _ _ l.ensures.joined (spare_behind c.requires.blank l.ensures.same_behind) (l.auto.olens ∙ c.requires.olens_514) (l.auto.osets ∙ c.requires.osets_514)) in
     made_leaves refl refl q.0 tt a.0 q.1 refl

@@ -1,12 +1,13 @@
 -- `lent::remove` meets its contract: an identity that the table has not is nowhere; else its bit's stretch is its stretch.
-use mathlib.Core.Path.{◌≡◌, refl, sym, ◌∙◌}
+use mathlib.Core.Path.{refl, sym, ap, ◌∙◌}
 use native.Mathlib.Omega.{arith}
 use borrow.Author.Tests.{not-true, not-false}
+use Rattle.styles.specs.declared.Place.{Place}
 use Rattle.styles.specs.Bits.{with_bit}
-use Rattle.styles.proofs.BitLaws.{with_bit_fits}
 use Rattle.runs.specs.Runs.{changing}
 use Rattle.runs.proofs.BehindLaws.{spare_behind}
 use Rattle.tank.proofs.AlterLaws.{alter_can}
+use Rattle.tank.proofs.LayLaws.{bit_is}
 use Rattle.tank.proofs.StripLaws.{strip_done}
 use Rattle.tank.proofs.RemoveLaws.{remove_4, remove_none, place_inside, can_scan, can_strip, still_touched, remove_done}
 use Rattle.tank.proofs.LentLaws.{kept_leaves, plain_leaves}
@@ -19,47 +20,54 @@ returns-then-h-last c =
 
 pub returns-then-not-place : goal.returns-then-not-place
 returns-then-not-place c =
-    let q = remove_none c.requires.sound c.args.id c.args.last c.if-h-last.false (sym (there-is c) ∙ not-true _ c.if-not-place.true) in
+    let q = remove_none c.requires.sound c.args.id c.args.last c.if-h-last.false (sym (ap (λ (p : Place). p.there) c.placed-place.ensures) ∙ not-true _ c.if-not-place.true) in
     kept_leaves {h = c.args.h} c.kept-then-not-place.ensures q.0 refl q.1
 
 pub back-first-requires : goal.back-first-requires
-back-first-requires c = can_scan c.requires.sound c.args.id c.args.last c.if-h-last.false _ (at-is c) (sym (there-is c) ∙ not-false _ c.if-not-place.false)
+back-first-requires c =
+    let at = ap (λ (p : Place). p.at) c.placed-place.ensures in
+    let there = sym (ap (λ (p : Place). p.there) c.placed-place.ensures) ∙ not-false _ c.if-not-place.false in
+    can_scan c.requires.sound c.args.id c.args.last c.if-h-last.false _ at there
 
 pub alter-n-requires : goal.alter-n-requires
 alter-n-requires c =
-    rw ((let h : c.with_bit-bit.result ≡ with_bit c.placed-place.result.at 0 = let few = c.requires.sound.formed.laid.few in
-    c.with_bit-bit.ensures
-    ∙ with_bit_fits c.placed-place.result.at 0 (omega (arith, place_inside c.requires.sound c.args.id c.args.last c.if-h-last.false _ (at-is c) (sym (there-is c) ∙ not-false _ c.if-not-place.false))) (omega arith) in h)) (
+    let at = ap (λ (p : Place). p.at) c.placed-place.ensures in
+    let there = sym (ap (λ (p : Place). p.there) c.placed-place.ensures) ∙ not-false _ c.if-not-place.false in
+    let few = c.requires.sound.formed.laid.few in
+    let bit = bit_is c.placed-place.result.at (omega (arith, place_inside c.requires.sound c.args.id c.args.last c.if-h-last.false _ at there)) c.with_bit-bit.ensures in
+    let from = rw bit at c.back-first.ensures in
+    let can = can_strip c.requires.sound c.args.id c.args.last c.if-h-last.false _ at there _ from in
+    rw bit (
       c.requires.sound.formed.laid.canon,
-      alter_can (can_strip c.requires.sound c.args.id c.args.last c.if-h-last.false _ (at-is c) (sym (there-is c) ∙ not-false _ c.if-not-place.false) _ (rw ((let h : c.with_bit-bit.result ≡ with_bit c.placed-place.result.at 0 = let few = c.requires.sound.formed.laid.few in
-          c.with_bit-bit.ensures
-          ∙ with_bit_fits c.placed-place.result.at 0 (omega (arith, place_inside c.requires.sound c.args.id c.args.last c.if-h-last.false _ (at-is c) (sym (there-is c) ∙ not-false _ c.if-not-place.false))) (omega arith) in h)) at c.back-first.ensures)).range (changing 0 (with_bit c.placed-place.result.at 0)) _ _ c.requires.olens_514 c.requires.osets_514,
+      alter_can can.range (changing 0 (with_bit c.placed-place.result.at 0)) _ _ c.requires.olens_514 c.requires.osets_514,
     )
 
 pub trim-requires : goal.trim-requires
 trim-requires c =
+    let at = ap (λ (p : Place). p.at) c.placed-place.ensures in
+    let there = sym (ap (λ (p : Place). p.there) c.placed-place.ensures) ∙ not-false _ c.if-not-place.false in
+    let few = c.requires.sound.formed.laid.few in
+    let bit = bit_is c.placed-place.result.at (omega (arith, place_inside c.requires.sound c.args.id c.args.last c.if-h-last.false _ at there)) c.with_bit-bit.ensures in
+    let from = rw bit at c.back-first.ensures in
+    let can = can_strip c.requires.sound c.args.id c.args.last c.if-h-last.false _ at there _ from in
     let l = c.alter-n in
-    let d = strip_done _ _ _ (can_strip c.requires.sound c.args.id c.args.last c.if-h-last.false _ (at-is c) (sym (there-is c) ∙ not-false _ c.if-not-place.false) _ (rw ((let h : c.with_bit-bit.result ≡ with_bit c.placed-place.result.at 0 = let few = c.requires.sound.formed.laid.few in
-    c.with_bit-bit.ensures
-    ∙ with_bit_fits c.placed-place.result.at 0 (omega (arith, place_inside c.requires.sound c.args.id c.args.last c.if-h-last.false _ (at-is c) (sym (there-is c) ∙ not-false _ c.if-not-place.false))) (omega arith) in h)) at c.back-first.ensures)) _ _ _ (rw ((let h : c.with_bit-bit.result ≡ with_bit c.placed-place.result.at 0 = let few = c.requires.sound.formed.laid.few in
-    c.with_bit-bit.ensures
-    ∙ with_bit_fits c.placed-place.result.at 0 (omega (arith, place_inside c.requires.sound c.args.id c.args.last c.if-h-last.false _ (at-is c) (sym (there-is c) ∙ not-false _ c.if-not-place.false))) (omega arith) in h)) at l.ensures.0) (spare_behind c.requires.blank l.ensures.1) (l.auto.0 ∙ c.requires.olens_514) (l.auto.1.0 ∙ c.requires.osets_514) in
+    let d =
+    strip_done _ _ _ can _ _ _ (rw bit at l.ensures.joined) (spare_behind c.requires.blank l.ensures.same_behind) (l.auto.olens ∙ c.requires.olens_514) (l.auto.osets ∙ c.requires.osets_514) in
     let a = d.0.most in
     let b = d.0.sets_514 in
     omega arith
 
 pub returns : goal.returns
 returns c =
+    let at = ap (λ (p : Place). p.at) c.placed-place.ensures in
+    let there = sym (ap (λ (p : Place). p.there) c.placed-place.ensures) ∙ not-false _ c.if-not-place.false in
+    let few = c.requires.sound.formed.laid.few in
+    let bit = bit_is c.placed-place.result.at (omega (arith, place_inside c.requires.sound c.args.id c.args.last c.if-h-last.false _ at there)) c.with_bit-bit.ensures in
+    let from = rw bit at c.back-first.ensures in
+    let can = can_strip c.requires.sound c.args.id c.args.last c.if-h-last.false _ at there _ from in
     let l = c.alter-n in
-    let d = strip_done _ _ _ (can_strip c.requires.sound c.args.id c.args.last c.if-h-last.false _ (at-is c) (sym (there-is c) ∙ not-false _ c.if-not-place.false) _ (rw ((let h : c.with_bit-bit.result ≡ with_bit c.placed-place.result.at 0 = let few = c.requires.sound.formed.laid.few in
-    c.with_bit-bit.ensures
-    ∙ with_bit_fits c.placed-place.result.at 0 (omega (arith, place_inside c.requires.sound c.args.id c.args.last c.if-h-last.false _ (at-is c) (sym (there-is c) ∙ not-false _ c.if-not-place.false))) (omega arith) in h)) at c.back-first.ensures)) _ _ _ (rw ((let h : c.with_bit-bit.result ≡ with_bit c.placed-place.result.at 0 = let few = c.requires.sound.formed.laid.few in
-    c.with_bit-bit.ensures
-    ∙ with_bit_fits c.placed-place.result.at 0 (omega (arith, place_inside c.requires.sound c.args.id c.args.last c.if-h-last.false _ (at-is c) (sym (there-is c) ∙ not-false _ c.if-not-place.false))) (omega arith) in h)) at l.ensures.0) (spare_behind c.requires.blank l.ensures.1) (l.auto.0 ∙ c.requires.olens_514) (l.auto.1.0 ∙ c.requires.osets_514) in
-    let q = c.trim.ensures _ _ d.0 (still_touched c.requires.sound c.args.id c.args.last c.if-h-last.false _ (at-is c) (sym (there-is c) ∙ not-false _ c.if-not-place.false) _ (rw ((let h : c.with_bit-bit.result ≡ with_bit c.placed-place.result.at 0 = let few = c.requires.sound.formed.laid.few in
-    c.with_bit-bit.ensures
-    ∙ with_bit_fits c.placed-place.result.at 0 (omega (arith, place_inside c.requires.sound c.args.id c.args.last c.if-h-last.false _ (at-is c) (sym (there-is c) ∙ not-false _ c.if-not-place.false))) (omega arith) in h)) at c.back-first.ensures) d) in
-    let made = remove_done c.requires.sound c.args.id c.args.last c.if-h-last.false _ (at-is c) (sym (there-is c) ∙ not-false _ c.if-not-place.false) _ (rw ((let h : c.with_bit-bit.result ≡ with_bit c.placed-place.result.at 0 = let few = c.requires.sound.formed.laid.few in
-    c.with_bit-bit.ensures
-    ∙ with_bit_fits c.placed-place.result.at 0 (omega (arith, place_inside c.requires.sound c.args.id c.args.last c.if-h-last.false _ (at-is c) (sym (there-is c) ∙ not-false _ c.if-not-place.false))) (omega arith) in h)) at c.back-first.ensures) d q.trimmed in
+    let d =
+    strip_done _ _ _ can _ _ _ (rw bit at l.ensures.joined) (spare_behind c.requires.blank l.ensures.same_behind) (l.auto.olens ∙ c.requires.olens_514) (l.auto.osets ∙ c.requires.osets_514) in
+    let q = c.trim.ensures _ _ d.0 (still_touched c.requires.sound c.args.id c.args.last c.if-h-last.false _ at there _ from d) in
+    let made = remove_done c.requires.sound c.args.id c.args.last c.if-h-last.false _ at there _ from d q.trimmed in
     plain_leaves q.number_is q.changed_is made.0 q.table_fits q.shown_is (q.first_is ∙ made.1)

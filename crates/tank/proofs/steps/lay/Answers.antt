@@ -1,17 +1,25 @@
 -- `steps::lay` meets its contract: the run edit adds the mark's bit on the range, and the mark's bit is the mark.
 use mathlib.Core.Path.{refl}
+use native.Mathlib.Omega.{arith}
 use Rattle.styles.specs.Bits.{with_bit}
 use Rattle.runs.proofs.BehindLaws.{spare_behind}
 use Rattle.tank.proofs.Shape.{all_spare}
 use Rattle.tank.proofs.AlterLaws.{alter_can}
 use Rattle.runs.proofs.Copies.{adding}
-use Rattle.tank.proofs.LayLaws.{lay_done}
+use Rattle.tank.proofs.LayLaws.{bit_is, lay_done}
 use Rattle.tank.proofs.steps.lay.Goals as goal
 
 pub alter-n-requires : goal.alter-n-requires
-alter-n-requires c = rw (bit_is c) (alter_can c.requires.range (adding (with_bit c.args.i 0)) _ _ refl refl)
+alter-n-requires c =
+    let there = c.requires.there in
+    let few = c.requires.range.laid.few in
+    rw (bit_is c.args.i (omega arith) c.with_bit-bit.ensures)
+    (alter_can c.requires.range (adding (with_bit c.args.i 0)) _ _ refl refl)
 
 pub returns : goal.returns
 returns c =
-    lay_done c.args.start c.args.end c.args.i c.requires _ _ _ (rw (bit_is c) at c.alter-n.ensures.joined)
+    let there = c.requires.there in
+    let few = c.requires.range.laid.few in
+    lay_done c.args.start c.args.end c.args.i c.requires _ _ _
+    (rw (bit_is c.args.i (omega arith) c.with_bit-bit.ensures) at c.alter-n.ensures.joined)
     (spare_behind (all_spare 514) c.alter-n.ensures.same_behind) c.alter-n.auto.olens c.alter-n.auto.osets

@@ -1,20 +1,19 @@
 use native.Mathlib.Omega.{arith}
-use Prim.Native.Nat.{ℕ, ◌-◌}
+use Prim.Native.Nat.{ℕ}
 use mathlib.Core.Path.{◌≡◌, refl, sym, ap, ◌∙◌}
 use Rattle.tank.specs.declared.Tank.{Tank}
-use Rattle.tank.specs.Rules.{first_refusal}
 use Rattle.tank.specs.State as state
 use Rattle.tank.proofs.Unique.{runs_held_lem}
 use Rattle.tanks.specs.declared.Tanks.{Tanks}
 use Rattle.tanks.specs.Settings.{judgement}
 use Rattle.tanks.specs.House.{held}
-use Rattle.tanks.specs.Pool.{runs_in, meaning, Sound}
+use Rattle.tanks.specs.Pool.{meaning, Sound}
 use Rattle.tanks.specs.Promises.{PutAt}
 use Rattle.tanks.proofs.LaidLaws.{laid}
 use Rattle.tanks.proofs.Put.{run_from}
 use Rattle.tanks.proofs.SettingLaws.{sound_held, sound_judged}
 use Rattle.tanks.proofs.MeaningLaws.{Tail, tail_refused, tail_done, judged_is}
-use Rattle.tanks.proofs.WriteLaws.{with_pool, run_step, read_kept, part_all, run_own, run_behind, run_blank, Inside, inside, put_at_last}
+use Rattle.tanks.proofs.WriteLaws.{with_pool, run_step, read_kept, part_all, run_own, run_behind, run_blank, inside, put_at_last}
 use Rattle.tanks.proofs.Tanks.put.Goals as goal
 
 put_of : (s : Tanks) (t : ℕ) (x : Tank) (v : ℕ) (next : Tanks) → Sound s → state.Formed x → Tail s t 0 x v next → PutAt s t x v next
@@ -35,7 +34,9 @@ spots-s-requires c = (c.requires.1, c.requires.2.laid.most, sound_held c.args.se
 
 pub loop-k-init : goal.loop-k-init
 unfolding laid
-loop-k-init c = (omega arith, (let h : (let c = c.args in let r = c.spots_s.result in Inside c.x c.x.runs r.at r.from r.full r.count r.grows) = inside c.args.self c.args.t 0 c.args.x c.requires.0 c.requires.1 c.requires.2 ((let h : (let c = c.args in first_refusal 0 (judgement c.self.settings (runs_in c.self.heads) c.t c.x.runs) ≡ 0) = let z : c.verdict_number.result ≡ 0 = omega (arith, c.if_number_gt0.false) in sym c.verdict_number.ensures ∙ z in h)) _ c.spots_s.ensures in h), refl)
+loop-k-init c =
+    let z : c.verdict-number.result ≡ 0 = omega (arith, c.if-number-gt0.false) in
+    (omega arith, inside c.args.self c.args.t 0 c.args.x c.requires.0 c.requires.1 c.requires.2 (sym c.verdict-number.ensures ∙ z) _ c.spots-s.ensures, refl)
 
 pub loop-k-preserved-then-j-m : goal.loop-k-preserved-then-j-m
 loop-k-preserved-then-j-m c =
@@ -82,11 +83,13 @@ loop-k-preserved c =
 
 pub returns : goal.returns
 returns c =
-    let l = c.loop_k in
-    let q = c.spots_s.result in
+    let s = c.args.self in
+    let l = c.loop-k in
+    let q = c.spots-s.result in
     let x = c.args.x in
+    let z : c.verdict-number.result ≡ 0 = omega (arith, c.if-number-gt0.false) in
     let all : l.k ≡ q.count = omega arith in
-    let g : l.self ≡ with_pool c.args.self (laid c.args.self.pool q.at (run_from c.args.self.pool x q.from q.full) q.count) =
-    (rw all at l.invariant.2) ∙ ap (with_pool c.args.self) (part_all c.args.self.pool q.at _ q.grows q.count) in
-    rw (put_at_last c.args.self l.self c.args.t x q _ _ c.spots_s.ensures c.head_of.ensures c.table_in.ensures g)
-    (put_of c.args.self c.args.t x 0 _ c.requires.0 c.requires.2 (tail_done c.args.self c.args.t 0 x c.requires.0 c.requires.1 c.requires.2 ((let h : (let c = c.args in first_refusal 0 (judgement c.self.settings (runs_in c.self.heads) c.t c.x.runs) ≡ 0) = let z : c.verdict_number.result ≡ 0 = omega (arith, c.if_number_gt0.false) in sym c.verdict_number.ensures ∙ z in h))))
+    let g : l.self ≡ with_pool s (laid s.pool q.at (run_from s.pool x q.from q.full) q.count) =
+    (rw all at l.invariant.2) ∙ ap (with_pool s) (part_all s.pool q.at _ q.grows q.count) in
+    rw (put_at_last s l.self c.args.t x q _ _ c.spots-s.ensures c.head_of.ensures c.table_in.ensures g)
+    (put_of s c.args.t x 0 _ c.requires.0 c.requires.2 (tail_done s c.args.t 0 x c.requires.0 c.requires.1 c.requires.2 (sym c.verdict-number.ensures ∙ z)))

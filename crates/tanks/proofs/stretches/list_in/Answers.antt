@@ -76,22 +76,19 @@ write_part-requires c =
 pub shape_of-out : goal.shape_of-out
 shape_of-out c =
     let a = c.args in
-    kept (masked_list a.least a.from a.to a.own a.heads a.pool a.t) a.out.now c.write_part.new.out ((let h : let a = c.args in
-    (c.write_part.new.out ≡ in_front (masked_list a.least a.from a.to a.own a.heads a.pool a.t) a.out.now)
-    × (c.write_part.result ≡ length (masked_list a.least a.from a.to a.own a.heads a.pool a.t)) = let a = c.args in
     let v = c.loop-i.invariant in
-    let all = told_all c.requires.0 c.start-at.ensures a.own a.least a.from v.0 c.loop-i-test.false in (
-      closed c.requires.0 c.start-at.ensures a.own a.least a.from a.out.now c.requires.1 v.0 v.1 v.2 c.write_part.ensures.out_after ∙ ap (λ (xs : List ℕ). in_front xs a.out.now) all,
-      moved c.requires.0 c.start-at.ensures a.own a.least a.from a.out.now c.requires.1 v.0 v.1 v.2 c.write_part.ensures.value ∙ ap length all,
-    ) in h)).0 c.requires.1
+    let all = told_all c.requires.0 c.start-at.ensures a.own a.least a.from v.0 c.loop-i-test.false in
+    kept (masked_list a.least a.from a.to a.own a.heads a.pool a.t) a.out.now c.write_part.new.out
+    (closed c.requires.0 c.start-at.ensures a.own a.least a.from a.out.now c.requires.1 v.0 v.1 v.2 c.write_part.ensures.out_after ∙ ap (λ (xs : List ℕ). in_front xs a.out.now) all)
+    c.requires.1
 
+-- all of it is told
 pub returns : goal.returns
 returns c =
-    (let h : let a = c.args in
-    (c.write_part.new.out ≡ in_front (masked_list a.least a.from a.to a.own a.heads a.pool a.t) a.out.now)
-    × (c.write_part.result ≡ length (masked_list a.least a.from a.to a.own a.heads a.pool a.t)) = let a = c.args in
+    let a = c.args in
     let v = c.loop-i.invariant in
-    let all = told_all c.requires.0 c.start-at.ensures a.own a.least a.from v.0 c.loop-i-test.false in (
-      closed c.requires.0 c.start-at.ensures a.own a.least a.from a.out.now c.requires.1 v.0 v.1 v.2 c.write_part.ensures.out_after ∙ ap (λ (xs : List ℕ). in_front xs a.out.now) all,
-      moved c.requires.0 c.start-at.ensures a.own a.least a.from a.out.now c.requires.1 v.0 v.1 v.2 c.write_part.ensures.value ∙ ap length all,
-    ) in h)
+    let all = told_all c.requires.0 c.start-at.ensures a.own a.least a.from v.0 c.loop-i-test.false in
+    record {
+      out_after = closed c.requires.0 c.start-at.ensures a.own a.least a.from a.out.now c.requires.1 v.0 v.1 v.2 c.write_part.ensures.out_after ∙ ap (λ (xs : List ℕ). in_front xs a.out.now) all;
+      value = moved c.requires.0 c.start-at.ensures a.own a.least a.from a.out.now c.requires.1 v.0 v.1 v.2 c.write_part.ensures.value ∙ ap length all;
+    }

@@ -3,7 +3,7 @@ use native.Mathlib.Omega.{arith}
 use Rattle.tanks.proofs.within.choose.Goals as goal
 
 pub returns-then-fits : goal.returns-then-fits
-returns-then-fits c = λ h. (c.fits2.ensures c.if-fits.true, c.which.ensures)
+returns-then-fits c = λ h. (c.fits.ensures c.if-fits.true, c.which.ensures)
 
 pub returns : goal.returns
 returns c = λ h. absurd (omega arith)
