@@ -48,14 +48,14 @@ word_only l a e =
       held_split 61 l w.equals
           ∙ ap₂ (λ (s t : List ℕ). s ++ 61 ∷ t) (sym w.name_is) (decimal_only rest a.key n.0)
           ∙ sym (append_snoc a.name 61 (decimal_text a.key)),
-      record { key_most = n.1; is_name = w.good },
+      record { key_most = n.1; good_name = w.good },
     )
 
 -- and the line of a good name says it
 word_back : (a : Named) → Good a → name_line (word_of a) ≡ some a
 unfolding name_line
 word_back a g =
-    let s = name_sized a.name g.is_name in
+    let s = name_sized a.name g.good_name in
     let free : holds 61 a.name ≡ false = name_lacks 61 refl a.name s.all in
     let digits : List ℕ = decimal_text a.key in
     let low = g.key_most in
@@ -64,13 +64,13 @@ word_back a g =
     (rw (held_text 61 a.name digits free)
     (rw (front_text 61 a.name digits free)
     (rw (drop-append-add a.name (61 ∷ digits) 1)
-    (rw number (rw g.is_name)))))
+    (rw number (rw g.good_name)))))
 
 -- it has no newline in it
 word_free : (a : Named) → Good a → holds 10 (word_of a) ≡ false
 unfolding holds
 word_free a g =
-    let s = name_sized a.name g.is_name in
+    let s = name_sized a.name g.good_name in
     ap (holds 10) (append_snoc a.name 61 (decimal_text a.key))
     ∙ holds_append a.name (61 ∷ decimal_text a.key) (name_lacks 10 refl a.name s.all)
     ∙ held_past 10 61 (decimal_text a.key) (λ e. omega arith)

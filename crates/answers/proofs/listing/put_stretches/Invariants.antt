@@ -7,7 +7,7 @@ use Rattle.answers.specs.Replies.{stretches_say}
 use Rattle.answers.proofs.listing.put_stretches.Given as goal
 
 abbrev pub invariant-loop-i : goal.invariant-loop-i
-invariant-loop-i l = (l.i ≤ length l.initial.out) × (length l.out ≡ length out₀) × Left out₀ l.at (stretches_say l.initial.out) l.k l.out (stretches_say (drop l.i l.initial.out))
+invariant-loop-i l = (l.i ≤ length l.list) × (length l.out ≡ length l.initial.out) × Left l.initial.out l.initial.k (stretches_say l.list) l.k l.out (stretches_say (drop l.i l.list))
 
 abbrev pub decreases-loop-i : goal.decreases-loop-i
-decreases-loop-i l = length l.initial.out - l.i
+decreases-loop-i l = length l.list - l.i

@@ -1,8 +1,8 @@
-use Prim.Native.Nat.{ℕ, ◌-◌, min}
+use Prim.Native.Nat.{ℕ, min}
 use borrow.Author.Rules.{rules}
-use lib.ListN.{length, take, length-map}
+use lib.ListN.{length, take}
 use mathlib.Core.List.{map}
-use mathlib.Core.Path.{◌≡◌, sym, ap, ◌∙◌}
+use mathlib.Core.Path.{◌≡◌, ap}
 use native.Mathlib.Omega.{arith}
 use Rattle.answers.proofs.Laws.{no_piece, and_then, adds_as}
 use Rattle.answers.proofs.Loops.{marks_more}
@@ -24,7 +24,7 @@ returns-then-count-i c =
 pub loop-i-preserved : goal.loop-i-preserved
 loop-i-preserved c =
     let m = c.args.m in
-    let long : length m.marks ≡ 64 = sym (length-map m.marks _) ∙ (search rules) in
+    let long : length m.marks ≡ 64 = search rules in
     let w = c.loop-i in
     (search rules, search rules, search rules, adds_as (marks_more m.marks w.i (omega arith)) (and_then w.invariant.3 c.put_mark-k.ensures))
 

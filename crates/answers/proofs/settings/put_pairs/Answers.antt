@@ -1,4 +1,3 @@
-use Prim.Native.Nat.{◌-◌}
 use borrow.Author.Rules.{rules}
 use Rattle.answers.proofs.Laws.{left_all, left_more, left_none}
 use Rattle.answers.proofs.Loops.{pair_more, pair_none}

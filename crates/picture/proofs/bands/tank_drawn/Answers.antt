@@ -41,7 +41,7 @@ drawn_over-requires c =
     let e = c.wide-number.ensures in
     let h = c.requires.2 in
     let l = c.list_whole-listed.ensures in
-    (search rules, c.requires.1, c.take-t.ensures.sound, c.take-t.ensures.is ∙ ap (tank_at (meaning c.args.s)) (sym e), omega arith, listed_fits c.take-t.ensures.sound (replicate 1536 0) _ c.list_whole-listed.result (length-replicate {A = ℕ} 1536 0) l.0 l.1)
+    (search rules, c.requires.1, c.take-t.ensures.sound, c.take-t.ensures.is ∙ ap (tank_at (meaning c.args.s)) (sym e), omega arith, listed_fits c.take-t.ensures.sound (replicate 1536 0) _ c.list_whole-listed.result (length-replicate {A = ℕ} 1536 0) l.value l.out_after)
 
 pub returns : goal.returns
 unfolding tank_says meaning
@@ -52,4 +52,4 @@ returns c =
     let k = c.take-t.ensures in
     let l = c.list_whole-listed.ensures in
     let x = get_or a.s.settings a.tank no_setting in
-    and_then (adds_as (ap₂ (λ (v : View) (n : ℕ). beside_says v n x (96 + n * 92)) k.is e) c.beside-a.ensures) (adds_as (ap₂ (λ (n : ℕ) (q : List ℕ). drawn_says h a.keys a.hold n (96 + n * 92) q) e (listed_is k.sound (replicate 1536 0) _ c.list_whole-listed.result (length-replicate {A = ℕ} 1536 0) l.0 l.1 ∙ ap (λ (v : View). whole_list v) k.is)) c.drawn_over.ensures)
+    and_then (adds_as (ap₂ (λ (v : View) (n : ℕ). beside_says v n x (96 + n * 92)) k.is e) c.beside-a.ensures) (adds_as (ap₂ (λ (n : ℕ) (q : List ℕ). drawn_says h a.keys a.hold n (96 + n * 92) q) e (listed_is k.sound (replicate 1536 0) _ c.list_whole-listed.result (length-replicate {A = ℕ} 1536 0) l.value l.out_after ∙ ap (λ (v : View). whole_list v) k.is)) c.drawn_over.ensures)

@@ -13,7 +13,7 @@ use Rattle.picture.proofs.lanes.side.Goals as goal
 pub lanes_over-requires : goal.lanes_over-requires
 lanes_over-requires c =
     let e = c.list_whole-listed.ensures in
-    (search rules, c.requires.1, c.requires.2, c.requires.3, c.requires.4, listed_fits c.requires.1 (replicate 1536 0) _ c.list_whole-listed.result (length-replicate {A = ℕ} 1536 0) e.0 e.1)
+    (search rules, c.requires.1, c.requires.2, c.requires.3, c.requires.4, listed_fits c.requires.1 (replicate 1536 0) _ c.list_whole-listed.result (length-replicate {A = ℕ} 1536 0) e.value e.out_after)
 
 pub returns : goal.returns
 unfolding side_says
@@ -22,4 +22,4 @@ returns c =
     let v = view a.t in
     let rows = rows_of v a.keys a.band in
     let e = c.list_whole-listed.ensures in
-    and_then c.frame-a.ensures (adds_as (ap (λ (l : List ℕ). lanes_say v rows a.keys l ++ higher_says v rows (behind_last a.keys) l) (listed_is c.requires.1 (replicate 1536 0) _ c.list_whole-listed.result (length-replicate {A = ℕ} 1536 0) e.0 e.1)) c.lanes_over.ensures)
+    and_then c.frame-a.ensures (adds_as (ap (λ (l : List ℕ). lanes_say v rows a.keys l ++ higher_says v rows (behind_last a.keys) l) (listed_is c.requires.1 (replicate 1536 0) _ c.list_whole-listed.result (length-replicate {A = ℕ} 1536 0) e.value e.out_after)) c.lanes_over.ensures)
