@@ -66,7 +66,7 @@ module _ (h : House) (t : ℕ) (who : Party) (number : View → ℕ) (xs : View 
   asked_count = count_by (number (shown_at h who t)) (xs (shown_at h who t)) out r last (no_tank t) said.0 said.1
 
 -- ---- a list that its callee refuses where there is no such tank
--- what the walk of `iter_anchors` hears of its callee, and what it says
+-- what `iter_anchors` is told by its callee, and what it says
 abbrev pub Said-listed : Tank → ℕ → List Anchor → Listed → List Anchor → Type 0
 Said-listed x n ys = Handed (anchors_after n (length ys) (view x)) (anchors (view x)) ys
 

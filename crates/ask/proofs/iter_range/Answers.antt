@@ -7,7 +7,17 @@ use Rattle.ask.proofs.AskLaws.{asked_part, asked_count}
 use Rattle.ask.proofs.iter_range.Goals as goal
 
 pub slice_bounds-result-end : goal.slice_bounds-result-end
-slice_bounds-result-end c = asked_count (meaning c.args.s) c.args.tank c.args.who (λ v. range_number c.args.start c.args.end (length c.args.out.now) v) (range_list c.args.start c.args.end) c.args.out.now _ _ c.list_range-listed.ensures
+slice_bounds-result-end c =
+    let e = c.list_range-listed.ensures in
+    asked_count (meaning c.args.s) c.args.tank c.args.who (λ v. range_number c.args.start c.args.end (length c.args.out.now) v)
+    (range_list c.args.start c.args.end) c.args.out.now _ _ (e.value, e.out_after)
 
 pub returns : goal.returns
-returns c = record { result_value = asked_part (meaning c.args.s) c.args.tank c.args.who (λ v. range_number c.args.start c.args.end (length c.args.out.now) v) (range_list c.args.start c.args.end) c.args.out.now _ _ c.list_range-listed.ensures; ref_ptr_value = refl }
+returns c =
+    let e = c.list_range-listed.ensures in
+    record {
+      result_value =
+          asked_part (meaning c.args.s) c.args.tank c.args.who (λ v. range_number c.args.start c.args.end (length c.args.out.now) v)
+          (range_list c.args.start c.args.end) c.args.out.now _ _ (e.value, e.out_after);
+      ref_ptr_value = refl;
+    }

@@ -10,4 +10,8 @@ list_range-requires c = can_ask c.args.s c.args.tank c.place.result c.place.ensu
 pub returns : goal.returns
 returns c =
     let a = c.args in
-    listed_there a.s a.tank c.place.result c.place.ensures.0 a.who (range_number a.start a.end (length a.out.now)) (range_list a.start a.end) a.out.now c.list_range.ensures
+    let e = c.list_range.ensures in
+    let h =
+    listed_there a.s a.tank c.place.result c.place.ensures.0 a.who (range_number a.start a.end (length a.out.now)) (range_list a.start a.end)
+    a.out.now (e.value, e.out_after) in
+    record { value = h.0; out_after = h.1 }

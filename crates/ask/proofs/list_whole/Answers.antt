@@ -10,4 +10,8 @@ list_whole-requires c = can_ask c.args.s c.args.tank c.place.result c.place.ensu
 pub returns : goal.returns
 returns c =
     let a = c.args in
-    listed_there a.s a.tank c.place.result c.place.ensures.0 a.who (whole_number (length a.out.now)) whole_list a.out.now c.list_whole.ensures
+    let e = c.list_whole.ensures in
+    let h =
+    listed_there a.s a.tank c.place.result c.place.ensures.0 a.who (whole_number (length a.out.now)) whole_list a.out.now
+    (e.value, e.out_after) in
+    record { value = h.0; out_after = h.1 }

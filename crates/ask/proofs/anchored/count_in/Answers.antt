@@ -1,4 +1,3 @@
-use Prim.Native.Nat.{◌-◌}
 use native.Mathlib.Omega.{arith}
 use Rattle.tanks.proofs.LookLaws.{few_in}
 use Rattle.ask.proofs.Borders.{tally_begins, tally_on, tally_all}

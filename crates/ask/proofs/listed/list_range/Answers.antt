@@ -8,7 +8,10 @@ use Rattle.ask.proofs.listed.list_range.Goals as goal
 pub returns-then-tank-ge8 : goal.returns-then-tank-ge8
 returns-then-tank-ge8 c =
     let a = c.args in
-    list_none_there a.heads a.pool a.table a.tank a.who (range_number a.start a.end (length a.out.now)) (range_list a.start a.end) a.out.now c.if-tank-ge8.true c.no_list.ensures refl
+    let h =
+    list_none_there a.heads a.pool a.table a.tank a.who (range_number a.start a.end (length a.out.now)) (range_list a.start a.end) a.out.now
+    c.if-tank-ge8.true c.no_list.ensures refl in
+    record { value = h.0; out_after = h.1 }
 
 pub range_in-requires : goal.range_in-requires
 range_in-requires c = c.requires c.if-tank-ge8.false
@@ -16,4 +19,8 @@ range_in-requires c = c.requires c.if-tank-ge8.false
 pub returns : goal.returns
 returns c =
     let a = c.args in
-    list_one_there a.heads a.pool a.table a.tank a.who (range_number a.start a.end (length a.out.now)) (range_list a.start a.end) a.out.now c.if-tank-ge8.false c.range_in.ensures
+    let e = c.range_in.ensures in
+    let h =
+    list_one_there a.heads a.pool a.table a.tank a.who (range_number a.start a.end (length a.out.now)) (range_list a.start a.end) a.out.now
+    c.if-tank-ge8.false (e.value, e.out_after) in
+    record { value = h.0; out_after = h.1 }

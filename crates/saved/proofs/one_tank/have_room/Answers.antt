@@ -6,20 +6,25 @@ use lib.ListN.{take}
 use borrow.Author.Tests.{eq-eqb, ne_eqb}
 use Rattle.styles.specs.declared.Party.TheVariants.{Plant, Lab}
 use Rattle.styles.specs.Marks.{is_of}
-use Rattle.tank.specs.Rules.{marks_of, rules as needed}
+use Rattle.tank.specs.Rules.{marks_of, needs}
 use Rattle.tank.proofs.CrowdLaws.{mask_count}
 use Rattle.saved.specs.Saying.{roomy}
 use Rattle.saved.proofs.one_tank.have_room.Goals as goal
 
 pub returns-then-lab-eq0 : goal.returns-then-lab-eq0
 unfolding roomy
-returns-then-lab-eq0 c = let a = c.args in rw (eq-eqb (marks_of Lab (take a.n a.table)) 0 (sym ((let h : (let a = c.args in c.count-lab.result ≡ marks_of Lab (take a.n a.table)) = mask_count (is_of Lab) _ _ _ c.party_bits-2.ensures c.count-lab.ensures.0 in h)) ∙ c.if-lab-eq0.true))
+returns-then-lab-eq0 c =
+    let a = c.args in
+    let labs = mask_count (is_of Lab) _ _ _ c.party_bits-2.ensures c.count-lab.ensures.0 in
+    rw (eq-eqb (marks_of Lab (take a.n a.table)) 0 (sym labs ∙ c.if-lab-eq0.true))
 
 pub returns : goal.returns
-unfolding roomy needed
+unfolding roomy needs
 returns c =
     let a = c.args in
-    let p : c.larger.result ≡ max (marks_of Plant (take a.n a.table)) 32 = c.larger.ensures ∙ ap (λ (x : ℕ). max x 32) ((let h : (let a = c.args in c.count-plant.result ≡ marks_of Plant (take a.n a.table)) = mask_count (is_of Plant) _ _ _ c.party_bits.ensures c.count-plant.ensures.0 in h)) in
-    let q : c.larger-2.result ≡ max (marks_of Lab (take a.n a.table)) 16 = c.larger-2.ensures ∙ ap (λ (x : ℕ). max x 16) ((let h : (let a = c.args in c.count-lab.result ≡ marks_of Lab (take a.n a.table)) = mask_count (is_of Lab) _ _ _ c.party_bits-2.ensures c.count-lab.ensures.0 in h)) in
-    rw (ne_eqb (marks_of Lab (take a.n a.table)) 0 (λ e. c.if-lab-eq0.false ((let h : (let a = c.args in c.count-lab.result ≡ marks_of Lab (take a.n a.table)) = mask_count (is_of Lab) _ _ _ c.party_bits-2.ensures c.count-lab.ensures.0 in h) ∙ e)))
+    let plants = mask_count (is_of Plant) _ _ _ c.party_bits.ensures c.count-plant.ensures.0 in
+    let labs = mask_count (is_of Lab) _ _ _ c.party_bits-2.ensures c.count-lab.ensures.0 in
+    let p : c.larger.result ≡ max (marks_of Plant (take a.n a.table)) 32 = c.larger.ensures ∙ ap (λ (x : ℕ). max x 32) plants in
+    let q : c.larger-2.result ≡ max (marks_of Lab (take a.n a.table)) 16 = c.larger-2.ensures ∙ ap (λ (x : ℕ). max x 16) labs in
+    rw (ne_eqb (marks_of Lab (take a.n a.table)) 0 (λ e. c.if-lab-eq0.false (labs ∙ e)))
     (ap₂ (λ (x y : ℕ). leb (x + y) 64) p q)

@@ -17,19 +17,23 @@ returns-in_default c =
 pub digits-requires : goal.digits-requires
 digits-requires c =
     let a = c.args in
-    taken_inside (bytes "len=") (decimal_from 1 (2 ^ 64 - 1)) a.bytes.now a.from c.in-Number.len c.in-Number.next (sym ((let h : Taken.Number c.in-Number.len c.in-Number.next ≡ taken_by (bytes "len=") (decimal_from 1 (2 ^ 64 - 1)) c.args.bytes.now c.args.from = sym c.in-Number.is ∙ c.number.ensures in h)))
+    let length_known = sym c.in-Number.is ∙ c.number.ensures in
+    taken_inside (bytes "len=") (decimal_from 1 (2 ^ 64 - 1)) a.bytes.now a.from c.in-Number.len c.in-Number.next (sym length_known)
 
 pub returns-in_default-digits : goal.returns-in_default-digits
 returns-in_default-digits c =
     let a = c.args in
-    set_wrong (before_by a.first a.before) a.most a.bytes.now a.from a.n c.in-Number.len c.in-Number.next ((let h : Taken.Number c.in-Number.len c.in-Number.next ≡ taken_by (bytes "len=") (decimal_from 1 (2 ^ 64 - 1)) c.args.bytes.now c.args.from = sym c.in-Number.is ∙ c.number.ensures in h)) (sym c.in_default-digits.is ∙ c.digits.ensures)
+    let length_known = sym c.in-Number.is ∙ c.number.ensures in
+    set_wrong (before_by a.first a.before) a.most a.bytes.now a.from a.n c.in-Number.len c.in-Number.next length_known (sym c.in_default-digits.is ∙ c.digits.ensures)
 
 pub returns-then-other : goal.returns-then-other
 returns-then-other c =
     let a = c.args in
-    run_read (before_by a.first a.before) a.most a.bytes.now a.from a.n c.in-Number.len c.in-Number.next ((let h : Taken.Number c.in-Number.len c.in-Number.next ≡ taken_by (bytes "len=") (decimal_from 1 (2 ^ 64 - 1)) c.args.bytes.now c.args.from = sym c.in-Number.is ∙ c.number.ensures in h)) c.in-Number-digits.set c.in-Number-digits.last (sym c.in-Number-digits.is ∙ c.digits.ensures) (sym c.other.ensures ∙ c.if-other.true)
+    let length_known = sym c.in-Number.is ∙ c.number.ensures in
+    run_read (before_by a.first a.before) a.most a.bytes.now a.from a.n c.in-Number.len c.in-Number.next length_known c.in-Number-digits.set c.in-Number-digits.last (sym c.in-Number-digits.is ∙ c.digits.ensures) (sym c.other.ensures ∙ c.if-other.true)
 
 pub returns : goal.returns
 returns c =
     let a = c.args in
-    same_wrong (before_by a.first a.before) a.most a.bytes.now a.from a.n c.in-Number.len c.in-Number.next ((let h : Taken.Number c.in-Number.len c.in-Number.next ≡ taken_by (bytes "len=") (decimal_from 1 (2 ^ 64 - 1)) c.args.bytes.now c.args.from = sym c.in-Number.is ∙ c.number.ensures in h)) c.in-Number-digits.set c.in-Number-digits.last (sym c.in-Number-digits.is ∙ c.digits.ensures) (sym c.other.ensures ∙ c.if-other.false)
+    let length_known = sym c.in-Number.is ∙ c.number.ensures in
+    same_wrong (before_by a.first a.before) a.most a.bytes.now a.from a.n c.in-Number.len c.in-Number.next length_known c.in-Number-digits.set c.in-Number-digits.last (sym c.in-Number-digits.is ∙ c.digits.ensures) (sym c.other.ensures ∙ c.if-other.false)

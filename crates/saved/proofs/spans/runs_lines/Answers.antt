@@ -14,14 +14,16 @@ run_lines-r-requires c = (omega (arith, c.loop-j.invariant.few), c.loop-j.invari
 pub returns-in-Bad : goal.returns-in-Bad
 returns-in-Bad c =
     let a = c.args in
+    let run_is = rw c.wide.ensures at c.run_lines-r.ensures in
     rw c.wrong_runs.ensures
-    (run_wrong a.most a.bytes.now a.from a.n a.count c.loop-j.lens c.loop-j.sets c.loop-j.at c.loop-j.before c.loop-j.sum c.loop-j.all c.loop-j.j c.loop-j.invariant c.requires.1 c.loop-j-test.true c.in-Bad.line (rw c.in-Bad.is at ((let h : (let a = c.args in ReadsRun (before_by (eqb c.loop-j.j 0) c.loop-j.before) a.most a.bytes.now c.loop-j.at (a.n + 2 * c.loop-j.j) c.run_lines-r.result) = rw c.wide.ensures at c.run_lines-r.ensures in h))))
+    (run_wrong a.most a.bytes.now a.from a.n a.count c.loop-j.lens c.loop-j.sets c.loop-j.at c.loop-j.before c.loop-j.sum c.loop-j.all c.loop-j.j c.loop-j.invariant c.requires.1 c.loop-j-test.true c.in-Bad.line (rw c.in-Bad.is at run_is))
 
 pub loop-j-preserved : goal.loop-j-preserved
 loop-j-preserved c =
     let a = c.args in
+    let run_is = rw c.wide.ensures at c.run_lines-r.ensures in
     rw c.capped-sum.ensures
-    (run_more a.most a.bytes.now a.from a.n a.count c.loop-j.lens c.loop-j.sets c.loop-j.at c.loop-j.before c.loop-j.sum c.loop-j.all c.loop-j.j c.loop-j.invariant c.requires.1 c.loop-j-test.true c.in-Run.len c.in-Run.set c.in-Run.next (rw c.in-Run.is at ((let h : (let a = c.args in ReadsRun (before_by (eqb c.loop-j.j 0) c.loop-j.before) a.most a.bytes.now c.loop-j.at (a.n + 2 * c.loop-j.j) c.run_lines-r.result) = rw c.wide.ensures at c.run_lines-r.ensures in h))))
+    (run_more a.most a.bytes.now a.from a.n a.count c.loop-j.lens c.loop-j.sets c.loop-j.at c.loop-j.before c.loop-j.sum c.loop-j.all c.loop-j.j c.loop-j.invariant c.requires.1 c.loop-j-test.true c.in-Run.len c.in-Run.set c.in-Run.next (rw c.in-Run.is at run_is))
 
 pub returns : goal.returns
 returns c = let a = c.args in runs_done a.most a.bytes.now a.from a.n a.count c.loop-j.lens c.loop-j.sets c.loop-j.at c.loop-j.before c.loop-j.sum c.loop-j.all c.loop-j.j c.loop-j.invariant c.loop-j-test.false

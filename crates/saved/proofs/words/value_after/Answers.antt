@@ -1,7 +1,7 @@
 -- What stands behind the name is read; a line that does not begin with it is wrong.
 use mathlib.Core.Path.{sym, ap, ◌∙◌}
 use Rattle.text.specs.Bytes.{bytes}
-use Rattle.text.proofs.Prefix.{rest_part}
+use Rattle.text.proofs.Prefix.{rest_part, starts_length}
 use Rattle.text_lines.proofs.Laws.{named_here}
 use Rattle.script.specs.declared.ReadValue.{ReadValue}
 use Rattle.script.specs.Reading.{value_of}
@@ -9,6 +9,12 @@ use Rattle.saved.specs.Saying.{value_said}
 use Rattle.saved.specs.Reads.{value_at}
 use Rattle.saved.proofs.WordLaws.{value_way}
 use Rattle.saved.proofs.words.value_after.Goals as goal
+
+pub slice_bounds-value_of-count : goal.slice_bounds-value_of-count
+slice_bounds-value_of-count c = starts_length _ (bytes "value=") (sym c.starts.ensures ∙ c.if-starts.true)
+
+pub slice_bounds-value_of-start : goal.slice_bounds-value_of-start
+slice_bounds-value_of-start c = starts_length _ (bytes "value=") (sym c.starts.ensures ∙ c.if-starts.true)
 
 pub returns-then-starts : goal.returns-then-starts
 returns-then-starts c =

@@ -12,4 +12,4 @@ pub returns : goal.returns
 unfolding meaning saved_text house_text
 returns c =
     let l = c.lay_tanks.ensures in
-    record { lays = lays_more (omega arith) (lays_then (lays_then c.lay_number-a.ensures c.lay_pairs-b.ensures) l.0); fits_house = l.1 }
+    record { lays = lays_more (omega arith) (lays_then (lays_then c.lay_number-a.ensures c.lay_pairs-b.ensures) l.lays); fits_house = l.fits_house }

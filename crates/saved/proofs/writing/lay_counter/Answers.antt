@@ -9,12 +9,12 @@ use Rattle.saved.proofs.Laying.{lays_more, lays_as, front_put}
 use Rattle.saved.proofs.writing.lay_counter.Goals as goal
 
 pub slice_bounds-lay-end : goal.slice_bounds-lay-end
-slice_bounds-lay-end c = let p = c.put_counter-k in sym (length-take-le _ _ (omega (arith, p.ensures.few, p.auto.0)))
+slice_bounds-lay-end c = let p = c.put_counter-k in sym (length-take-le _ _ (omega (arith, p.ensures.few, p.auto.out)))
 
 pub lay-requires : goal.lay-requires
-lay-requires c = let p = c.put_counter-k in omega (arith, p.ensures.few, length-take p.result p.new.0)
+lay-requires c = let p = c.put_counter-k in omega (arith, p.ensures.few, length-take p.result p.new.out)
 
 pub returns : goal.returns
 returns c =
     let p = c.put_counter-k in
-    lays_as (front_put p.ensures ∙ ap counter_text (to_z-of_z c.ranges.cnt)) (lays_more (omega (arith, p.ensures.few, length-take p.result p.new.0)) c.lay.ensures)
+    lays_as (front_put p.ensures ∙ ap counter_text (to_z-of_z c.ranges.cnt)) (lays_more (omega (arith, p.ensures.few, length-take p.result p.new.out)) c.lay.ensures)

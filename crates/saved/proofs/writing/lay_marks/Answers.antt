@@ -22,8 +22,8 @@ loop-j-preserved c =
     let l = c.lay_mark-k.ensures in (
       omega arith,
       search rules,
-      lays_more (omega arith) (lays_as (marks_more newest a.table w.j (omega arith)) (lays_then w.invariant.2 l.0)),
-      fits_more a.table w.j (omega arith) w.invariant.3 l.1,
+      lays_more (omega arith) (lays_as (marks_more newest a.table w.j (omega arith)) (lays_then w.invariant.2 l.lays)),
+      fits_more a.table w.j (omega arith) w.invariant.3 l.fits_mark,
     )
 
 pub returns : goal.returns

@@ -1,6 +1,5 @@
 -- The digits are made apart, and laid behind the name.
 use native.Mathlib.Omega.{arith}
-use Prim.Native.Nat.{◌≤◌}
 use mathlib.Core.Path.{◌≡◌, ap, ◌∙◌}
 use lib.ListN.{length, take}
 use Rattle.text.specs.Number.{decimal_text}
@@ -10,9 +9,13 @@ use Rattle.saved.proofs.Laying.{lays_more, lays_as}
 use Rattle.saved.proofs.writing.lay_number.Goals as goal
 
 pub lay_word-requires : goal.lay_word-requires
-lay_word-requires c = omega (arith, ap length ((let h : take c.decimal-k.result c.decimal-k.new.out ≡ decimal_text c.args.n = c.decimal-k.ensures.len.1 ∙ digits_decimal _ _ c.ranges.n.fits c.decimal-k.ensures.len.0 in h)), (let h : length (decimal_text c.args.n) ≤ 20 = length_decimal _ c.ranges.n.fits in h))
+lay_word-requires c =
+    let made : take c.decimal-k.result c.decimal-k.new.out ≡ decimal_text c.args.n = c.decimal-k.ensures.digits ∙ digits_decimal _ _ c.ranges.n.fits c.decimal-k.ensures.len in
+    let few = length_decimal _ c.ranges.n.fits in
+    omega (arith, ap length made)
 
 pub returns : goal.returns
 returns c =
-    let a = c.args in
-    lays_as (ap (word_text a.name.now) ((let h : take c.decimal-k.result c.decimal-k.new.out ≡ decimal_text c.args.n = c.decimal-k.ensures.len.1 ∙ digits_decimal _ _ c.ranges.n.fits c.decimal-k.ensures.len.0 in h))) (lays_more (omega (arith, ap length ((let h : take c.decimal-k.result c.decimal-k.new.out ≡ decimal_text c.args.n = c.decimal-k.ensures.len.1 ∙ digits_decimal _ _ c.ranges.n.fits c.decimal-k.ensures.len.0 in h)), (let h : length (decimal_text c.args.n) ≤ 20 = length_decimal _ c.ranges.n.fits in h))) c.lay_word.ensures)
+    let made : take c.decimal-k.result c.decimal-k.new.out ≡ decimal_text c.args.n = c.decimal-k.ensures.digits ∙ digits_decimal _ _ c.ranges.n.fits c.decimal-k.ensures.len in
+    let few = length_decimal _ c.ranges.n.fits in
+    lays_as (ap (word_text c.args.name.now) made) (lays_more (omega (arith, ap length made)) c.lay_word.ensures)

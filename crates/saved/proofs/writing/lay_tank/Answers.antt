@@ -22,6 +22,6 @@ returns c =
     let head = lays_as (ap (head_text c.args.t x.touched x.length) (sym (table_length f.laid))) c.lay_head-a.ensures in
     let count = lays_as (ap (number_text (bytes "runs=")) (c.wide.ensures ∙ sym (length_runs x.lens x.sets x.runs))) c.lay_number-c.ensures in record {
       lays = lays_as (tank_stored newest c.args.t f)
-          (lays_more (omega (arith, f.laid.few, f.laid.most)) (lays_then (lays_then (lays_then head marks.0) count) c.lay_runs.ensures));
-      fits_marks = subst FitsMarks (sym (carried_is f)) marks.1;
+          (lays_more (omega (arith, f.laid.few, f.laid.most)) (lays_then (lays_then (lays_then head marks.lays) count) c.lay_runs.ensures));
+      fits_marks = subst FitsMarks (sym (carried_is f)) marks.fits_marks;
     }

@@ -30,8 +30,8 @@ loop-t-preserved c =
     let text = tanks_more newest (meaning s).tanks w.t (view x.result) (omega (arith, tanks_eight s)) x.ensures.is in (
       omega arith,
       search rules,
-      lays_more (omega arith) (lays_as text (lays_then w.invariant.2 l.0)),
-      below_more (λ (u : ℕ). FitsMarks (carried (tank_at (meaning s) u))) w.t w.invariant.3 (subst (λ (v : View). FitsMarks (carried v)) x.ensures.is l.1),
+      lays_more (omega arith) (lays_as text (lays_then w.invariant.2 l.lays)),
+      below_more (λ (u : ℕ). FitsMarks (carried (tank_at (meaning s) u))) w.t w.invariant.3 (subst (λ (v : View). FitsMarks (carried v)) x.ensures.is l.fits_marks),
     )
 
 pub returns : goal.returns

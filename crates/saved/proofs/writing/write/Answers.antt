@@ -16,7 +16,7 @@ returns-then-short c =
     let a = c.args in
     let t = written (meaning a.s) in
     let h = handed_short 0 t a.out.now refl (ltb-true (length a.out.now) (length t) (sym c.short.ensures ∙ c.if-short.true)) in
-    (h.0, (h.1, λ e. absurd (omega (arith, e))))
+    record { value = h.0; out_after = h.1; said_again = λ e. absurd (omega (arith, e)) }
 
 pub returns : goal.returns
 returns c =
@@ -24,5 +24,5 @@ returns c =
     let l = c.lay_all-count.ensures in
     let t = written (meaning a.s) in
     let room : length t ≤ length a.out.now = ltb-false (length a.out.now) (length t) (sym c.short.ensures ∙ c.if-short.false) in
-    let h = handed_full 0 t t a.out.now c.lay_all-count.new.out c.lay_all-count.result refl refl room (l.0.text ∙ laid_front a.out.now t room) (omega (arith, l.0.place)) in
-    (h.0, (h.1, λ e. written_back a.s c.requires l.1))
+    let h = handed_full 0 t t a.out.now c.lay_all-count.new.out c.lay_all-count.result refl refl room (l.lays.text ∙ laid_front a.out.now t room) (omega (arith, l.lays.place)) in
+    record { value = h.0; out_after = h.1; said_again = λ e. written_back a.s c.requires l.fits_house }
