@@ -28,5 +28,6 @@ fn main() {
     let u = c.tanks;
     let mut out = io::large_buffer();
     let k = clerk::whole(u, Party::Plant, 0, 1536, &mut out, 0);
-    script::emit(&out, k);
+    let mut good = true;
+    script::hand_over(&out, k, &mut good);
 }

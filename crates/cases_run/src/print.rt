@@ -1,15 +1,14 @@
 // Answers as text.
-use libc::STDOUT_FILENO;
 use questions::{Shown, Told};
 use styles::{Mark, Styles, Value};
 use tank::Tank;
 
 pub(crate) fn say(text: &[u8]) {
-    io::write_all(STDOUT_FILENO, text);
+    io::write_all(1, text);
 }
 
 pub(crate) fn say_number(n: u64) {
-    io::print_decimal(STDOUT_FILENO, n);
+    io::print_decimal(1, n);
 }
 
 // " accepted", or the refusal's number.

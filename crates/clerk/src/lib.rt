@@ -29,6 +29,8 @@ pub use listing::whole;
 use night::Plan;
 use script::{Both, Call, Change, Desk, Ending, Event, Inlet, Listing, Op, Question, Reader, Text};
 use settings_text::Kept;
+use std::io::Read;
+use std::rt::Stdin;
 use strip::legend::Legend;
 use styles::Party;
 use tanks::{Edit, Head, Run, Setting, Table, Tanks};
@@ -465,23 +467,38 @@ pub fn closed(s: Tanks, stand: Stand, body: &[u8], out: &mut [u8]) -> Eaten
     }
 }
 
-// One read from standard input.
-fn turn(s: Tanks, stand: Stand, body: &mut [u8], out: &mut [u8]) -> Eaten
+// Reads what has come on standard input, as much as there is room for, and waits where nothing has; answers how many bytes that were. At the end of
+// the input there are none, and so where it can't be read, or where answers were lost.
+pub fn heard(input: Stdin, good: bool, buf: &mut [u8]) -> usize
+    ensures { result ≤ length buf.new }
+{
+    if !good {
+        return 0;
+    }
+    let mut from = input;
+    match from.read(buf) {
+        Ok(n) => n,
+        Err(_) => 0,
+    }
+}
+
+// One read from standard input; the end of it where answers were lost.
+fn turn(input: Stdin, good: bool, s: Tanks, stand: Stand, body: &mut [u8], out: &mut [u8]) -> Eaten
     requires sound { (Sound s) × Settled stand.side × Fits stand.inlet body.old × (stand.over ≡ false) }
     requires most_body_in_bounds { (most_body ≤ length body.old) × (piece_room ≤ length out.old) }
     ensures { Reads s stand body.old out.old result body.new out.new }
 {
     let mut buf = io::large_buffer();
-    let got = libc::read(0, &mut buf);
-    let n = io::count(got, &buf);
+    let n = heard(input, good, &mut buf);
     if n == 0 {
         return closed(s, stand, body, out);
     }
     eat(&buf[..n], s, stand, body, out)
 }
 
-// All of the input: the count of turns is one that no run uses up. The answers to what was read are written before more is read.
-fn all(s: Tanks, first: Inlet, kept: Side, body: &mut [u8], out: &mut [u8]) -> Eaten
+// All of the input: the count of turns is one that no run uses up. The answers to what was read are written before more is read; where they
+// can't be, no more is read, and the run ends.
+fn all(input: Stdin, s: Tanks, first: Inlet, kept: Side, body: &mut [u8], out: &mut [u8]) -> Eaten
     requires sound { (Sound s) × Settled kept × Fits first body.old }
     requires most_body_in_bounds { (most_body ≤ length body.old) × (piece_room ≤ length out.old) }
     ensures { Runs s first kept body.old out.old result body.new out.new }
@@ -489,13 +506,14 @@ fn all(s: Tanks, first: Inlet, kept: Side, body: &mut [u8], out: &mut [u8]) -> E
     let mut tanks = s;
     let mut inlet = first;
     let mut side = kept;
+    let mut good = true;
     let mut turns: u64 = 18446744073709551615;
     while turns > 0 {
-        let e = turn(tanks, fresh(inlet, side), body, out);
+        let e = turn(input, good, tanks, fresh(inlet, side), body, out);
         let next = e.tanks;
         tanks = next;
         let after = e.stand;
-        script::emit(out, after.at);
+        script::hand_over(out, after.at, &mut good);
         let more = after.inlet;
         inlet = more;
         let keeps = after.side;
@@ -517,12 +535,19 @@ pub fn body_room() -> [u8; 131072]
 
 // Reads calls from standard input to its end, and writes their answers to standard output; answers where that led. Before
 // the first `open` the state is that of eight pairs (1, 1), and nothing is kept beside it.
-pub fn run() -> Eaten
+pub fn run(input: Stdin) -> Eaten
     ensures { RunsWhole result }
 {
     let mut body = body_room();
     let mut out = io::large_buffer();
     let o = tanks::open([Setting { share: 1, limit: 1 }; 8]);
     let s = o.tanks;
-    all(s, script::begin_inlet(), empty(), &mut body, &mut out)
+    all(
+        input,
+        s,
+        script::begin_inlet(),
+        empty(),
+        &mut body,
+        &mut out,
+    )
 }

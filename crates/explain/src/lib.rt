@@ -18,6 +18,7 @@ ghost use Rattle.explain.specs.Told.{tells_from};
 
 use clerk::{Eaten, Side, Stand};
 use script::{Inlet, Reader};
+use std::rt::Stdin;
 use tanks::{Setting, Tanks};
 use told::put_told;
 
@@ -55,16 +56,15 @@ struct Spot {
     to: usize,
 }
 
-// Reads where none is left to be taken; at the end of the input there are none then.
-fn filled(buf: &mut [u8], from: usize, to: usize) -> Rest
+// Reads where none is left to be taken; at the end of the input there are none then, nor where answers were lost.
+fn filled(input: Stdin, good: bool, buf: &mut [u8], from: usize, to: usize) -> Rest
     requires { to ≤ length buf.old }
     ensures { (result.from ≤ result.to) × (result.to ≤ length buf.new) }
 {
     if from < to {
         return Rest { from: from, to: to };
     }
-    let got = libc::read(0, buf);
-    let n = io::count(got, buf);
+    let n = clerk::heard(input, good, buf);
     Rest { from: 0, to: n }
 }
 
@@ -95,11 +95,11 @@ fn body_end(rest: Rest, left: usize) -> usize
 }
 
 // The next line, or what is left of a body, as far as it has been read; none at the end of the input.
-fn next_part(buf: &mut [u8], from: usize, to: usize, left: usize) -> Spot
+fn next_part(input: Stdin, good: bool, buf: &mut [u8], from: usize, to: usize, left: usize) -> Spot
     requires { to ≤ length buf.old }
     ensures { (result.from ≤ result.end) × (result.end ≤ result.to) × (result.to ≤ length buf.new) }
 {
-    let rest = filled(buf, from, to);
+    let rest = filled(input, good, buf, from, to);
     let end = part_end(buf, rest, left);
     Spot {
         from: rest.from,
@@ -142,8 +142,8 @@ fn tell(said: &mut [u8], before: Reader, bytes: &[u8], answer: &[u8])
 }
 
 // Writes an answer out, and then what is told of it.
-fn hand_out(before: Reader, bytes: &[u8], out: &[u8], at: usize) {
-    let n = script::emit(out, at);
+fn hand_out(before: Reader, bytes: &[u8], out: &[u8], at: usize, good: &mut bool) {
+    let n = script::hand_over(out, at, good);
     let mut said = [0u8; 256];
     tell(&mut said, before, bytes, &out[..n]);
 }
@@ -160,7 +160,14 @@ fn taken(bytes: &[u8], s: Tanks, stand: Stand, body: &mut [u8], out: &mut [u8]) 
     clerk::eat(bytes, s, stand, body, out)
 }
 
-fn turn(bytes: &[u8], s: Tanks, stand: Stand, body: &mut [u8], out: &mut [u8]) -> Eaten
+fn turn(
+    bytes: &[u8],
+    s: Tanks,
+    stand: Stand,
+    body: &mut [u8],
+    out: &mut [u8],
+    good: &mut bool,
+) -> Eaten
     requires sound { (Sound s) × Settled stand.side × Fits stand.inlet body.old × (stand.over ≡ false) }
     requires most_body_in_bounds { (most_body ≤ length body.old) × (piece_room ≤ length out.old) }
     ensures { Reads s stand body.old out.old result body.new out.new }
@@ -169,22 +176,38 @@ fn turn(bytes: &[u8], s: Tanks, stand: Stand, body: &mut [u8], out: &mut [u8]) -
     let before = told_from(inlet);
     let e = taken(bytes, s, stand, body, out);
     let after = e.stand;
-    hand_out(before, bytes, out, after.at);
+    hand_out(before, bytes, out, after.at, good);
     e
 }
 
-fn turn_at(buf: &[u8], spot: Spot, s: Tanks, stand: Stand, body: &mut [u8], out: &mut [u8]) -> Eaten
+fn turn_at(
+    buf: &[u8],
+    spot: Spot,
+    s: Tanks,
+    stand: Stand,
+    body: &mut [u8],
+    out: &mut [u8],
+    good: &mut bool,
+) -> Eaten
     requires sound { (Sound s) × Settled stand.side × Fits stand.inlet body.old × (stand.over ≡ false) }
     requires most_body_in_bounds { (most_body ≤ length body.old) × (piece_room ≤ length out.old) × (spot.from ≤ spot.end) × (spot.end ≤ length buf.now) }
     ensures { Reads s stand body.old out.old result body.new out.new }
 {
     let start = spot.from;
     let end = spot.end;
-    turn(&buf[start..end], s, stand, body, out)
+    turn(&buf[start..end], s, stand, body, out, good)
 }
 
 // All of the input, a line or a body to a turn: the clerk's run, with its reads cut at the ends of lines and bodies.
-fn all(s: Tanks, first: Inlet, kept: Side, buf: &mut [u8], body: &mut [u8], out: &mut [u8]) -> Eaten
+fn all(
+    input: Stdin,
+    s: Tanks,
+    first: Inlet,
+    kept: Side,
+    buf: &mut [u8],
+    body: &mut [u8],
+    out: &mut [u8],
+) -> Eaten
     requires sound { (Sound s) × Settled kept × Fits first body.old }
     requires most_body_in_bounds { (most_body ≤ length body.old) × (piece_room ≤ length out.old) }
     ensures { Runs s first kept body.old out.old result body.new out.new }
@@ -194,10 +217,12 @@ fn all(s: Tanks, first: Inlet, kept: Side, buf: &mut [u8], body: &mut [u8], out:
     let mut side = kept;
     let mut from = 0;
     let mut to = 0;
+    let mut good = true;
     let mut turns: u64 = 18446744073709551615;
     while turns > 0 {
-        let spot = next_part(buf, from, to, inlet.left);
-        let e = turn_at(buf, spot, tanks, clerk::fresh(inlet, side), body, out);
+        let spot = next_part(input, good, buf, from, to, inlet.left);
+        let stand = clerk::fresh(inlet, side);
+        let e = turn_at(buf, spot, tanks, stand, body, out, &mut good);
         let next = e.tanks;
         tanks = next;
         let after = e.stand;
@@ -217,7 +242,7 @@ fn all(s: Tanks, first: Inlet, kept: Side, buf: &mut [u8], body: &mut [u8], out:
 
 // Reads calls from standard input to its end, and writes their answers to standard output, as the clerk does; beside them it tells on standard
 // error why a call was refused and what is wrong with a line. Answers where that led.
-pub fn run() -> Eaten
+pub fn run(input: Stdin) -> Eaten
     ensures { RunsWhole result }
 {
     let mut body = clerk::body_room();
@@ -226,6 +251,7 @@ pub fn run() -> Eaten
     let o = tanks::open([Setting { share: 1, limit: 1 }; 8]);
     let s = o.tanks;
     all(
+        input,
         s,
         script::begin_inlet(),
         clerk::empty(),

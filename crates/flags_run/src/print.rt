@@ -1,15 +1,14 @@
 // The answers as text.
 use config::{Got, GotFlag};
-use libc::STDOUT_FILENO;
 use richtext::{ExpandType, NamedType, TextStyleInfoFlag};
 
 pub(crate) fn say(text: &[u8]) {
-    io::write_all(STDOUT_FILENO, text);
+    io::write_all(1, text);
 }
 
 // A byte, in two hexadecimal digits.
 pub(crate) fn say_byte(byte: u8) {
-    io::print_hex(STDOUT_FILENO, byte as u64, 2);
+    io::print_hex(1, byte as u64, 2);
 }
 
 pub(crate) fn say_flag(flag: TextStyleInfoFlag) {
@@ -17,7 +16,7 @@ pub(crate) fn say_flag(flag: TextStyleInfoFlag) {
 }
 
 pub(crate) fn say_number(n: u64) {
-    io::print_decimal(STDOUT_FILENO, n);
+    io::print_decimal(1, n);
 }
 
 pub(crate) fn say_yes(yes: bool) {

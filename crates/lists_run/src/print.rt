@@ -1,12 +1,11 @@
 // Words and numbers, one after another.
-use libc::STDOUT_FILENO;
 
 pub(crate) fn say(text: &[u8]) {
-    io::write_all(STDOUT_FILENO, text);
+    io::write_all(1, text);
 }
 
 pub(crate) fn say_number(n: u64) {
-    io::print_decimal(STDOUT_FILENO, n);
+    io::print_decimal(1, n);
 }
 
 pub(crate) fn say_labelled(label: &[u8], n: u64) {

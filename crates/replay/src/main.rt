@@ -1,6 +1,6 @@
 // Runs a fixed list of calls, whose answers are known: see oracle/SAMPLE.md.
 #![tactic(auto)]
 
-fn main() {
-    clerk::run();
+fn main(rt: HostRuntime) {
+    clerk::run(rt.stdin());
 }

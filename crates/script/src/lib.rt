@@ -20,7 +20,9 @@ pub use lines::{begin, cut_line, empty_line, ended, feed, kept, kept_read, line_
 pub use names::{field_name, is_name, kind_name, op_name};
 pub use reading::{idle, kind_named, read_line, value_of, value_start};
 use styles::Value;
-pub use writing::{emit, flushed, put_counter, put_field, put_line, put_mark, put_name, put_value};
+pub use writing::{
+    emit, flushed, hand_over, put_counter, put_field, put_line, put_mark, put_name, put_value,
+};
 
 // Ops that change the tanks.
 #[derive(Clone, Copy)]

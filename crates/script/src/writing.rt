@@ -1,5 +1,5 @@
 // Answers put line by line into a buffer, and written out where its room runs short.
-ghost use Rattle.std.specs.Prelude.{◌≡◌, ◌+◌, ◌≤◌, min, length};
+ghost use Rattle.std.specs.Prelude.{◌≡◌, false, ◌+◌, ◌≤◌, min, length};
 ghost use Rattle.script.specs.Writing.{Puts, free_at, line_text, field_text, kind_of, value_word, value_text, counter_text, origin_text, mark_text};
 ghost use Rattle.text.specs.Bytes.{bytes};
 ghost use Rattle.script.specs.Grammar.{kind_name, spelled_of};
@@ -130,25 +130,38 @@ pub fn put_mark(out: &mut [u8], at: usize, m: Mark) -> usize
 }
 
 // Hands bytes to standard output. Where they can't be written, as on a full device or a pipe that nobody reads, there is no use in going
-// on: standard input is closed, so that the next read gives nothing and the run ends, and a word stands on standard error. A later
-// write that fails finds standard input closed, and is silent.
-fn write_out(bytes: &[u8]) {
+// on: `good` is false then, so that the run ends, and a word stands on standard error. A later write that fails finds it false, and is silent.
+fn write_out(bytes: &[u8], good: &mut bool)
+    ensures { good.old ≡ false → good.new ≡ false }
+{
     if io::write_all(1, bytes) {
         return;
     }
-    if libc::close(0) == 0 {
+    if *good {
         io::write_all(2, b"standard output can't be written: the run ends here\n");
     }
+    *good = false;
 }
 
 // Writes the front of a buffer out, up to a place, or up to its end where the place is past it; answers how many bytes
-// that were. Nothing of them waits then, whether or not they could be written: what could not is lost, and the run ends.
+// that were. Nothing of them waits then, whether or not they could be written: what could not is lost, and whoever called this ends the run
+// where `good` is false.
+pub fn hand_over(out: &[u8], at: usize, good: &mut bool) -> usize
+    ensures count { result ≡ min at (length out.now) }
+    ensures lost { good.old ≡ false → good.new ≡ false }
+{
+    let n = least(at, out.len());
+    write_out(&out[..n], good);
+    n
+}
+
+// The same where nobody looks whether they could be written: a device that is full stays full, and a pipe that nobody reads stays so, so that
+// what is handed over at the end of a turn says it of all.
 pub fn emit(out: &[u8], at: usize) -> usize
     ensures { result ≡ min at (length out.now) }
 {
-    let n = least(at, out.len());
-    write_out(&out[..n]);
-    n
+    let mut good = false;
+    hand_over(out, at, &mut good)
 }
 
 // A place with so much room behind it. Where there is less, what waits in front is written out. A buffer of more than 65,536 bytes is held: it

@@ -5,6 +5,8 @@
 ghost use Rattle.std.specs.Prelude.{◌+◌, ◌≤◌, ◌<◌, length};
 
 use script::{Call, Ending, Event, Fed, Holds, Name, Reader};
+use std::io::Read;
+use std::rt::Stdin;
 
 // Where the run stands: the reader, how much of the output waits, and whether the run is over.
 #[derive(Clone, Copy)]
@@ -137,13 +139,23 @@ fn eat(bytes: &[u8], s: State, out: &mut [u8]) -> State
     now
 }
 
+// Reads what has come on standard input; nothing at its end, and where it can't be read.
+fn heard(input: Stdin, buf: &mut [u8]) -> usize
+    ensures { result ≤ length buf.new }
+{
+    let mut from = input;
+    match from.read(buf) {
+        Ok(n) => n,
+        Err(_) => 0,
+    }
+}
+
 // One read; at the end of the input the run is over.
-fn turn(s: State, out: &mut [u8]) -> State
+fn turn(input: Stdin, s: State, out: &mut [u8]) -> State
     requires { 64 ≤ length out.old }
 {
     let mut buf = io::large_buffer();
-    let got = libc::read(0, &mut buf);
-    let n = io::count(got, &buf);
+    let n = heard(input, &mut buf);
     if n == 0 {
         return closed(s, out);
     }
@@ -174,13 +186,13 @@ fn closed(s: State, out: &mut [u8]) -> State
 }
 
 // All of the input: the count of turns is one that no run uses up.
-fn all(s: State, out: &mut [u8]) -> State
+fn all(input: Stdin, s: State, out: &mut [u8]) -> State
     requires { 64 ≤ length out.old }
 {
     let mut now = s;
     let mut turns: u64 = 18446744073709551615;
     while turns > 0 {
-        now = turn(now, out);
+        now = turn(input, now, out);
         if now.over {
             return now;
         }
@@ -189,7 +201,7 @@ fn all(s: State, out: &mut [u8]) -> State
     now
 }
 
-fn main() {
+fn main(rt: HostRuntime) {
     let mut out = io::large_buffer();
     let r = script::begin();
     let s = State {
@@ -197,6 +209,7 @@ fn main() {
         at: 0,
         over: false,
     };
-    let last = all(s, &mut out);
-    script::emit(&out, last.at);
+    let last = all(rt.stdin(), s, &mut out);
+    let mut good = true;
+    script::hand_over(&out, last.at, &mut good);
 }
