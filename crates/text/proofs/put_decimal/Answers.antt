@@ -9,9 +9,14 @@ use Rattle.text.proofs.Laws.{digits_decimal, length_decimal}
 use Rattle.text.proofs.put_decimal.Goals as goal
 
 pub put-requires : goal.put-requires
-put-requires c = omega (arith, ap length ((let h : take c.decimal-k.result c.decimal-k.new.out ≡ decimal_text c.args.n = c.decimal-k.ensures.len.1 ∙ digits_decimal _ _ c.ranges.n.fits c.decimal-k.ensures.len.0 in h)), (let h : length (decimal_text c.args.n) ≤ 20 = length_decimal _ c.ranges.n.fits in h))
+put-requires c =
+    let written : take c.decimal-k.result c.decimal-k.new.out ≡ decimal_text c.args.n = c.decimal-k.ensures.digits ∙ digits_decimal _ _ c.ranges.n.fits c.decimal-k.ensures.len in
+    let few = length_decimal _ c.ranges.n.fits in
+    omega (arith, ap length written)
 
 pub returns : goal.returns
 returns c =
-    let e = (let h : take c.decimal-k.result c.decimal-k.new.out ≡ decimal_text c.args.n = c.decimal-k.ensures.len.1 ∙ digits_decimal _ _ c.ranges.n.fits c.decimal-k.ensures.len.0 in h) in
-    (c.put.ensures.0 ∙ ap (λ (s : List ℕ). c.args.at + length s) e, omega (arith, ap length e, (let h : length (decimal_text c.args.n) ≤ 20 = length_decimal _ c.ranges.n.fits in h), c.put.ensures.0), c.put.ensures.1 ∙ ap (λ (s : List ℕ). put_of c.args.out.now c.args.at s) e)
+    let written : take c.decimal-k.result c.decimal-k.new.out ≡ decimal_text c.args.n = c.decimal-k.ensures.digits ∙ digits_decimal _ _ c.ranges.n.fits c.decimal-k.ensures.len in
+    let few = length_decimal _ c.ranges.n.fits in
+    let put = c.put.ensures in
+    (put.0 ∙ ap (λ (s : List ℕ). c.args.at + length s) written, omega (arith, ap length written), put.1 ∙ ap (λ (s : List ℕ). put_of c.args.out.now c.args.at s) written)

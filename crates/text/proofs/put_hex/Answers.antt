@@ -9,9 +9,14 @@ use Rattle.text.proofs.Laws.{digits_hex, length_hex}
 use Rattle.text.proofs.put_hex.Goals as goal
 
 pub put-requires : goal.put-requires
-put-requires c = omega (arith, ap length ((let h : take c.hex-k.result c.hex-k.new.out.1.0 ≡ hex_text c.args.n = c.hex-k.ensures.len.1 ∙ digits_hex _ _ c.ranges.n.fits c.hex-k.ensures.len.0 in h)), (let h : length (hex_text c.args.n) ≡ 16 = length_hex _ in h))
+put-requires c =
+    let written : take c.hex-k.result c.hex-k.new.out ≡ hex_text c.args.n = c.hex-k.ensures.digits ∙ digits_hex _ _ c.ranges.n.fits c.hex-k.ensures.len in
+    let sixteen = length_hex c.args.n in
+    omega (arith, ap length written)
 
 pub returns : goal.returns
 returns c =
-    let e = (let h : take c.hex-k.result c.hex-k.new.out.1.0 ≡ hex_text c.args.n = c.hex-k.ensures.len.1 ∙ digits_hex _ _ c.ranges.n.fits c.hex-k.ensures.len.0 in h) in
-    (omega (arith, ap length e, (let h : length (hex_text c.args.n) ≡ 16 = length_hex _ in h), c.put.ensures.0), c.put.ensures.1 ∙ ap (λ (s : List ℕ). put_of c.args.out.now c.args.at s) e)
+    let written : take c.hex-k.result c.hex-k.new.out ≡ hex_text c.args.n = c.hex-k.ensures.digits ∙ digits_hex _ _ c.ranges.n.fits c.hex-k.ensures.len in
+    let sixteen = length_hex c.args.n in
+    let put = c.put.ensures in
+    (omega (arith, ap length written), put.1 ∙ ap (λ (s : List ℕ). put_of c.args.out.now c.args.at s) written)
