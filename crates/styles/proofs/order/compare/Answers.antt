@@ -1,6 +1,6 @@
 -- The first field that differs decides; where none does, the identities are one.
-use Rattle.std.proofs.Common.{sym, ap, ◌∙◌, arith}
-use Rattle.styles.specs.Order.{stands}
+use Rattle.std.proofs.Common.{◌≡◌, sym, ap, ◌∙◌, arith}
+use Rattle.styles.specs.Order.{rank, stands}
 use Rattle.styles.proofs.OrderLaws.{by_party, by_key, by_lamport, by_peer, of_less, of_more, identity_eq, same_self}
 use Rattle.styles.proofs.order.compare.Goals as goal
 
@@ -26,7 +26,11 @@ pub returns-then-a-b-3 : goal.returns-then-a-b-3
 returns-then-a-b-3 c = sym (of_less (by_peer (omega arith) (omega arith) (omega arith) (omega arith)))
 
 pub returns-then-b-a-3 : goal.returns-then-b-a-3
-returns-then-b-a-3 c = sym (of_more (by_peer (sym (one-party c)) (omega arith) (omega arith) (omega arith)))
+returns-then-b-a-3 c =
+    let one_party : rank c.args.b.party ≡ rank c.args.a.party = omega arith in
+    sym (of_more (by_peer one_party (omega arith) (omega arith) (omega arith)))
 
 pub returns : goal.returns
-returns c = sym (ap (stands _) (sym (identity_eq _ _ (one-party c) (omega arith) (omega arith) (omega arith))) ∙ same_self _)
+returns c =
+    let one_party : rank c.args.a.party ≡ rank c.args.b.party = omega arith in
+    sym (ap (stands _) (sym (identity_eq _ _ one_party (omega arith) (omega arith) (omega arith))) ∙ same_self _)
