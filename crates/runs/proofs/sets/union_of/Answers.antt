@@ -16,6 +16,6 @@ pub loop-k-preserved : goal.loop-k-preserved
 loop-k-preserved c = (omega arith, λ lens. ap (bit_or (get_or c.args.sets.now c.loop-k.k 0)) (c.loop-k.invariant.1 lens) ∙ sym (gather_more lens _ _))
 
 pub returns : goal.returns
-returns c =
+returns c lens =
     let e : c.loop-k.k ≡ c.args.n = omega arith in
     rw (← e) (c.loop-k.invariant.1 lens)
