@@ -12,11 +12,8 @@ pub loop-i-init : goal.loop-i-init
 loop-i-init c = (search rules, refl)
 
 pub loop-i-preserved : goal.loop-i-preserved
-loop-again c = (
-  search rules,
-  rw (c.before.before.loop.invariant.1, add-one)
-      (filled_step 0 0 32 c.before.before.before.args.key.now c.before.before.loop.i (search rules) (omega arith)),
-)
+loop-i-preserved c =
+    (search rules, rw (c.loop-i.invariant.1, add-one) (filled_step 0 0 32 c.args.key.now c.loop-i.i (search rules) (omega arith)))
 
 pub returns : goal.returns
 returns c =

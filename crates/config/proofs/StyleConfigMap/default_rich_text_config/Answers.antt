@@ -16,4 +16,11 @@ first_of n = record { entries = take n built_ins; default = none }
 
 pub returns : goal.returns
 unfolding holds known entered starts_of same_of
-returns c = record { sound = c.with.ensures.sound; means = (let h : configured c.with.result ≡ first_of 7 = c.with.ensures.means ∙ ap (with_entry (bytes "code") (growing "code" None).style) ((let h : configured c.with-map-6.result ≡ first_of 6 = c.with-map-6.ensures.means ∙ ap (with_entry (bytes "comment") (growing "comment" None).style) ((let h : configured c.with-map-5.result ≡ first_of 5 = c.with-map-5.ensures.means ∙ ap (with_entry (bytes "highlight") (growing "highlight" None).style) ((let h : configured c.with-map-4.result ≡ first_of 4 = c.with-map-4.ensures.means ∙ ap (with_entry (bytes "link") (growing "link" None).style) ((let h : configured c.with-map-3.result ≡ first_of 3 = c.with-map-3.ensures.means ∙ ap (with_entry (bytes "underline") (growing "underline" After).style) (after-2 c) in h)) in h)) in h)) in h)) in h) }
+returns c =
+    let after_1 : configured c.with-map.result ≡ first_of 1 = c.with-map.ensures.means ∙ ap (with_entry (bytes "bold") (growing "bold" After).style) c.new-map.ensures.means in
+    let after_2 : configured c.with-map-2.result ≡ first_of 2 = c.with-map-2.ensures.means ∙ ap (with_entry (bytes "italic") (growing "italic" After).style) after_1 in
+    let after_3 : configured c.with-map-3.result ≡ first_of 3 = c.with-map-3.ensures.means ∙ ap (with_entry (bytes "underline") (growing "underline" After).style) after_2 in
+    let after_4 : configured c.with-map-4.result ≡ first_of 4 = c.with-map-4.ensures.means ∙ ap (with_entry (bytes "link") (growing "link" None).style) after_3 in
+    let after_5 : configured c.with-map-5.result ≡ first_of 5 = c.with-map-5.ensures.means ∙ ap (with_entry (bytes "highlight") (growing "highlight" None).style) after_4 in
+    let after_6 : configured c.with-map-6.result ≡ first_of 6 = c.with-map-6.ensures.means ∙ ap (with_entry (bytes "comment") (growing "comment" None).style) after_5 in
+    record { sound = c.with.ensures.sound; means = c.with.ensures.means ∙ ap (with_entry (bytes "code") (growing "code" None).style) after_6 }
