@@ -5,7 +5,7 @@ use mathlib.Core.List.{List}
 use mathlib.Core.Option.{some}
 use Prim.Native.Nat.{ℕ}
 use lib.Dec.{eqb}
-use Rattle.config.specs.Table.{Table, refuses, with_entry, with_default, retired_style}
+use Rattle.config.specs.Table.{refuses, with_entry, with_default, retired_style}
 use Rattle.config.specs.Meaning.{configured, Sound, Means, Enters, SetsDefault, Inserts}
 use Rattle.config.specs.declared.Inserted.{Inserted}
 use Rattle.config.specs.declared.StyleConfig.{StyleConfig}

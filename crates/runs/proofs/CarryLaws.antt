@@ -1,17 +1,17 @@
 -- A part of a joined list that goes over in one piece is the copy of that part, run by run.
-use Prim.Native.Nat.{ℕ, zero, suc, ◌+◌, ◌-◌, ◌≤◌, ◌<◌, ◌^◌, min}
+use Prim.Native.Nat.{ℕ, zero, suc, ◌+◌, ◌-◌, ◌≤◌, ◌<◌, min}
 use mathlib.Core.Path.{◌≡◌, refl, sym, ap, ◌∙◌, subst}
 use mathlib.Core.List.{List, [], ◌∷◌}
 use native.Mathlib.Omega.{arith}
 use native.Mathlib.Decide.{dec_lt}
 use native.Mathlib.Numerals.{add-one}
-use lib.ListN.{length, get_or, set, drop}
+use lib.ListN.{length, get_or, set}
 use lib.Seq.{get_or-set_same, get_or-set_other, drop-set-lt}
-use Rattle.runs.specs.Runs.{Run, run, runs, total, set_at, Other, Canon, changing, sums, Found, SameBehind}
+use Rattle.runs.specs.Runs.{Run, run, runs, total, set_at, Other, Canon, changing, Found, SameBehind}
 use Rattle.runs.specs.Edits.{CanPush, Appended}
 use Rattle.runs.specs.Carry.{Carried, CanCarry}
 use Rattle.runs.proofs.Copies.{push_run, clip, copy_runs, adding}
-use Rattle.runs.proofs.Laws.{push_new, push_by, push_longer, total_push, length_runs, runs_ext, total_sums, total_more, total_mono, total_copy, copy_more, copy_grows, copy_holds, copy_late, copy_early}
+use Rattle.runs.proofs.Laws.{push_new, push_by, push_longer, length_runs, runs_ext, total_sums, total_more, total_mono, copy_more, copy_grows, copy_holds, copy_late, copy_early}
 use Rattle.runs.proofs.EditLaws.{add_none, joined_is, pushed_is, copied_joined, push_can}
 use Rattle.runs.proofs.BehindLaws.{drop_on}
 

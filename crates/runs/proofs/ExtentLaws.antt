@@ -2,14 +2,14 @@
 use Prim.Native.Nat.{ℕ, zero, suc, ◌+◌, ◌-◌, ◌≤◌, ◌<◌}
 use mathlib.Core.Path.{◌≡◌, refl, sym, ap, ap₂, ◌∙◌}
 use mathlib.Core.Bool.{Bool, true, false, not, true≢false}
-use mathlib.Core.List.{List, [], ◌∷◌}
+use mathlib.Core.List.{List}
 use native.Mathlib.Omega.{arith}
 use native.Mathlib.Decide.{dec_lt, dec_le}
 use native.Mathlib.Numerals.{sub-one}
 use lib.Dec.{leb, eqb}
 use lib.ListN.{get_or}
 use borrow.Author.Tests.{le-leb, lt-leb, eq-eqb, eqb-true}
-use Rattle.runs.specs.Runs.{Run, run, runs, total, set_at, Canon, sums, Found}
+use Rattle.runs.specs.Runs.{run, runs, total, set_at, Canon, sums, Found}
 use Rattle.runs.specs.Positions.{stretch_to, first_of, last_of, all_at}
 use Rattle.runs.specs.Stretches.{alike_in}
 use Rattle.runs.proofs.Laws.{at_in, total_sums, total_mono, total_more, found_set}

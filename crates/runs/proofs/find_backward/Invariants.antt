@@ -1,5 +1,5 @@
 -- `runs::find_backward` meets its contract. The invariant: run k starts at `start`, and `pos` is before its end.
-use Prim.Native.Nat.{◌+◌, ◌-◌, ◌≤◌, ◌<◌}
+use Prim.Native.Nat.{◌+◌, ◌≤◌, ◌<◌}
 use mathlib.Core.Path.{◌≡◌}
 use lib.ListN.{get_or}
 use Rattle.runs.specs.Runs.{sums}

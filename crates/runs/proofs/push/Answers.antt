@@ -1,15 +1,14 @@
 -- `runs::push` meets its contract: its stores make the pure push (`Laws`), which is the joined list (`pushed_joined`).
 use Prim.Native.Nat.{ℕ, ◌<◌, ◌-◌}
-use mathlib.Core.Path.{◌≡◌, sym}
+use mathlib.Core.Path.{◌≡◌}
 use mathlib.Core.List.{List}
 use native.Mathlib.Omega.{arith}
 use borrow.Author.Rules.{rules}
 use lib.ListN.{length, get_or}
 use Rattle.runs.specs.Edits.{CanPush}
 use Rattle.runs.specs.Runs.{runs, Other}
-use Rattle.runs.proofs.Laws.{push_none, last_le, other_runs, new_room, store_join, store_new}
+use Rattle.runs.proofs.Laws.{last_le, other_runs, new_room, store_join, store_new}
 use Rattle.runs.proofs.EditLaws.{joined_is, pushed_joined}
-use Rattle.runs.proofs.BehindLaws.{behind_join}
 use Rattle.runs.proofs.push.Goals as goal
 use Rattle.runs.proofs.push.Goals.{then-n-gt0+else-sets-k, else-n-gt0}
 

@@ -1,4 +1,3 @@
-use Prim.Native.Nat.{◌-◌}
 use native.Mathlib.Omega.{arith}
 use Rattle.text.proofs.Finding.{found_here, found_later, found_none}
 use Rattle.text.proofs.find.Goals as goal

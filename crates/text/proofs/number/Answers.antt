@@ -1,5 +1,4 @@
 use mathlib.Core.Path.{sym, ◌∙◌}
-use Prim.Native.Nat.{◌-◌}
 use Rattle.text.specs.declared.Parsed.{Parsed}
 use Rattle.text.proofs.Steps.{number_from_lem, turn, ends}
 use Rattle.text.proofs.number.Goals as goal

@@ -1,4 +1,3 @@
-use Prim.Native.Nat.{◌-◌}
 use Rattle.text.proofs.Prefix.{too_short, differs, agrees, all_there}
 use Rattle.text.proofs.starts.Goals as goal
 

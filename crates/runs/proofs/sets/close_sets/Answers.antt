@@ -1,7 +1,5 @@
-use Prim.Native.Nat.{◌-◌}
 use mathlib.Core.Path.{◌≡◌}
 use native.Mathlib.Omega.{arith}
-use Rattle.styles.specs.Bits.{close_bit}
 use Rattle.runs.proofs.MapLaws.{renumber_none, renumber_more}
 use Rattle.runs.proofs.sets.close_sets.Goals as goal
 

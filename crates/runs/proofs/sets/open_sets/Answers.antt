@@ -1,8 +1,6 @@
-use Prim.Native.Nat.{◌-◌}
 use mathlib.Core.Path.{◌≡◌, ◌∙◌}
 use native.Mathlib.Omega.{arith}
 use lib.ListN.{get_or}
-use Rattle.styles.specs.Bits.{open_bit}
 use Rattle.styles.proofs.BitLaws.{open_bit_fits}
 use Rattle.runs.proofs.MapLaws.{renumber_none, renumber_more}
 use Rattle.runs.proofs.sets.open_sets.Goals as goal

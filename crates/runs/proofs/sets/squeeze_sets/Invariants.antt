@@ -1,5 +1,5 @@
 -- `sets::squeeze_sets` meets its contract. The invariant: from bit i on the gaps are closed.
-use Prim.Native.Nat.{◌-◌, ◌≤◌}
+use Prim.Native.Nat.{◌≤◌}
 use mathlib.Core.Path.{◌≡◌}
 use Rattle.styles.proofs.SqueezeLaws.{partly}
 use Rattle.runs.specs.Gather.{Renumbered}

@@ -1,5 +1,5 @@
 -- Each turn clears the lowest bit and counts one down; the lowest of what is left is the bit asked for.
-use Rattle.std.proofs.Common.{ℕ, ◌-◌, ◌^◌, ◌<◌}
+use Rattle.std.proofs.Common.{ℕ, ◌^◌, ◌<◌}
 use lib.Count.{ones}
 use Rattle.styles.specs.Bits.{NthAt}
 use Rattle.styles.proofs.bits.nth_bit.Given as goal

@@ -1,4 +1,4 @@
-use Rattle.std.proofs.Common.{◌≡◌, ◌-◌, length, sym, refl, ◌∙◌, arith, length-set}
+use Rattle.std.proofs.Common.{◌≡◌, length, sym, refl, ◌∙◌, arith, length-set}
 use Rattle.styles.specs.Marks.{insert_at}
 use Rattle.styles.proofs.TableLaws.{put_turn, put_all, put_there, put_nowhere, put_full}
 use Rattle.std.proofs.Common.{rules}

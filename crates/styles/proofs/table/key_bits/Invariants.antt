@@ -1,5 +1,5 @@
 -- From the last mark down: a bit for each.
-use Rattle.std.proofs.Common.{◌≡◌, ◌-◌, ◌≤◌, take, drop}
+use Rattle.std.proofs.Common.{◌≡◌, ◌≤◌, take, drop}
 use Rattle.styles.specs.Marks.{key_is}
 use Rattle.styles.proofs.Built.{mask_of}
 use Rattle.styles.proofs.table.key_bits.Given as goal

@@ -1,4 +1,4 @@
-use Rattle.std.proofs.Common.{◌≡◌, ◌-◌, length, take, drop, sym, ap, ◌∙◌, arith, rules}
+use Rattle.std.proofs.Common.{◌≡◌, length, take, drop, sym, ap, ◌∙◌, arith, rules}
 use Rattle.styles.specs.Order.{is_same, stands}
 use Rattle.styles.specs.Marks.{member, blank, place_of}
 use Rattle.styles.proofs.TableLaws.{place_more, place_here, place_end, carried_here, carried_not}

@@ -1,5 +1,5 @@
 -- The lowest bit of what is left of the set is the next mark of the set; each is written behind those before it.
-use Rattle.std.proofs.Common.{◌≡◌, ◌+◌, ◌-◌, ◌^◌, ◌<◌, ◌++◌, take, drop, set, replicate}
+use Rattle.std.proofs.Common.{◌≡◌, ◌+◌, ◌-◌, ◌^◌, ◌<◌, ◌++◌, take, drop, replicate}
 use lib.Count.{ones}
 use Rattle.styles.specs.Bits.{pick}
 use Rattle.styles.specs.Marks.{blank}

@@ -1,5 +1,5 @@
 -- The flag bytes first, then the counters, and where both are one, the values. A counter in a local is the number of its bits.
-use Rattle.std.proofs.Common.{◌≡◌, true, false, sym, ◌∙◌, ap₂, to_z-of_z, w32, SFits, rules, eq-eqb, ne_eqb}
+use Rattle.std.proofs.Common.{◌≡◌, sym, ◌∙◌, ap₂, to_z-of_z, w32, SFits, rules, eq-eqb, ne_eqb}
 use Rattle.styles.specs.Values.{same_whole}
 use Rattle.styles.specs.Marks.{same_content}
 use Rattle.styles.proofs.values.same_content.Goals as goal
