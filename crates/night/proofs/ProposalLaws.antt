@@ -13,13 +13,13 @@ use Rattle.tank.specs.Rules.{View}
 use Rattle.tank.specs.State.{view, Formed}
 use Rattle.tanks.specs.declared.Tanks.{Tanks}
 use Rattle.tanks.specs.House.{tank_at}
-use Rattle.tanks.specs.Pool.{meaning, Sound}
+use Rattle.tanks.specs.Pool.{meaning}
 use Rattle.tanks.specs.Promises.{Taken}
 use Rattle.night.specs.declared.Range.{Range}
 use Rattle.night.specs.declared.Plan.{Plan}
 use Rattle.night.specs.Plans.{plan_of, accepts_plan}
 use Rattle.night.specs.Planning.{plan_number, AppliedAt}
-use Rattle.night.specs.Proposing.{unheld_below, works_below, least_below, proposed, gives, gives_none, proposal_of, proposal_at, CanTry, CanNarrow}
+use Rattle.night.specs.Proposing.{unheld_below, works_below, least_below, proposed, gives, gives_none, proposal_of, proposal_at, CanNarrow}
 use Rattle.night.proofs.FitLaws.{ranges_plan}
 use Rattle.night.proofs.ProposeLaws.{is_false, least_within, works_later, works_touched, works_least, proposed_nothing, proposed_some, proposed_no, Between, narrowed}
 

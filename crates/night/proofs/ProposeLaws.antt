@@ -1,6 +1,6 @@
 -- The proposer: what it gives is accepted and takes no more than needed, and where the unheld positions form at most 32 ranges it gives
 -- no plan only where none at all would be accepted.
-use Prim.Native.Nat.{ℕ, zero, suc, ◌+◌, ◌-◌, ◌≤◌, ◌<◌}
+use Prim.Native.Nat.{ℕ, ◌+◌, ◌≤◌, ◌<◌}
 use mathlib.Core.Path.{◌≡◌, refl, sym, ap, ap₂, ◌∙◌}
 use mathlib.Core.Bool.{Bool, true, false, cond, not, ◌&&◌, and-eq-true_iff, true≢false, false≢true}
 use mathlib.Core.List.{List, [], ◌∷◌}
@@ -9,7 +9,7 @@ use native.Mathlib.Omega.{arith}
 use native.Mathlib.Decide.{dec_lt, dec_le}
 use lib.Dec.{leb}
 use lib.ListN.{length}
-use borrow.Author.Tests.{le-leb, leb-true, not-true, not-false}
+use borrow.Author.Tests.{le-leb, leb-true, not-true}
 use Rattle.runs.specs.Positions.{any_at, seek_from}
 use Rattle.runs.proofs.ScanLaws.{any_no, any_none}
 use Rattle.runs.proofs.SeekLaws.{seek_to, seek_before, seek_at, seek_is}

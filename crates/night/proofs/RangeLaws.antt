@@ -15,7 +15,7 @@ use Rattle.runs.proofs.SeekLaws.{seek_from_lem, seek_to, seek_before, seek_at, s
 use Rattle.night.specs.declared.Range.{Range}
 use Rattle.night.specs.Plans.{range, planned, in_order}
 use Rattle.night.specs.Proposing.{begins, range_count, seek, ranges_from}
-use Rattle.night.proofs.PlanLaws.{ordered, order_to, in_range, out_range, past_range}
+use Rattle.night.proofs.PlanLaws.{ordered, in_range, past_range}
 
 -- ---- the ranges that pass a test
 module _ (test : ℕ → Bool) (n : ℕ) where

@@ -1,5 +1,5 @@
 -- Document 02, request 14, over eight tanks: one call of ageing, and calls one after another.
-use Rattle.std.specs.Prelude.{ℕ, suc, ◌+◌, ◌≡◌, true, false, cond}
+use Rattle.std.specs.Prelude.{ℕ, suc, ◌+◌, ◌≡◌, cond}
 use Rattle.styles.specs.declared.Party.{Party}
 use Rattle.tank.specs.Rules.{is_lab, when_accepted}
 use Rattle.tanks.specs.declared.Tanks.{Tanks}

@@ -1,5 +1,5 @@
 -- Document 02, request 9, over eight tanks: whoever made the plan, it is applied whole or refused by 15.
-use Rattle.std.specs.Prelude.{ℕ, ◌≤◌, ◌<◌, ◌≡◌, true, false, cond, List, [], ◌∷◌, ◌++◌}
+use Rattle.std.specs.Prelude.{ℕ, ◌≤◌, ◌<◌, ◌≡◌, true, cond, List, [], ◌∷◌, ◌++◌}
 use Rattle.styles.specs.declared.Party.{Party}
 use Rattle.styles.specs.declared.Party.TheVariants.{Plant}
 use Rattle.tank.specs.Rules.{is_lab, deleting, when_accepted}

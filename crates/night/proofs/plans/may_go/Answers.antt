@@ -1,4 +1,3 @@
-use Prim.Native.Nat.{◌-◌}
 use mathlib.Core.Path.{◌≡◌, ap, ◌∙◌}
 use mathlib.Core.Bool.{Bool}
 use native.Mathlib.Omega.{arith}
@@ -52,15 +51,12 @@ unfolding view
 returns-then-not-clear c =
     let a = c.args in
     let l = c.loop-i in
-    fits_touched a.t a.hold a.plan c.if-plan-gt32.false (not-false _ c.if-not-t.false)
-    (turn_off l.invariant c.loop-i-test.true c.clear.result ((let c : let l = c.loop-i in
-    let a = c.args in
     let x = get_or a.plan.ranges l.i no_range in
-    c.clear.result ≡ clears l.from (view a.t).length (any_at (held_at a.hold (view a.t)) x.start x.end) x = let l = c.loop-i in
-    let a = c.args in
-    let x = get_or a.plan.ranges l.i no_range in
+    let is : c.clear.result ≡ clears l.from (view a.t).length (any_at (held_at a.hold (view a.t)) x.start x.end) x =
     c.clear.ensures
-    ∙ ap (λ (b : Bool). clears l.from a.t.length b x) (any_held c.requires a.hold c.key_bits-mask.ensures x.start x.end) in c)) (not-true _ c.if-not-clear.true))
+    ∙ ap (λ (b : Bool). clears l.from a.t.length b x) (any_held c.requires a.hold c.key_bits-mask.ensures x.start x.end) in
+    fits_touched a.t a.hold a.plan c.if-plan-gt32.false (not-false _ c.if-not-t.false)
+    (turn_off l.invariant c.loop-i-test.true c.clear.result is c.if-not-clear.true)
 
 -- src/plans.rt:66:9
 pub overflow_add-i : goal.overflow_add-i
@@ -79,15 +75,13 @@ loop-i-smaller c =
 pub loop-i-preserved : goal.loop-i-preserved
 unfolding view
 loop-i-preserved c =
+    let a = c.args in
     let l = c.loop-i in
-    turn_on l.invariant c.loop-i-test.true c.clear.result ((let c : let l = c.loop-i in
-    let a = c.args in
     let x = get_or a.plan.ranges l.i no_range in
-    c.clear.result ≡ clears l.from (view a.t).length (any_at (held_at a.hold (view a.t)) x.start x.end) x = let l = c.loop-i in
-    let a = c.args in
-    let x = get_or a.plan.ranges l.i no_range in
+    let is : c.clear.result ≡ clears l.from (view a.t).length (any_at (held_at a.hold (view a.t)) x.start x.end) x =
     c.clear.ensures
-    ∙ ap (λ (b : Bool). clears l.from a.t.length b x) (any_held c.requires a.hold c.key_bits-mask.ensures x.start x.end) in c)) (not-false _ c.if-not-clear.false)
+    ∙ ap (λ (b : Bool). clears l.from a.t.length b x) (any_held c.requires a.hold c.key_bits-mask.ensures x.start x.end) in
+    turn_on l.invariant c.loop-i-test.true c.clear.result is c.if-not-clear.false
 
 -- src/plans.rt:46:1
 pub returns : goal.returns

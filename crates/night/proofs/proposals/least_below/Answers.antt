@@ -1,4 +1,3 @@
-use Prim.Native.Nat.{◌-◌}
 use native.Mathlib.Omega.{arith}
 use Rattle.night.proofs.ProposalLaws.{wide, narrow_end, narrow_high, narrow_low}
 use Rattle.night.proofs.proposals.least_below.Goals as goal

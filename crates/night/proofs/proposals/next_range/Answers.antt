@@ -1,5 +1,4 @@
 -- `proposals::next_range` meets its contract: two walks over the runs, each clipped.
-use Prim.Native.Nat.{◌-◌}
 use mathlib.Core.Path.{◌∙◌}
 use mathlib.Core.Bool.{not}
 use native.Mathlib.Omega.{arith}

@@ -1,4 +1,3 @@
-use Prim.Native.Nat.{◌-◌}
 use native.Mathlib.Omega.{arith}
 use Rattle.night.proofs.UnheldLaws.{none_yet, without_is, with_is, gathered_all, gathered_last, gathered_more}
 use Rattle.night.proofs.proposals.unheld_below.Goals as goal
