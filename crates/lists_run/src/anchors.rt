@@ -1,5 +1,4 @@
-// Anchors in four places that are lent. A list of records that a function lends is walked by hand: one function lends it, and what it hands
-// back is read by the others.
+// Anchors in four places that are lent: one function lends them, and what it hands back is read by the others.
 ghost use Rattle.std.specs.Prelude.{◌≡◌, length};
 ghost use Rattle.tanks.specs.Pool.{Sound};
 
