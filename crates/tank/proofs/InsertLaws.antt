@@ -14,7 +14,7 @@ use Rattle.runs.specs.Gather.{gather}
 use Rattle.runs.specs.Scan.{common_at}
 use Rattle.tank.specs.declared.Tank.{Tank}
 use Rattle.tank.specs.declared.Inserted.{Inserted}
-use Rattle.tank.specs.Rules.{View, inserting, is_lab, shown_to, other_of, after, for_insert, after_insert, barred, empty, over, largest, long, own_number, clashes, full, refusal, when_accepted, inserted_set}
+use Rattle.tank.specs.Rules.{View, inserting, is_lab, shown_to, after, for_insert, after_insert, barred, empty, over, largest, long, own_number, clashes, full, refusal, when_accepted, inserted_set}
 use Rattle.tank.specs.State.{runs_of, table_of, view, Sound, Called}
 use Rattle.tank.specs.Steps.{Stepped, CanGrow}
 use Rattle.tank.proofs.AnnotateLaws.{formed_of}

@@ -1,5 +1,5 @@
 -- A party's marks alone: the bits of the other's taken off every set, and what the tank then means.
-use Prim.Native.Nat.{ℕ, zero, suc, ◌+◌, ◌-◌, ◌*◌, ◌≤◌, ◌<◌, ◌^◌}
+use Prim.Native.Nat.{ℕ, zero, suc, ◌+◌, ◌*◌, ◌≤◌, ◌<◌, ◌^◌}
 use mathlib.Core.Path.{◌≡◌, refl, sym, ap, ◌∙◌, fun_ext}
 use mathlib.Core.Bool.{Bool, true, false, cond, ◌&&◌, not, false≢true, and-eq-true_iff}
 use mathlib.Core.List.{List, [], ◌∷◌}
@@ -34,7 +34,7 @@ use Rattle.runs.proofs.Laws.{at_past}
 use Rattle.runs.proofs.EditLaws.{drop_is, at_altered, canon_altered}
 use Rattle.tank.specs.declared.Tank.{Tank}
 use Rattle.tank.specs.Rules.{View, fresh_length, alike, runs_held, shown_to, other_of, marks_of}
-use Rattle.tank.specs.State.{runs_of, table_of, view, Laid, Formed, Sound}
+use Rattle.tank.specs.State.{runs_of, table_of, view, Laid, Sound}
 use Rattle.tank.specs.Steps.{CanNarrow, Trimmed}
 use Rattle.tank.proofs.Counted.{at_inside}
 use Rattle.tank.proofs.Unique.{runs_held_lem}

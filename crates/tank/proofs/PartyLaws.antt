@@ -1,19 +1,17 @@
 -- What a party is shown after an edit hangs on the edit and on what it was shown before, and on nothing else: the other party's marks
 -- are not among it.
 use Prim.Native.Nat.{ℕ, zero, suc, ◌+◌, ◌-◌}
-use mathlib.Core.Path.{◌≡◌, refl, sym, ap, ap₂, ◌∙◌}
+use mathlib.Core.Path.{◌≡◌, refl, sym, ap, ◌∙◌}
 use mathlib.Core.Bool.{Bool, true, false, cond}
 use mathlib.Core.List.{List, []}
-use native.Mathlib.Omega.{arith}
 use lib.Dec.{eqb, ltb}
 use Rattle.laws.proofs.Cases.{cond_ap, cond_same}
 use Rattle.styles.specs.declared.Identity.{Identity}
 use Rattle.styles.specs.declared.Mark.{Mark}
 use Rattle.styles.specs.declared.Party.{Party}
-use Rattle.styles.specs.Order.{id_of}
-use Rattle.styles.specs.Marks.{Sorted, member, insert_mark, remove_mark, common, only, same_party, is_of, of_party}
+use Rattle.styles.specs.Marks.{Sorted, insert_mark, remove_mark, common, only, same_party, is_of, of_party}
 use Rattle.styles.proofs.PartyLaws.{seen_remove, unseen_remove, seen_common, seen_member, seen_insert, unseen_insert}
-use Rattle.runs.specs.Positions.{within, altered_at, deleted_at, inserted_at, stretch_to}
+use Rattle.runs.specs.Positions.{within, deleted_at, inserted_at, stretch_to}
 use Rattle.tank.specs.Rules.{View, after_annotate, inherited, for_insert, after_insert, after_delete, back_from, stripped, after_remove, Edit, annotating, inserting, deleting, removing, shown_to, after}
 use Rattle.tank.proofs.ViewLaws.{view_ext}
 

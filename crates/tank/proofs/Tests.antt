@@ -6,7 +6,6 @@ use mathlib.Core.Bool.{true, cond}
 use mathlib.Core.List.{List, [], ◌∷◌, ◌++◌}
 use lib.Dec.{eqb}
 use lib.Ieee.{nan, is_nan}
-use lib.ListN.{length}
 use Rattle.styles.specs.declared.Party.TheVariants.{Plant, Lab}
 use Rattle.styles.specs.declared.Mark.{Mark}
 use Rattle.styles.specs.declared.Value.{Value}

@@ -1,10 +1,10 @@
 -- The steps that the edits of a tank are made of.
-use Rattle.std.specs.Prelude.{ℕ, ◌+◌, ◌≤◌, ◌<◌, ◌^◌, ◌≡◌, true, false, cond, List, length}
+use Rattle.std.specs.Prelude.{ℕ, ◌+◌, ◌≤◌, ◌<◌, ◌^◌, ◌≡◌, true, false, cond, List}
 use Rattle.styles.specs.declared.Mark.{Mark}
 use Rattle.styles.specs.Order.{id_of}
 use Rattle.styles.specs.Values.{value_nan}
 use Rattle.styles.specs.declared.Party.{Party}
-use Rattle.styles.specs.Marks.{Sorted, member, place_of, is_of}
+use Rattle.styles.specs.Marks.{member, place_of, is_of}
 use Rattle.styles.specs.Bits.{MaskOf}
 use Rattle.runs.specs.Gather.{gather}
 use Rattle.runs.specs.Scan.{common_at}

@@ -9,7 +9,7 @@ use native.Mathlib.Numerals.{add-one}
 use borrow.Author.Tests.{lt-ltb, le-ltb}
 use lib.Dec.{ltb}
 use lib.Bits.{bit_and, and_le_l, and_zero_l}
-use lib.ListN.{length, get_or, take}
+use lib.ListN.{get_or, take}
 use Rattle.styles.specs.declared.Mark.{Mark}
 use Rattle.styles.specs.declared.Party.{Party}
 use Rattle.styles.specs.Bits.{pick, MaskOf}
@@ -24,7 +24,7 @@ use Rattle.runs.proofs.ExtentLaws.{canon_front}
 use Rattle.runs.proofs.Laws.{total_sums, found_set, found_none}
 use Rattle.runs.proofs.ScanLaws.{common_end, common_in, common_edge}
 use Rattle.runs.proofs.SumLaws.{sum_more, sum_same, sum_up, sum_next}
-use Rattle.tank.specs.Rules.{View, shown_to, for_insert}
+use Rattle.tank.specs.Rules.{shown_to, for_insert}
 use Rattle.tank.specs.State.{view}
 use Rattle.tank.proofs.Counted.{at_inside}
 use Rattle.tank.proofs.GrowLaws.{common_small, common_for_insert}

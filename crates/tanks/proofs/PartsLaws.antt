@@ -16,23 +16,20 @@ use Rattle.tank.specs.declared.Tank.{Tank}
 use Rattle.tank.specs.declared.lent.Outline.{Outline}
 use Rattle.tank.specs.declared.lent.Left.{Left}
 use Rattle.tank.specs.Rules.{View, fresh_view, Edit, first_refusal, made_by}
-use Rattle.tank.specs.State.{table_of, view, Formed, Called}
+use Rattle.tank.specs.State.{table_of, view, Called}
 use Rattle.tank.specs.Lending.{tank_on, tank_made, tank_left}
 use Rattle.tank.proofs.Unique.{tank_eq}
 use Rattle.tanks.specs.declared.Setting.{Setting}
 use Rattle.tanks.specs.declared.Head.{Head}
 use Rattle.tanks.specs.declared.Run.{Run}
-use Rattle.tanks.specs.declared.Spots.{Spots}
 use Rattle.tanks.specs.declared.Table.{Table}
 use Rattle.tanks.specs.declared.Tanks.{Tanks}
 use Rattle.tanks.specs.declared.Parts.{Parts}
-use Rattle.tanks.specs.declared.Done.{Done}
 use Rattle.tanks.specs.Settings.{share_of, judgement}
 use Rattle.tanks.specs.House.{share_number, with_tank}
-use Rattle.tanks.specs.Pool.{no_run, no_head, no_table, runs_in, runs_below, meaning, tank_in, tank_of, head_of, table_in, spots_of, Sound}
+use Rattle.tanks.specs.Pool.{no_run, no_head, no_table, runs_in, runs_below, meaning, tank_in, tank_of, head_of, table_in, Sound}
 use Rattle.tanks.specs.Promises.{place_of, PartsOf, PartsOfSome, with_parts, shown_of, done_with, CalledAt, EditsParts, Performed, PerformedAs, PerformsOn, DoneAt}
-use Rattle.tanks.proofs.LaidLaws.{laid}
-use Rattle.tanks.proofs.Put.{run_from, puts}
+use Rattle.tanks.proofs.Put.{puts}
 use Rattle.tanks.proofs.SettingLaws.{TakenOut, taken}
 use Rattle.tanks.proofs.SliceLaws.{own_stored}
 use Rattle.tanks.proofs.MeaningLaws.{tank_at_lem, tanks_length, Tail, tail_refused, tail_done}

@@ -2,7 +2,6 @@
 use Prim.Native.Nat.{ℕ, ◌<◌}
 use mathlib.Core.Path.{◌≡◌, refl, sym, ap, ap₂, ◌∙◌, subst}
 use mathlib.Core.Bool.{Bool, true, false, cond, false≢true}
-use mathlib.Core.Logic.{◌≢◌}
 use mathlib.Core.List.{List, [], ◌∷◌}
 use native.Mathlib.Omega.{arith}
 use native.Mathlib.Decide.{dec_lt}
@@ -14,7 +13,7 @@ use lib.Seq.{get_or-set_same, get_or-set_other}
 use Rattle.styles.specs.declared.Identity.{Identity}
 use Rattle.styles.specs.declared.Party.{Party}
 use Rattle.styles.specs.declared.Mark.{Mark}
-use Rattle.styles.specs.Marks.{Sorted, same_party, is_of, of_party}
+use Rattle.styles.specs.Marks.{same_party, is_of, of_party}
 use Rattle.tank.specs.Rules.{View, fresh_view, Edit, annotating, inserting, removing, after_annotate, after_remove, shown_to, made_by, after, full, refusal, passes_share, runs_held, for_insert, back_from}
 use Rattle.tank.proofs.PartyLaws.{SortedAt, seen_after, seen_after_lem, seen_same, back_seen}
 use Rattle.tank.proofs.ViewLaws.{view_ext}

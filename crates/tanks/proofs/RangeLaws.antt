@@ -1,32 +1,32 @@
 -- A test of the sets over a range, run by run where they stand in the pool; and with the party's bits it is a test of the marks that are shown.
-use Prim.Native.Nat.{ℕ, zero, suc, ◌+◌, ◌≤◌, ◌<◌, ◌^◌, max, min}
+use Prim.Native.Nat.{ℕ, zero, suc, ◌+◌, ◌≤◌, ◌<◌, ◌^◌, max}
 use mathlib.Core.Path.{◌≡◌, refl, sym, ap, ◌∙◌, fun_ext}
-use mathlib.Core.Bool.{Bool, true, false, not, ◌&&◌, and-eq-true_iff}
+use mathlib.Core.Bool.{Bool, true, false, ◌&&◌, and-eq-true_iff}
 use mathlib.Core.List.{List, ◌∷◌, map}
 use native.Mathlib.Omega.{arith}
 use native.Mathlib.Decide.{dec_lt}
 use borrow.Author.Tests.{lt-ltb, ltb-true}
 use lib.Dec.{ltb, eqb}
-use lib.Bits.{bit_and, and_le_l, and_le_r}
+use lib.Bits.{bit_and, and_le_r}
 use lib.ListN.{length, get_or, take, drop, get_or-map}
 use lib.Pow.{pow_mono}
 use lib.Seq.{get_or-drop}
 use Rattle.styles.specs.declared.Mark.{Mark}
 use Rattle.styles.specs.declared.Party.{Party}
 use Rattle.styles.specs.declared.Value.{Value}
-use Rattle.styles.specs.Bits.{pick, MaskOf, top_in}
+use Rattle.styles.specs.Bits.{MaskOf, top_in}
 use Rattle.styles.specs.Marks.{key_is, value_is, is_of, has_key, shows_value, same_marks, blank}
 use Rattle.styles.proofs.Built.{mask_of}
 use Rattle.styles.proofs.Digits.{and_digit, digits_ext}
 use Rattle.styles.proofs.MaskLaws.{has_key_bits, shows_bits_lem, mask_less}
 use Rattle.styles.proofs.SameLaws.{same_pick}
 use Rattle.styles.proofs.Unique.{mask_only}
-use Rattle.runs.specs.Positions.{sum_below, any_at, all_at}
+use Rattle.runs.specs.Positions.{any_at}
 use Rattle.runs.specs.Runs as runs
 use Rattle.runs.specs.Scan.{meets, shows}
 use Rattle.runs.proofs.ExtentLaws.{canon_front}
 use Rattle.runs.proofs.Laws.{total_sums, total_mono}
-use Rattle.runs.proofs.ScanLaws.{any_yes, any_no, any_ext, all_ext, all_is, at_run, second_fails}
+use Rattle.runs.proofs.ScanLaws.{any_yes, any_no, at_run, second_fails}
 use Rattle.runs.proofs.SumLaws.{sum_same}
 use Rattle.tank.specs.Rules.{alike}
 use Rattle.tank.proofs.Unique.{table_length}

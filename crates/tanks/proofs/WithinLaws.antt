@@ -2,11 +2,11 @@
 use Prim.Native.Nat.{ℕ, ◌+◌, ◌-◌, ◌≤◌, ◌<◌, ◌^◌, min, max}
 use mathlib.Core.Path.{◌≡◌, refl, sym, ap, ap₂, ◌∙◌, subst}
 use mathlib.Core.Logic.{◌≢◌}
-use mathlib.Core.Bool.{Bool, true, false, cond, ◌&&◌, and-false}
+use mathlib.Core.Bool.{true, and-false}
 use mathlib.Core.List.{List}
 use native.Mathlib.Omega.{arith}
 use native.Mathlib.Decide.{dec_lt, ℕ_discrete}
-use borrow.Author.Tests.{lt-ltb, le-ltb, eq-eqb, ne_eqb}
+use borrow.Author.Tests.{le-ltb, eq-eqb, ne_eqb}
 use lib.Bits.{bit_and}
 use lib.ListN.{length, get_or, set, take, length-set}
 use lib.Seq.{get_or-set_same, get_or-set_other, ext_get_or}
@@ -29,9 +29,9 @@ use Rattle.tanks.specs.declared.Resize.{Resize}
 use Rattle.tanks.specs.declared.Tanks.{Tanks}
 use Rattle.tanks.specs.declared.Table.{Table}
 use Rattle.tanks.specs.declared.Parts.{Parts}
-use Rattle.tanks.specs.Settings.{share_of, limit_of, claims, held_after, judgement}
+use Rattle.tanks.specs.Settings.{share_of, claims, held_after, judgement}
 use Rattle.tanks.specs.House.{share_number}
-use Rattle.tanks.specs.Pool.{no_run, no_head, no_table, runs_in, runs_below, own_runs, zero_filled, lens_in, sets_in, tank_in, tank_of, spots_of, Sound}
+use Rattle.tanks.specs.Pool.{no_run, no_head, no_table, runs_in, runs_below, lens_in, sets_in, tank_in, tank_of, spots_of, Sound}
 use Rattle.tanks.specs.Promises.{done_with, DoneAt, Performed, PerformedAs}
 use Rattle.tanks.specs.Resizing.{Within, Resizes, Fits, Which, shown_by}
 use Rattle.tanks.proofs.LaidLaws.{laid, length_laid, laid_out, laid_in}

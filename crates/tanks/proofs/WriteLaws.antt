@@ -21,7 +21,7 @@ use Rattle.tanks.specs.Settings.{judgement}
 use Rattle.tank.specs.Rules.{first_refusal}
 use Rattle.tanks.specs.Pool.{no_run, runs_in, runs_below, head_of, table_in, spots_of, Sound}
 use Rattle.tanks.proofs.Put.{run_of, run_from, pool_with, puts}
-use Rattle.tanks.proofs.LaidLaws.{laid, laid_out, laid_more, laid_back, laid_cong, laid_two, laid_kept, below_later}
+use Rattle.tanks.proofs.LaidLaws.{laid, laid_out, laid_more, laid_back, laid_cong, laid_kept, below_later}
 use Rattle.tanks.proofs.SettingLaws.{sound_held, second_zero}
 use Rattle.tanks.proofs.MeaningLaws.{room}
 

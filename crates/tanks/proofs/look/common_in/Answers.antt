@@ -1,4 +1,3 @@
-use Prim.Native.Nat.{◌-◌}
 use mathlib.Core.Path.{◌∙◌}
 use native.Mathlib.Omega.{arith}
 use Rattle.tanks.proofs.LookLaws.{walk_fits, walk_on, walk_begins, set_first, set_next, common_found, common_none}

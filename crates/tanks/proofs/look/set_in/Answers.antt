@@ -1,4 +1,3 @@
-use Prim.Native.Nat.{◌-◌}
 use native.Mathlib.Omega.{arith}
 use Rattle.tanks.proofs.LookLaws.{walk_fits, walk_on, walk_begins, set_found, none_found}
 use Rattle.tanks.proofs.look.set_in.Goals as goal

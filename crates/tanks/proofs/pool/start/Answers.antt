@@ -1,5 +1,4 @@
 use native.Mathlib.Omega.{arith}
-use Prim.Native.Nat.{◌-◌}
 use mathlib.Core.Path.{◌≡◌, refl}
 use Rattle.runs.specs.Positions.{sum_below}
 use Rattle.runs.proofs.SumLaws.{sum_more, sum_next}

@@ -1,4 +1,4 @@
-use Prim.Native.Nat.{◌-◌, min, max}
+use Prim.Native.Nat.{min, max}
 use mathlib.Core.Path.{ap}
 use lib.Count.{ones}
 use lib.ListN.{length}
