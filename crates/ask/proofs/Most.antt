@@ -2,7 +2,7 @@
 use Prim.Native.Nat.{ℕ, zero, suc, ◌+◌, ◌-◌, ◌*◌, ◌≤◌, ◌<◌, max}
 use mathlib.Core.Path.{◌≡◌, refl, ap}
 use mathlib.Core.Bool.{Bool, true, false, cond}
-use mathlib.Core.List.{List, [], ◌∷◌, ◌++◌}
+use mathlib.Core.List.{List, [], ◌∷◌}
 use native.Mathlib.Omega.{arith}
 use lib.Dec.{leb}
 use lib.ListN.{length, length-append}
@@ -13,7 +13,6 @@ use Rattle.runs.proofs.SumLaws.{sum_but_one}
 use Rattle.styles.specs.declared.Party.{Party}
 use Rattle.tank.specs.Rules.{View, alike, runs_held, shown_to}
 use Rattle.tank.proofs.NarrowLaws.{shown_fewer}
-use Rattle.tank.specs.State.{view}
 use Rattle.tanks.specs.declared.Tanks.{Tanks}
 use Rattle.tanks.specs.Settings.{claim}
 use Rattle.tanks.specs.House.{tank_at, shown_at}

@@ -34,7 +34,7 @@ use Rattle.tanks.specs.Answers.{count_said}
 use Rattle.tanks.specs.Promises.{CalledAt, Calls, counts}
 use Rattle.tanks.proofs.Sequences.{calls_mean}
 use Rattle.ask.specs.Asks.{marks_asked, anchors_needed_asked}
-use Rattle.ask.specs.Examples.{Answer, refused, taken, gives, begins, reply, answer, marks_at, Says, leaves, AllSaid, Holds, AllHold, A, on, look, edit, anchored, first_a, table}
+use Rattle.ask.specs.Examples.{Answer, refused, taken, gives, begins, reply, marks_at, Says, leaves, AllSaid, Holds, AllHold, A, on, look, edit, anchored, first_a, table}
 use Rattle.ask.proofs.Examples.{examples}
 
 -- ---- The example

@@ -12,11 +12,10 @@ use lib.ListN.{length}
 use lib.Seq.{get_or-set_other}
 use borrow.Author.Tests.{le-leb, lt-leb, leb-true}
 use Rattle.laws.proofs.Cases.{cond_by}
-use Rattle.tank.specs.Rules.{View, fresh_view, runs_held, when_accepted}
+use Rattle.tank.specs.Rules.{View, fresh_view, runs_held}
 use Rattle.tank.proofs.Calls.{when_refused}
 use Rattle.tanks.specs.declared.Tanks.{Tanks}
 use Rattle.tanks.specs.House.{House, tank_at, held, with_tank, after_all}
-use Rattle.tanks.specs.Pool.{meaning, Sound}
 use Rattle.tanks.proofs.Theorems.{Kept, kept_all, with_same}
 use Rattle.tanks.proofs.Unique.{unique}
 use Rattle.night.specs.declared.Range.{Range}

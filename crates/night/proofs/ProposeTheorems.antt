@@ -1,7 +1,7 @@
 -- What the proposer answers over eight tanks: any plan it gives is accepted; where the tank already holds at most r it gives the empty
 -- plan; and on a touched tank whose unheld positions form at most 32 ranges it says "no plan" exactly when none would be accepted.
 use Prim.Native.Nat.{ℕ, ◌≤◌, ◌<◌}
-use mathlib.Core.Path.{◌≡◌, refl, sym, ap, ◌∙◌, subst}
+use mathlib.Core.Path.{◌≡◌, refl, sym, ap, ◌∙◌}
 use mathlib.Core.Bool.{Bool, true, false, cond, true≢false, false≢true}
 use mathlib.Core.List.{List, []}
 use mathlib.Core.Option.{Option, none, some}

@@ -1,5 +1,5 @@
 -- `masks` meets its contract. From the last mark down: a bit for each, in the mask of each key.
-use Prim.Native.Nat.{ℕ, ◌-◌, ◌≤◌, ◌<◌}
+use Prim.Native.Nat.{ℕ, ◌≤◌, ◌<◌}
 use mathlib.Core.Path.{◌≡◌}
 use mathlib.Core.List.{List}
 use lib.ListN.{get_or, take, drop}
