@@ -3,7 +3,7 @@
 use mathlib.Core.Path.{◌≡◌, refl, sym, ap, subst, ◌∙◌}
 use mathlib.Core.Bool.{Bool, true, false, cond}
 use mathlib.Core.List.{List, [], ◌∷◌, ◌++◌}
-use Prim.Native.Nat.{ℕ, zero, suc, ◌+◌, ◌-◌, ◌<◌, ◌≤◌, min}
+use Prim.Native.Nat.{ℕ, zero, suc, ◌+◌, ◌<◌, ◌≤◌}
 use native.Mathlib.Decide.{ℕ_discrete}
 use native.Mathlib.Omega.{arith}
 use lib.Dec.{ltb}
@@ -23,11 +23,10 @@ use Rattle.script.specs.declared.ReadKind.{ReadKind}
 use Rattle.script.specs.declared.ReadOp.{ReadOp}
 use Rattle.script.specs.declared.ReadValue.{ReadValue}
 use Rattle.text.specs.Signed.{signed32_of}
-use Rattle.script.specs.Reading.{number_of, byte_of, party_of, kind_named, value_of, op_from, op_named, after_name, fresh_of, bad_of, moved_of, with_op, with_number, with_counter, with_kind, with_value, held_line, line_of}
-use Rattle.script.specs.Lines.{line_front, has_end, grown_of, State, event_of, read_of, brings_of, after_of, turned_of, counted_of}
+use Rattle.script.specs.Reading.{number_of, byte_of, party_of, kind_named, value_of, op_from, op_named, after_name, bad_of, moved_of, with_op, with_number, with_counter, with_kind, with_value, held_line, line_of}
+use Rattle.script.specs.Lines.{line_front, has_end, grown_of, State, event_of, brings_of, after_of, turned_of}
 use Rattle.script.proofs.CutAnywhere.{same_line}
-use Rattle.day_log.specs.declared.Stop.{Stop}
-use Rattle.day_log.specs.Log.{Course, on_line, after_line, after_byte, after_bytes}
+use Rattle.day_log.specs.Log.{Course, on_line, after_line, after_bytes}
 use Rattle.day_log.specs.Groups.{between_at, Between}
 use Rattle.day_log.proofs.Bytes.{Ready, part, part_brings_lem, part_ready, part_line, byte_taken, none_behind}
 

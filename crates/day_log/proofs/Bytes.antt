@@ -1,28 +1,23 @@
 -- A line taken at once is its bytes taken one by one; bytes may be cut anywhere; and the tanks are what the applied edits make of them.
-use mathlib.Core.Path.{◌≡◌, refl, sym, ap, ap₂, subst, ◌∙◌}
+use mathlib.Core.Path.{◌≡◌, refl, sym, ap, ◌∙◌}
 use mathlib.Core.Bool.{Bool, true, false, cond}
-use mathlib.Core.List.{List, [], ◌∷◌, ◌++◌, append-nil, foldl, foldl-append}
-use Prim.Native.Nat.{ℕ, suc, ◌+◌, ◌<◌, ◌≤◌, min}
-use native.Mathlib.Decide.{ℕ_discrete, dec_lt}
+use mathlib.Core.List.{List, [], ◌∷◌, ◌++◌, foldl, foldl-append}
+use Prim.Native.Nat.{ℕ, suc, ◌+◌}
+use native.Mathlib.Decide.{ℕ_discrete}
 use native.Mathlib.Omega.{arith}
 use lib.Dec.{eqb}
-use lib.ListN.{length, drop, get_or, drop_of_length-le}
-use lib.Seq.{drop-cons, drop-nil, drop-drop}
+use lib.ListN.{length, drop}
+use lib.Seq.{drop-nil}
 use Rattle.text.specs.Bytes.{holds}
 use Rattle.text.proofs.Finding.{front_here, front_past, held_here, held_past}
-use Rattle.tanks.specs.declared.Tanks.{Tanks}
 use Rattle.tanks.specs.House.{House, refusal_at, after_at, after_all, Call as Calling}
-use Rattle.tanks.specs.Pool.{meaning}
 use Rattle.script.specs.declared.Call.{Call}
 use Rattle.script.specs.declared.Event.{Event}
-use Rattle.script.specs.declared.Fed.{Fed}
 use Rattle.script.specs.declared.Read.{Read}
-use Rattle.script.specs.declared.Reader.{Reader}
-use Rattle.script.specs.Lines.{line_front, has_end, State, state_of, event_of, read_of, brings_of, after_of, counted_of, Feeds}
+use Rattle.script.specs.Lines.{line_front, has_end, State, event_of, read_of, brings_of, after_of, counted_of}
 use Rattle.script.proofs.CutAnywhere.{same_line, line_cut}
-use Rattle.script.proofs.Unique.{fed_state}
 use Rattle.day_log.specs.declared.Stop.{Stop}
-use Rattle.day_log.specs.Log.{logged, call_of, Course, at_start, going, stopped, read_on, applied, on_line, after_line, after_byte, after_bytes, applied_on, applied_by, applied_all}
+use Rattle.day_log.specs.Log.{logged, call_of, Course, going, stopped, read_on, on_line, after_line, after_byte, after_bytes, applied_on, applied_by, applied_all}
 
 -- ---- cut anywhere
 pub cut_anywhere : (x : Course) (a b : List ℕ) → after_bytes x (a ++ b) ≡ after_bytes (after_bytes x a) b

@@ -2,10 +2,9 @@
 use mathlib.Core.Path.{◌≡◌, refl, sym, ap, ap₂, ◌∙◌}
 use mathlib.Core.List.{List, [], ◌∷◌, ◌++◌, foldl, flatten}
 use Prim.Native.Nat.{ℕ}
-use Rattle.script.specs.Lines.{empty_line, State}
+use Rattle.script.specs.Lines.{empty_line}
 use Rattle.script.proofs.CutLaws.{held_holding}
 use Rattle.tanks.specs.declared.Tanks.{Tanks}
-use Rattle.tanks.specs.Pool.{meaning}
 use Rattle.tanks.proofs.Unique.{unique}
 use Rattle.day_log.specs.declared.Log.{Log}
 use Rattle.day_log.specs.declared.Taken.{Taken}

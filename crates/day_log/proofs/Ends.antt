@@ -1,6 +1,6 @@
 -- What the end of a log hands back, by where it stands.
 use mathlib.Core.Path.{◌≡◌, refl, sym, ap, subst, ◌∙◌}
-use mathlib.Core.Bool.{Bool, true, false, cond}
+use mathlib.Core.Bool.{Bool, false, cond}
 use Prim.Native.Nat.{ℕ}
 use Rattle.script.specs.declared.Ending.{Ending}
 use Rattle.script.specs.Lines.{state_of, counted_of, ending_of}

@@ -1,30 +1,29 @@
 -- A turn of the loop over the groups at the front of some bytes: one line. Behind a group's last line the log stands between two groups; at no
 -- other place of a line does it.
-use mathlib.Core.Path.{◌≡◌, refl, sym, ap, ap₂, subst, ◌∙◌}
-use mathlib.Core.Bool.{Bool, true, false, cond}
-use mathlib.Core.List.{List, [], ◌∷◌, ◌++◌}
-use Prim.Native.Nat.{ℕ, zero, suc, ◌+◌, ◌-◌, ◌<◌, ◌≤◌, min}
+use mathlib.Core.Path.{◌≡◌, refl, sym, ap, subst, ◌∙◌}
+use mathlib.Core.Bool.{true, false}
+use mathlib.Core.List.{List, ◌∷◌}
+use Prim.Native.Nat.{ℕ, suc, ◌+◌, ◌-◌, ◌<◌, ◌≤◌, min}
 use native.Mathlib.Decide.{dec_lt}
 use native.Mathlib.Omega.{arith}
-use lib.Dec.{ltb, eqb}
 use lib.ListN.{length, take, drop, get_or, length-drop, take-append-drop}
 use lib.Seq.{take_all, take-add, drop-cons}
 use borrow.Author.Tests.{eq-eqb, ne_eqb, lt-ltb}
 use Rattle.text.proofs.Finding.{held_by_length}
 use Rattle.tanks.specs.declared.Tanks.{Tanks}
-use Rattle.tanks.specs.House.{House, refusal_at, after_at}
+use Rattle.tanks.specs.House.{House, refusal_at}
 use Rattle.tanks.specs.Pool as pool
 use Rattle.tanks.specs.Promises.{CalledAt}
 use Rattle.tanks.proofs.CallLaws.{after_refused}
 use Rattle.script.specs.declared.Event.{Event}
 use Rattle.script.specs.declared.Fed.{Fed}
 use Rattle.script.specs.declared.Reader.{Reader}
-use Rattle.script.specs.Lines.{line_front, has_end, State, state_of, brings_of, after_of, counted_of, Feeds}
+use Rattle.script.specs.Lines.{line_front, has_end, State, state_of, counted_of, Feeds}
 use Rattle.script.proofs.Unique.{fed_state}
 use Rattle.day_log.specs.declared.Step.{Step}
 use Rattle.day_log.specs.declared.Stop.{Stop}
 use Rattle.day_log.specs.declared.Took.{Took}
-use Rattle.day_log.specs.Log.{logged, call_of, Course, at_start, going, stopped, on_line, after_line, after_bytes, step_of, wrong_line}
+use Rattle.day_log.specs.Log.{logged, call_of, Course, at_start, stopped, on_line, after_line, after_bytes, step_of, wrong_line}
 use Rattle.day_log.specs.Groups.{between_at, Between, begun, after_first, TakesGroups}
 use Rattle.day_log.proofs.Begun.{first_line, line_taken, inside_line, more_begun, begun_not, call_between}
 use Rattle.day_log.proofs.Bytes.{Ready, cut_anywhere, stopped_stays}

@@ -1,10 +1,10 @@
 -- Behind what a log keeps of a line stand zeros, however its bytes came: so where a log stands says all of it.
 use mathlib.Core.Path.{◌≡◌, refl, sym, ap, subst, ◌∙◌}
 use mathlib.Core.Bool.{Bool, true, false, cond}
-use mathlib.Core.List.{List, [], ◌∷◌, ◌++◌}
+use mathlib.Core.List.{List, [], ◌++◌}
 use Prim.Native.Nat.{ℕ, ◌+◌, ◌-◌, ◌≤◌, min}
 use native.Mathlib.Omega.{arith}
-use lib.ListN.{length, take, drop, replicate, length-take, length-append}
+use lib.ListN.{length, drop, replicate, length-take, length-append}
 use lib.Seq.{drop-append-add, drop-drop}
 use Rattle.script.specs.declared.Call.{Call}
 use Rattle.script.specs.declared.Fed.{Fed}

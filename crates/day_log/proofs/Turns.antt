@@ -1,17 +1,15 @@
 -- A turn of the loop over some bytes of a log: one line.
 use mathlib.Core.Path.{◌≡◌, refl, sym, ap, ap₂, subst, ◌∙◌}
 use mathlib.Core.Bool.{Bool, true, false, cond}
-use mathlib.Core.List.{List, [], ◌∷◌, ◌++◌}
+use mathlib.Core.List.{List}
 use Prim.Native.Nat.{ℕ, suc, ◌+◌, ◌<◌, ◌≤◌, min}
 use native.Mathlib.Decide.{dec_lt, ℕ_discrete}
 use native.Mathlib.Omega.{arith}
-use lib.Dec.{eqb}
 use lib.ListN.{length, drop, get_or, drop_of_length-le}
 use lib.Seq.{drop-cons, drop-drop}
 use borrow.Author.Tests.{eq-eqb, ne_eqb}
-use Rattle.tank.specs.Rules.{Edit}
 use Rattle.tanks.specs.declared.Tanks.{Tanks}
-use Rattle.tanks.specs.House.{House, refusal_at, after_at}
+use Rattle.tanks.specs.House.{House, refusal_at}
 use Rattle.tanks.specs.Pool as pool
 use Rattle.tanks.specs.Promises.{CalledAt}
 use Rattle.tanks.proofs.CallLaws.{after_refused}
@@ -28,8 +26,8 @@ use Rattle.day_log.specs.declared.Outcome.{Outcome}
 use Rattle.day_log.specs.declared.Step.{Step}
 use Rattle.day_log.specs.declared.Stop.{Stop}
 use Rattle.day_log.specs.declared.Taken.{Taken}
-use Rattle.day_log.specs.Log.{logged, edit_by, call_of, Course, at_start, going, stopped, read_on, applied, on_line, after_line, after_bytes, step_of, wrong_line, outcome_of, stopped_log, course_of, log_at, Tidy, Sound, Takes}
-use Rattle.day_log.proofs.Bytes.{behind_line, Ready, line_bytes, stopped_stays}
+use Rattle.day_log.specs.Log.{logged, call_of, Course, at_start, going, stopped, read_on, applied, on_line, after_line, after_bytes, step_of, wrong_line, outcome_of, stopped_log, course_of, log_at, Tidy, Sound, Takes}
+use Rattle.day_log.proofs.Bytes.{behind_line, line_bytes, stopped_stays}
 use Rattle.day_log.proofs.Ends.{sound_stopped}
 use Rattle.day_log.proofs.Tidy.{log_of}
 

@@ -1,17 +1,17 @@
 -- The file as it is written and as it is read back, by lists alone.
 use mathlib.Core.Path.{◌≡◌, refl, sym, ap, ap₂, subst, ◌∙◌}
-use mathlib.Core.Bool.{Bool, true, false}
-use mathlib.Core.List.{List, [], ◌∷◌, ◌++◌}
-use Prim.Native.Nat.{ℕ, zero, suc, ◌+◌, ◌-◌, ◌^◌, ◌≤◌, ◌<◌}
+use mathlib.Core.Bool.{false}
+use mathlib.Core.List.{List, [], ◌++◌}
+use Prim.Native.Nat.{ℕ, ◌+◌, ◌-◌, ◌^◌, ◌≤◌, ◌<◌}
 use native.Mathlib.Decide.{dec_lt}
 use native.Mathlib.Omega.{arith}
 use lib.ListN.{length, take, drop, length-append}
 use borrow.Author.Tests.{lt-ltb, le-ltb}
-use Rattle.text.specs.Bytes.{bytes, holds}
+use Rattle.text.specs.Bytes.{holds}
 use Rattle.text.specs.Number.{put}
 use Rattle.text.proofs.Putting.{take_put, put_put}
 use Rattle.text_lines.specs.declared.Taken.{Taken}
-use Rattle.text_lines.specs.Lines.{Got, bad, got, then, line, number_line, number_text, decimal_from, taken_by, got_by}
+use Rattle.text_lines.specs.Lines.{Got, bad, got, then, decimal_from, taken_by, got_by}
 use Rattle.text_lines.proofs.Laws.{taken_is, number_back}
 use Rattle.script.specs.Lines.{counted_of}
 use Rattle.script.specs.Writing.{Puts}
@@ -25,7 +25,7 @@ use Rattle.saved.specs.Saying.{Said, newest, saying, house_in}
 use Rattle.saved.specs.Reads.{restore_number, restore_line, restored, Restores}
 use Rattle.saved.specs.Writes.{written, SaidAgain}
 use Rattle.keeper_file.specs.declared.Back.{Back}
-use Rattle.keeper_file.specs.File.{place_name, place_text, file_of, Filed, in_file, file_says, FiledAgain, back_number, back_line, back_place, back_house, ReadsBack}
+use Rattle.keeper_file.specs.File.{place_name, file_of, Filed, in_file, file_says, FiledAgain, back_number, back_line, back_place, back_house, ReadsBack}
 
 -- ---- Writing
 -- a text that was put to the front of a buffer is its front

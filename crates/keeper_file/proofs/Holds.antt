@@ -3,7 +3,7 @@ use Prim.Native.Nat.{ℕ, zero, suc, ◌+◌, ◌-◌, ◌≤◌, ◌<◌}
 use mathlib.Core.Path.{◌≡◌, refl, sym, ap, ap₂, ◌∙◌}
 use mathlib.Core.List.{List, ◌++◌}
 use native.Mathlib.Omega.{arith}
-use lib.ListN.{length, get_or, take, drop, set, length-set, length-drop}
+use lib.ListN.{length, get_or, drop, set, length-set, length-drop}
 use lib.Seq.{length-take-le, get_or-drop, get_or-set_other}
 use Rattle.laws.proofs.Lists.{stored, stored_is}
 use Rattle.keeper_file.specs.Holding.{cut_out, moved_to_front}

@@ -1,13 +1,12 @@
 -- What is promised of the keeper's file: what was written reads back as its place and its tanks, and no other place and tanks have its text.
 use mathlib.Core.Path.{◌≡◌, refl, sym, ap, ◌∙◌}
-use mathlib.Core.List.{List, [], ◌++◌}
-use Prim.Native.Nat.{ℕ, ◌+◌, ◌^◌, ◌≤◌, ◌<◌}
+use mathlib.Core.List.{[], ◌++◌}
+use Prim.Native.Nat.{ℕ, ◌^◌, ◌≤◌, ◌<◌}
 use native.Mathlib.Omega.{arith}
 use lib.ListN.{length, length-append}
 use Rattle.text.specs.Bytes.{bytes}
 use Rattle.text.specs.Number.{decimal_text}
 use Rattle.text.proofs.Laws.{length_decimal}
-use Rattle.text_lines.specs.Lines.{Got, got}
 use Rattle.text_lines.proofs.Then.{got_inj}
 use Rattle.tanks.specs.declared.Tanks.{Tanks}
 use Rattle.tanks.specs.House.{House}

@@ -2,16 +2,16 @@
 -- taking it at once, and stops where that does.
 use mathlib.Core.Path.{◌≡◌, refl, sym, ap, subst, ◌∙◌}
 use mathlib.Core.Bool.{Bool, true, false, cond}
-use mathlib.Core.List.{List, [], ◌∷◌, ◌++◌, append-nil}
-use Prim.Native.Nat.{ℕ, zero, suc, ◌+◌, ◌-◌, ◌^◌, ◌≤◌, ◌<◌, min}
+use mathlib.Core.List.{List, [], ◌∷◌, ◌++◌}
+use Prim.Native.Nat.{ℕ, ◌+◌, ◌-◌, ◌^◌, ◌≤◌, ◌<◌}
 use native.Mathlib.Decide.{dec_lt}
 use native.Mathlib.Omega.{arith}
 use lib.Dec.{eqb}
 use lib.ListN.{length, take, drop, length-append, length-drop}
-use lib.Seq.{take-append-le, drop-drop}
+use lib.Seq.{take-append-le}
 use Rattle.tanks.specs.declared.Tanks.{Tanks}
 use Rattle.tanks.specs.House.{House, refusal_at, after_at}
-use Rattle.tanks.specs.Pool.{Sound, meaning}
+use Rattle.tanks.specs.Pool.{meaning}
 use Rattle.tanks.proofs.Unique.{unique}
 use Rattle.script.specs.declared.Call.{Call}
 use Rattle.script.specs.declared.Event.{Event}
@@ -23,7 +23,6 @@ use Rattle.day_log.specs.declared.Stop.{Stop}
 use Rattle.day_log.specs.declared.Took.{Took}
 use Rattle.day_log.specs.Log.{Course, logged, call_of, on_line, after_line, after_byte, after_bytes}
 use Rattle.day_log.specs.Groups.{Between, between_at, begun, after_first, TakesGroups}
-use Rattle.day_log.proofs.Bytes.{cut_anywhere}
 use Rattle.day_log.proofs.Grouping.{first_more, first_rest}
 use Rattle.keeper_file.specs.File.{further_by}
 

@@ -1,5 +1,5 @@
 -- The keeper's file: a line that says up to which byte a log has been read, and behind it the saved text of the tanks as they were then.
-use Rattle.std.specs.Prelude.{◌≡◌, Bool, not, cond, List, [], ◌∷◌, ◌++◌, ℕ, ◌+◌, ◌-◌, ◌^◌, ◌≤◌, min, length, take}
+use Rattle.std.specs.Prelude.{◌≡◌, Bool, not, cond, List, [], ◌++◌, ℕ, ◌+◌, ◌-◌, ◌^◌, ◌≤◌, min, length, take}
 use Rattle.text.specs.Bytes.{bytes, same_of}
 use Rattle.text_lines.specs.Lines.{Got, bad, got, then, number_line, number_text}
 use Rattle.script.specs.Lines.{counted_of}
@@ -10,7 +10,6 @@ use Rattle.tanks.specs.House.{House}
 use Rattle.tanks.specs.Pool.{Sound, meaning}
 use Rattle.saved.specs.Saying.{Said, newest, saying, house_in}
 use Rattle.saved.specs.Writes.{written}
-use Rattle.day_log.specs.declared.Took.{Took}
 use Rattle.day_log.specs.Groups.{TakesGroups}
 use Rattle.keeper_file.specs.declared.Back.{Back}
 use Rattle.keeper_file.specs.declared.Fed.{Fed}

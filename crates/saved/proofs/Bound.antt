@@ -23,7 +23,7 @@ use Rattle.styles.specs.declared.Mark.{Mark}
 use Rattle.styles.specs.declared.Party.{Party}
 use Rattle.styles.specs.declared.Party.TheVariants.{Plant, Lab}
 use Rattle.script.specs.Writing.{value_text, counter_text}
-use Rattle.runs.specs.Runs.{Run, run, runs, total}
+use Rattle.runs.specs.Runs.{Run, total}
 use Rattle.runs.proofs.Laws.{length_runs}
 use Rattle.tank.specs.declared.Tank.{Tank}
 use Rattle.tank.specs.State.{runs_of, table_of, view, Formed}

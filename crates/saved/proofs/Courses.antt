@@ -1,12 +1,11 @@
 -- Change request 6 over calls one after another, with restores and openings among the edits, refused ones among them: demand 3 in every house and
 -- every state that is reached, and the length sum from the last opening or accepted restore.
-use Prim.Native.Nat.{ℕ, ◌+◌, ◌-◌, ◌≤◌, ◌<◌}
+use Prim.Native.Nat.{ℕ, ◌+◌, ◌≤◌, ◌<◌}
 use mathlib.Core.Path.{◌≡◌, refl, sym, ap, ◌∙◌, subst}
 use mathlib.Core.Bool.{true, false}
 use mathlib.Core.Logic.{◌≢◌}
 use mathlib.Core.List.{List, [], ◌∷◌, ◌++◌, map, foldl, foldl-append, append_assoc, append-nil}
 use native.Mathlib.Omega.{arith}
-use lib.ListN.{length}
 use Rattle.text_lines.specs.Lines.{Got, bad, got, line}
 use Rattle.styles.specs.declared.Party.{Party}
 use Rattle.styles.specs.declared.Party.TheVariants.{Lab}

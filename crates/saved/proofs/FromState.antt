@@ -7,7 +7,7 @@ use native.Mathlib.Omega.{arith}
 use native.Mathlib.Nat.{pow-suc}
 use lib.Pow.{pow_pos}
 use lib.ListN.{length, get_or}
-use Rattle.runs.specs.Runs.{Run, runs, total}
+use Rattle.runs.specs.Runs.{Run, total}
 use Rattle.runs.specs.Gather.{gather}
 use Rattle.runs.proofs.Laws.{length_runs}
 use Rattle.runs.proofs.MapLaws.{AllSets}

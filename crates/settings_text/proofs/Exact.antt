@@ -1,16 +1,15 @@
 -- One set of pairs, one text: a text is accepted only where it is the text of the pairs that it says, and every such text is.
 use mathlib.Core.Path.{◌≡◌, refl, sym, ap, ap₂, ◌∙◌}
-use mathlib.Core.Bool.{Bool, true, false, cond}
+use mathlib.Core.Bool.{Bool, true, false}
 use mathlib.Core.List.{List, [], ◌∷◌, ◌++◌, append_assoc, append-nil}
-use Prim.Native.Nat.{ℕ, zero, suc, ◌+◌, ◌*◌, ◌≤◌, ◌<◌, ◌^◌}
+use Prim.Native.Nat.{ℕ, zero, suc, ◌+◌, ◌*◌, ◌≤◌}
 use native.Mathlib.Omega.{arith}
-use native.Mathlib.Numerals.{add-one}
 use lib.ListN.{length}
 use Rattle.text.specs.Bytes.{bytes, holds}
 use Rattle.text.proofs.Finding.{held_past}
 use Rattle.text_lines.specs.Lines.{Got, bad, got, then, ended, number_line, number_text}
-use Rattle.text_lines.proofs.Laws.{Numbered, number_only, number_back}
-use Rattle.text_lines.proofs.Then.{Followed, then_got, ended_got, Stopped, at_first, later, then_bad, number_bad, got_inj, NumberThen, number_then}
+use Rattle.text_lines.proofs.Laws.{number_only, number_back}
+use Rattle.text_lines.proofs.Then.{then_got, ended_got, Stopped, at_first, later, then_bad, number_bad, got_inj, number_then}
 use Rattle.tanks.specs.declared.Setting.{Setting}
 use Rattle.settings_text.specs.Text.{share_name, limit_name, version_name, pair_text, pairs_text, settings_text, least_limit, pair_lines, ahead, pairs_lines, settings_of, InRange, AllInRange}
 

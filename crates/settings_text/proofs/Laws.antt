@@ -1,12 +1,11 @@
 -- The lines of pairs, one after another, as the code reads them.
 use mathlib.Core.Path.{◌≡◌, refl, sym, ap, ap₂, ◌∙◌}
-use mathlib.Core.Bool.{Bool, true, false, cond}
+use mathlib.Core.Bool.{Bool, false}
 use mathlib.Core.List.{List, [], ◌∷◌, ◌++◌, append_assoc, append-nil}
-use mathlib.Core.Option.{Option}
 use Prim.Native.Nat.{ℕ, zero, suc, ◌+◌, ◌*◌, ◌-◌, ◌≤◌, ◌<◌}
 use native.Mathlib.Omega.{arith}
 use native.Mathlib.Numerals.{add-one}
-use lib.ListN.{length, drop, take, set, replicate, length-set, drop_of_length-le}
+use lib.ListN.{length, drop, take, set, length-set, drop_of_length-le}
 use lib.Seq.{take-suc-set, take_all, drop-cons}
 use Rattle.text_lines.specs.declared.Taken.{Taken}
 use Rattle.text_lines.specs.Lines.{Got, bad, got, then, ended, number_line, decimal_from, taken_by, got_by}
@@ -14,7 +13,6 @@ use Rattle.text_lines.proofs.Laws.{taken_is, taken_inside}
 use Rattle.tanks.specs.declared.Setting.{Setting}
 use Rattle.settings_text.specs.declared.Pair.{Pair}
 use Rattle.settings_text.specs.declared.Pairs.{Pairs}
-use Rattle.settings_text.specs.declared.Reading.{Reading}
 use Rattle.settings_text.specs.Text.{share_name, limit_name, version_name, least_limit, pair_lines, ahead, pairs_lines, settings_of, reading_of, no_settings, got_pair, got_pairs, ReadsPair, ReadsPairs}
 
 -- a line that the code has read is the one that the text has there

@@ -1,6 +1,6 @@
 -- Settings as a text: `version=1`, then share and limit of tank 0 to tank 7, a line each. What the text of eight pairs is, what a text says, and
 -- which of its lines is the first that is wrong.
-use Rattle.std.specs.Prelude.{◌≡◌, Bool, true, false, cond, List, [], ◌∷◌, ◌++◌, ℕ, zero, suc, ◌+◌, ◌≤◌, length, drop, replicate}
+use Rattle.std.specs.Prelude.{◌≡◌, Bool, false, cond, List, [], ◌∷◌, ◌++◌, ℕ, zero, suc, ◌+◌, ◌≤◌, length, drop, replicate}
 use Rattle.text.specs.Bytes.{bytes}
 use Rattle.text_lines.specs.Lines.{Got, bad, got, then, ended, number_line, number_text}
 use Rattle.tanks.specs.declared.Setting.{Setting}

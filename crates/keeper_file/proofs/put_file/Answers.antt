@@ -23,19 +23,24 @@ returns-then-out-k-2 c =
     record { value = h.0; out_after = h.1 }
 
 pub slice_bounds-put-end : goal.slice_bounds-put-end
-slice_bounds-put-end c = omega (arith, ap length ((let h : take c.put_field-k.result c.put_field-k.new.out ≡ place_text c.args.place = front_text c.put_field-k.ensures (omega (arith, c.put_field-k.ensures.place, c.put_field-k.ensures.few)) in h)), c.put_field-k.ensures.place)
+slice_bounds-put-end c =
+    let line_is : take c.put_field-k.result c.put_field-k.new.out ≡ place_text c.args.place = front_text c.put_field-k.ensures (omega (arith, c.put_field-k.ensures.place, c.put_field-k.ensures.few)) in
+    omega (arith, ap length line_is, c.put_field-k.ensures.place)
 
 pub put-a-requires : goal.put-a-requires
-put-a-requires c = omega (arith, c.if-out-k.false, ap length ((let h : take c.put_field-k.result c.put_field-k.new.out ≡ place_text c.args.place = front_text c.put_field-k.ensures (omega (arith, c.put_field-k.ensures.place, c.put_field-k.ensures.few)) in h)), c.put_field-k.ensures.place)
+put-a-requires c =
+    let line_is : take c.put_field-k.result c.put_field-k.new.out ≡ place_text c.args.place = front_text c.put_field-k.ensures (omega (arith, c.put_field-k.ensures.place, c.put_field-k.ensures.few)) in
+    omega (arith, c.if-out-k.false, ap length line_is, c.put_field-k.ensures.place)
 
 pub put-b-requires : goal.put-b-requires
 put-b-requires c =
     let a = c.args in
+    let line_is : take c.put_field-k.result c.put_field-k.new.out ≡ place_text c.args.place = front_text c.put_field-k.ensures (omega (arith, c.put_field-k.ensures.place, c.put_field-k.ensures.few)) in
     omega (
       arith,
       c.if-out-k-2.false,
       c.if-out-k.false,
-      ap length ((let h : take c.put_field-k.result c.put_field-k.new.out ≡ place_text c.args.place = front_text c.put_field-k.ensures (omega (arith, c.put_field-k.ensures.place, c.put_field-k.ensures.few)) in h)),
+      ap length line_is,
       c.put_field-k.ensures.place,
       c.put-a.ensures.0,
       ap length c.put-a.ensures.1,
@@ -45,10 +50,11 @@ put-b-requires c =
 pub returns : goal.returns
 returns c =
     let a = c.args in
+    let line_is : take c.put_field-k.result c.put_field-k.new.out ≡ place_text c.args.place = front_text c.put_field-k.ensures (omega (arith, c.put_field-k.ensures.place, c.put_field-k.ensures.few)) in
     let l = take c.put_field-k.result c.put_field-k.new.out in
-    let n = ap length ((let h : take c.put_field-k.result c.put_field-k.new.out ≡ place_text c.args.place = front_text c.put_field-k.ensures (omega (arith, c.put_field-k.ensures.place, c.put_field-k.ensures.few)) in h)) in
+    let n = ap length line_is in
     let room : length l + length a.text.now ≤ length a.out.now = omega (arith, c.if-out-k-2.false, c.if-out-k.false, n, c.put_field-k.ensures.place) in
-    let h = handed_full 0 (place_text a.place ++ a.text.now) (l ++ a.text.now) a.out.now c.put-b.new.out c.put-b.result refl (ap (λ (t : List _). t ++ a.text.now) ((let h : take c.put_field-k.result c.put_field-k.new.out ≡ place_text c.args.place = front_text c.put_field-k.ensures (omega (arith, c.put_field-k.ensures.place, c.put_field-k.ensures.few)) in h))) (omega (arith, room, n, length-append (place_text a.place) a.text.now))
+    let h = handed_full 0 (place_text a.place ++ a.text.now) (l ++ a.text.now) a.out.now c.put-b.new.out c.put-b.result refl (ap (λ (t : List _). t ++ a.text.now) line_is) (omega (arith, room, n, length-append (place_text a.place) a.text.now))
     (both_front a.out.now c.put-a.new.out c.put-b.new.out l a.text.now c.put-a.result c.put-b.result c.put-a.ensures.0 c.put-a.ensures.1 c.put-b.ensures.0 c.put-b.ensures.1 room)
     (both_length a.out.now c.put-a.new.out c.put-b.new.out l a.text.now c.put-a.result c.put-b.result c.put-a.ensures.0 c.put-a.ensures.1 c.put-b.ensures.0 c.put-b.ensures.1 room)
     in

@@ -1,5 +1,5 @@
 use mathlib.Core.Path.{refl}
-use Prim.Native.Nat.{◌+◌, ◌*◌, ◌-◌}
+use Prim.Native.Nat.{◌+◌, ◌*◌}
 use native.Mathlib.Omega.{arith}
 use Rattle.settings_text.specs.Text.{ReadsPair}
 use Rattle.settings_text.proofs.Laws.{underway_none, pair_wrong, pair_read, pairs_read}

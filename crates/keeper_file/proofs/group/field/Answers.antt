@@ -1,6 +1,7 @@
 use mathlib.Core.Path.{◌≡◌, sym, ap, ◌∙◌}
+use mathlib.Core.Bool.{false}
 use mathlib.Core.List.{List}
-use Prim.Native.Nat.{ℕ, suc, ◌+◌, ◌-◌, ◌≤◌}
+use Prim.Native.Nat.{ℕ, suc, ◌+◌, ◌-◌, ◌<◌, ◌≤◌}
 use native.Mathlib.Omega.{arith}
 use lib.ListN.{length, drop, length-drop, drop_of_length-le}
 use lib.Seq.{drop-drop}
@@ -9,6 +10,14 @@ use Rattle.text.proofs.Finding.{front_part, front_length}
 use Rattle.keeper_file.specs.Group.{newline, number_behind, field_in}
 use Rattle.keeper_file.proofs.Fields.{field_none, field_here, field_past}
 use Rattle.keeper_file.proofs.group.field.Goals as goal
+
+-- past a line that does not begin with the name
+on : (left at next : ℕ) (name bytes : List ℕ) → 0 < left → next ≡ at + suc (length (up_to newline (drop at bytes))) → starts_of (up_to newline (drop at bytes)) name ≡ false
+    → field_in (left - 1) name (drop next bytes) ≡ field_in left name (drop at bytes)
+on left at next name bytes more e none =
+    ap (λ (k : ℕ). field_in (left - 1) name (drop k bytes)) e
+    ∙ ap (field_in (left - 1) name) (sym (drop-drop (suc (length (up_to newline (drop at bytes)))) at bytes))
+    ∙ sym (field_past left name (drop at bytes) more none)
 
 pub returns-then-bytes-end : goal.returns-then-bytes-end
 returns-then-bytes-end c =
@@ -30,39 +39,28 @@ pub returns-then-starts : goal.returns-then-starts
 returns-then-starts c =
     let w = c.loop-left in
     let a = c.args in
+    let starts_is = c.starts.ensures ∙ ap (λ (l : List ℕ). starts_of l a.name.now) (front_part newline a.bytes.now w.at c.find-end.result c.find-end.ensures) in
     c.behind.ensures
     ∙ ap (number_behind a.name.now) (front_part newline a.bytes.now w.at c.find-end.result c.find-end.ensures)
-    ∙ sym (field_here w.left a.name.now (drop w.at a.bytes.now) c.loop-left-test.true (sym ((let h : c.starts.result ≡ starts_of (up_to newline (drop c.loop-left.at c.args.bytes.now)) c.args.name.now = let a = c.args in
-    c.starts.ensures ∙ ap (λ (l : List ℕ). starts_of l a.name.now) (front_part newline a.bytes.now c.loop-left.at c.find-end.result c.find-end.ensures) in h)) ∙ c.if-starts.true))
+    ∙ sym (field_here w.left a.name.now (drop w.at a.bytes.now) c.loop-left-test.true (sym starts_is ∙ c.if-starts.true))
     ∙ w.invariant
 
 pub returns-then-bytes-end-2 : goal.returns-then-bytes-end-2
 returns-then-bytes-end-2 c =
     let w = c.loop-left in
     let a = c.args in
+    let starts_is = c.starts.ensures ∙ ap (λ (l : List ℕ). starts_of l a.name.now) (front_part newline a.bytes.now w.at c.find-end.result c.find-end.ensures) in
+    let on_is = on w.left w.at (c.find-end.result + 1) a.name.now a.bytes.now c.loop-left-test.true (omega (arith, c.find-end.ensures)) (sym starts_is ∙ c.if-starts.false) ∙ w.invariant in
     sym (field_none (w.left - 1) a.name.now)
     ∙ ap (field_in (w.left - 1) a.name.now) (sym (drop_of_length-le a.bytes.now {i = c.find-end.result + 1} (omega (arith, c.if-bytes-end-2.true))))
-    ∙ (let h : field_in (c.loop-left.left - 1) c.args.name.now (drop (c.find-end.result + 1) c.args.bytes.now) ≡ field_in c.args.lines c.args.name.now (drop c.args.from c.args.bytes.now) = let w = c.loop-left in
-    let a = c.args in
-    let t = drop w.at a.bytes.now in
-    let e : c.find-end.result + 1 ≡ w.at + suc (length (up_to newline t)) = omega (arith, c.find-end.ensures) in
-    ap (λ (k : ℕ). field_in (w.left - 1) a.name.now (drop k a.bytes.now)) e
-    ∙ ap (field_in (w.left - 1) a.name.now) (sym (drop-drop (suc (length (up_to newline t))) w.at a.bytes.now))
-    ∙ sym (field_past w.left a.name.now t c.loop-left-test.true (sym ((let h : c.starts.result ≡ starts_of (up_to newline (drop c.loop-left.at c.args.bytes.now)) c.args.name.now = let a = c.args in
-    c.starts.ensures ∙ ap (λ (l : List ℕ). starts_of l a.name.now) (front_part newline a.bytes.now c.loop-left.at c.find-end.result c.find-end.ensures) in h)) ∙ c.if-starts.false))
-    ∙ w.invariant in h)
+    ∙ on_is
 
 pub loop-left-preserved : goal.loop-left-preserved
 loop-left-preserved c =
-    (let h : field_in (c.loop-left.left - 1) c.args.name.now (drop (c.find-end.result + 1) c.args.bytes.now) ≡ field_in c.args.lines c.args.name.now (drop c.args.from c.args.bytes.now) = let w = c.loop-left in
+    let w = c.loop-left in
     let a = c.args in
-    let t = drop w.at a.bytes.now in
-    let e : c.find-end.result + 1 ≡ w.at + suc (length (up_to newline t)) = omega (arith, c.find-end.ensures) in
-    ap (λ (k : ℕ). field_in (w.left - 1) a.name.now (drop k a.bytes.now)) e
-    ∙ ap (field_in (w.left - 1) a.name.now) (sym (drop-drop (suc (length (up_to newline t))) w.at a.bytes.now))
-    ∙ sym (field_past w.left a.name.now t c.loop-left-test.true (sym ((let h : c.starts.result ≡ starts_of (up_to newline (drop c.loop-left.at c.args.bytes.now)) c.args.name.now = let a = c.args in
-    c.starts.ensures ∙ ap (λ (l : List ℕ). starts_of l a.name.now) (front_part newline a.bytes.now c.loop-left.at c.find-end.result c.find-end.ensures) in h)) ∙ c.if-starts.false))
-    ∙ w.invariant in h)
+    let starts_is = c.starts.ensures ∙ ap (λ (l : List ℕ). starts_of l a.name.now) (front_part newline a.bytes.now w.at c.find-end.result c.find-end.ensures) in
+    on w.left w.at (c.find-end.result + 1) a.name.now a.bytes.now c.loop-left-test.true (omega (arith, c.find-end.ensures)) (sym starts_is ∙ c.if-starts.false) ∙ w.invariant
 
 pub returns : goal.returns
 unfolding field_in

@@ -1,6 +1,5 @@
 -- Line after line: what the lines that are left say is what all of them say.
 use mathlib.Core.Path.{◌≡◌}
-use Prim.Native.Nat.{◌-◌}
 use lib.ListN.{drop}
 use Rattle.keeper_file.specs.Group.{field_in}
 use Rattle.keeper_file.proofs.group.field.Given as goal

@@ -1,4 +1,3 @@
-use Prim.Native.Nat.{◌-◌}
 use mathlib.Core.Path.{refl}
 use Rattle.keeper_file.proofs.Holds.{moved_none, moved_on, moved_all}
 use Rattle.keeper_file.proofs.holding.hold.Goals as goal

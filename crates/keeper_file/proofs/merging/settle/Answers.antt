@@ -15,4 +15,4 @@ renew-requires c = c.requires.tanks
 pub returns : goal.returns
 returns c =
     let a = c.args in
-    settled_all a.m a.place a.kept.now a.next.now c.renew.result c.renew.new.next.1.1.0 c.in-Going.is c.renew.ensures
+    settled_all a.m a.place a.kept.now a.next.now c.renew.result c.renew.new.next c.in-Going.is c.renew.ensures

@@ -1,7 +1,6 @@
 -- The first line, the pairs, and the opening's own rule.
 use mathlib.Core.Path.{sym, ◌∙◌}
 use native.Mathlib.Omega.{arith}
-use Rattle.text_lines.specs.declared.Taken.{Taken}
 use Rattle.text_lines.specs.Lines.{decimal_from}
 use Rattle.text_lines.proofs.Laws.{taken_inside}
 use Rattle.settings_text.specs.Text.{version_name}

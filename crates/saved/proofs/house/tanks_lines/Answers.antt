@@ -1,4 +1,3 @@
-use Prim.Native.Nat.{◌-◌}
 use native.Mathlib.Omega.{arith}
 use Rattle.tanks.proofs.SettingLaws as rule
 use Rattle.saved.proofs.Restoring.{filling_none, tank_wrong, sum_wrong, tank_more, filling_done}

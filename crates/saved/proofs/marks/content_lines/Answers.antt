@@ -1,14 +1,11 @@
 -- A line after the other: the first that is wrong is the mark's.
 use mathlib.Core.Path.{sym, ap, ◌∙◌}
-use Prim.Native.Nat.{◌+◌, ◌≤◌}
 use native.Mathlib.Omega.{arith}
 use borrow.Author.Rules.{rules}
 use lib.IntN.{ℤ}
-use lib.ListN.{length}
 use mir.Syntax.{w32}
 use mir.Facts.{to_z-of_z}
 use Rattle.text.specs.Bytes.{bytes}
-use Rattle.text_lines.specs.declared.Taken.{Taken}
 use Rattle.text_lines.specs.Lines.{decimal_from}
 use Rattle.text_lines.proofs.Laws.{taken_inside}
 use Rattle.saved.specs.Saying.{mark_with}

@@ -1,11 +1,9 @@
 -- The party, the identity behind the mark of that party, and the rest.
 use mathlib.Core.Path.{subst}
 use mathlib.Core.Option.{Option}
-use Prim.Native.Nat.{ℕ, ◌+◌, ◌≤◌}
+use Prim.Native.Nat.{ℕ}
 use native.Mathlib.Omega.{arith}
-use lib.ListN.{length}
 use Rattle.styles.specs.declared.Mark.{Mark}
-use Rattle.saved.specs.Saying.{party_least, own_before}
 use Rattle.saved.specs.Reads.{mark_before, ReadsParty, ReadsIdentity}
 use Rattle.saved.proofs.MarksRead as marks
 use Rattle.saved.proofs.marks.mark_lines.Goals as goal

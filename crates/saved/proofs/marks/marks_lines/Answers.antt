@@ -1,4 +1,3 @@
-use Prim.Native.Nat.{◌-◌}
 use native.Mathlib.Omega.{arith}
 use Rattle.saved.proofs.MarksRead.{marks_none, mark_wrong, mark_more, marks_done}
 use Rattle.saved.proofs.marks.marks_lines.Goals as goal

@@ -1,10 +1,9 @@
 -- A line after the other, then the marks.
-use mathlib.Core.Path.{◌≡◌, sym, ap, ◌∙◌}
+use mathlib.Core.Path.{sym, ap, ◌∙◌}
 use Prim.Native.Nat.{ℕ, ◌+◌, ◌^◌, ◌≤◌}
 use native.Mathlib.Omega.{arith}
 use lib.Dec.{eqb}
 use Rattle.text.specs.Bytes.{bytes}
-use Rattle.text_lines.specs.declared.Taken.{Taken}
 use Rattle.text_lines.specs.Lines.{taken_by, decimal_from}
 use Rattle.text_lines.proofs.Laws.{taken_inside}
 use Rattle.saved.specs.Saying.{least_length, most_length, most_marks}

@@ -1,9 +1,8 @@
 -- A line after the other, and the set against the one before it.
-use mathlib.Core.Path.{◌≡◌, sym, ◌∙◌}
+use mathlib.Core.Path.{sym, ◌∙◌}
 use Prim.Native.Nat.{◌-◌, ◌^◌}
 use Rattle.text.specs.Bytes.{bytes}
-use Rattle.text_lines.specs.declared.Taken.{Taken}
-use Rattle.text_lines.specs.Lines.{taken_by, decimal_from}
+use Rattle.text_lines.specs.Lines.{decimal_from}
 use Rattle.text_lines.proofs.Laws.{taken_inside}
 use Rattle.saved.specs.Reads.{before_by}
 use Rattle.saved.proofs.RunsRead.{len_wrong, set_wrong, same_wrong, run_read}

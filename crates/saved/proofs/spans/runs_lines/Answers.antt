@@ -1,7 +1,4 @@
-use Prim.Native.Nat.{◌+◌, ◌*◌, ◌-◌}
 use native.Mathlib.Omega.{arith}
-use lib.Dec.{eqb}
-use Rattle.saved.specs.Reads.{before_by, ReadsRun}
 use Rattle.saved.proofs.RunsRead.{underway_none, run_wrong, run_more, runs_done}
 use Rattle.saved.proofs.spans.runs_lines.Goals as goal
 

@@ -18,4 +18,4 @@ unfolding saved_mark
 returns c =
     let fits : SFits w32 c.args.m.cnt = record { sfits = search rules } in
     let counter = lays_as (ap counter_text (to_z-of_z fits)) c.lay_counter-b.ensures in
-    let flags = lays_as (ap (number_text (bytes "flags=")) c.wide8.ensures.0) c.lay_number-c.ensures in record { lays = lays_more (omega arith) (lays_then (lays_then (lays_then c.lay_identity-a.ensures counter) flags) c.lay_value.ensures); fits_mark = fits_mark c.args.m c.struct_told-1.given }
+    let flags = lays_as (ap (number_text (bytes "flags=")) c.wide8.ensures.0) c.lay_number-c.ensures in record { lays = lays_more (omega arith) (lays_then (lays_then (lays_then c.lay_identity-a.ensures counter) flags) c.lay_value.ensures); fits_mark = fits_mark c.args.m (search rules) }

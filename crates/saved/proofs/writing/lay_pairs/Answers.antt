@@ -1,5 +1,4 @@
 use native.Mathlib.Omega.{arith}
-use Prim.Native.Nat.{◌-◌}
 use mathlib.Core.Path.{refl, ap}
 use lib.Seq.{take_all}
 use Rattle.settings_text.specs.Text.{pairs_text}

@@ -1,5 +1,5 @@
 use native.Mathlib.Omega.{arith}
-use Prim.Native.Nat.{ℕ, ◌-◌}
+use Prim.Native.Nat.{ℕ}
 use mathlib.Core.Path.{refl, subst}
 use Rattle.tank.specs.Rules.{View, carried}
 use Rattle.tank.specs.State.{view}
