@@ -14,7 +14,7 @@ use Rattle.text.specs.Bytes.{up_to, holds, starts_of}
 use Rattle.text.specs.Number.{decimal_of}
 use Rattle.text.proofs.Finding.{front_take, front_length, front_part, held_by_length}
 use Rattle.text.proofs.Prefix.{rest_part}
-use Rattle.text_lines.specs.Lines.{Got, bad, got, then, behind, named, line, within, decimal_from}
+use Rattle.text_lines.specs.Lines.{Got, bad, got, then, behind, named, line, decimal_from}
 use Rattle.text_lines.proofs.Ends.{held_inside}
 use Rattle.key_names.specs.declared.Names.{Names}
 use Rattle.key_names.specs.declared.NamesRead.{NamesRead}

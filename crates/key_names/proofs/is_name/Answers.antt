@@ -1,5 +1,4 @@
 use mathlib.Core.Path.{sym, ◌∙◌}
-use Prim.Native.Nat.{◌-◌}
 use Rattle.key_names.proofs.Spelled.{name_empty, name_long, name_on, name_stop, name_all}
 use Rattle.key_names.proofs.is_name.Goals as goal
 

@@ -1,4 +1,3 @@
-use Prim.Native.Nat.{◌-◌}
 use native.Mathlib.Omega.{arith}
 use Rattle.key_names.specs.Names.{held_in, names_of}
 use Rattle.key_names.proofs.Held.{key_start, key_here, key_on, key_none}

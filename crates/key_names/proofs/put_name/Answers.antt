@@ -1,5 +1,5 @@
 use mathlib.Core.Path.{refl}
-use Prim.Native.Nat.{◌*◌, ◌-◌, ◌≤◌, zero-le}
+use Prim.Native.Nat.{◌*◌, ◌≤◌, zero-le}
 use native.Mathlib.Omega.{arith}
 use lib.ListN.{drop, get_or}
 use lib.Seq.{paste-zero}

@@ -1,4 +1,3 @@
-use Prim.Native.Nat.{◌-◌}
 use native.Mathlib.Omega.{arith}
 use Rattle.key_names.specs.declared.NameLine.{NameLine}
 use Rattle.key_names.specs.Names.{NextLine}

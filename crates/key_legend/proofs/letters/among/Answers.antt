@@ -1,4 +1,3 @@
-use Prim.Native.Nat.{◌-◌}
 use Rattle.key_legend.proofs.Drawn.{among_here, among_on, among_none}
 use Rattle.key_legend.proofs.letters.among.Goals as goal
 
