@@ -31,7 +31,7 @@ pub put_bad-k-requires : goal.put_bad-k-requires
 put_bad-k-requires c = omega (arith, c.requires.most_body_in_bounds.1, c.loop-from.invariant.2)
 
 pub shape_of-body-in-Bad : goal.shape_of-body-in-Bad
-shape_of-body-in-Bad c = (let h : length c.take-t.new.body.1.1.0 ≡ length c.args.body.now = search rules in h)
+shape_of-body-in-Bad c = search rules
 
 pub shape_of-out-in-Bad : goal.shape_of-out-in-Bad
 shape_of-out-in-Bad c = c.put_bad-k.auto.out ∙ c.loop-from.invariant.2

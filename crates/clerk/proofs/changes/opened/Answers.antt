@@ -11,5 +11,5 @@ use Rattle.clerk.proofs.changes.opened.Goals as goal
 pub returns : goal.returns
 unfolding changed change_says
 returns c =
-    let opens = subst (λ (st : List Setting). Opens st c.«open».result) c.settings.ensures c.«open».ensures in
+    let opens = subst (λ (st : List Setting). Opens st c.open-o.result) c.settings.ensures c.open-o.ensures in
     record { sound = opens.sound; is = opens.is; answer = adds_as (ap accepted_says opens.number_is) c.accept-k.ensures }

@@ -18,7 +18,7 @@ module _ {A : Type 0} (f : Asked → A) (other : A) (a b : Asked) (e : a ≡ b) 
 pub returns-then-a : goal.returns-then-a
 unfolding both_house both_side both_says
 returns-then-a c =
-    let o = c.«open».ensures in
+    let o = c.open-o.ensures in
     let a = c.ask-a.ensures in
     let t = c.if-a.true in
     record {

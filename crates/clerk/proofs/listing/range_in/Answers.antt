@@ -13,7 +13,7 @@ pub put_list-requires : goal.put_list-requires
 put_list-requires c =
     let a = c.args in
     let lent = range_number (start_in a.call) (end_in a.call) (length a.part.now) in
-    (search rules, list_inside a.heads a.pool a.table (tank_for a.call) a.who lent lent (range_list (start_in a.call) (end_in a.call)) (λ k. refl) a.part.now _ _ c.list_range-l.ensures)
+    (search rules, list_inside a.heads a.pool a.table (tank_for a.call) a.who lent lent (range_list (start_in a.call) (end_in a.call)) (λ k. refl) a.part.now _ _ (c.list_range-l.ensures.value, c.list_range-l.ensures.out_after))
 
 pub returns : goal.returns
 unfolding list_look_says
@@ -22,5 +22,5 @@ returns c =
     let lent = range_number (start_in a.call) (end_in a.call) (length a.part.now) in
     let named = range_number (start_in a.call) (end_in a.call) (number_at a.call 3) in
     adds_as
-    (list_said a.heads a.pool a.table (tank_for a.call) a.who lent named (range_list (start_in a.call) (end_in a.call)) (λ k. range_room (c.requires.can_ask k) a.who (number_at a.call 3) (length a.part.now) c.requires.part_len.0 (start_in a.call) (end_in a.call)) a.part.now _ _ c.list_range-l.ensures)
+    (list_said a.heads a.pool a.table (tank_for a.call) a.who lent named (range_list (start_in a.call) (end_in a.call)) (λ k. range_room (c.requires.can_ask k) a.who (number_at a.call 3) (length a.part.now) c.requires.part_len.0 (start_in a.call) (end_in a.call)) a.part.now _ _ (c.list_range-l.ensures.value, c.list_range-l.ensures.out_after))
     c.put_list.ensures

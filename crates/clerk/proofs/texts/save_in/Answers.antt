@@ -16,7 +16,7 @@ pub text_or-requires : goal.text_or-requires
 text_or-requires c =
     let a = c.args in
     let w = c.write-l.ensures in
-    (search rules, saved_inside (write_number (length a.part.now) (meaning a.s)) (written (meaning a.s)) a.part.now _ _ w.0 w.1.0, omega (arith, c.write-l.auto.1.0, c.requires.part_len.0))
+    (search rules, saved_inside (write_number (length a.part.now) (meaning a.s)) (written (meaning a.s)) a.part.now _ _ w.value w.out_after, omega (arith, c.write-l.auto.out, c.requires.part_len.0))
 
 pub returns : goal.returns
 unfolding save_says
@@ -24,6 +24,6 @@ returns c =
     let a = c.args in
     let w = c.write-l.ensures in
     adds_as
-    (saved_said (write_number (length a.part.now) (meaning a.s)) (written (meaning a.s)) a.part.now _ _ w.0 w.1.0
+    (saved_said (write_number (length a.part.now) (meaning a.s)) (written (meaning a.s)) a.part.now _ _ w.value w.out_after
     ∙ ap (λ (n : ℕ). or_refused n (bytes_say (written (meaning a.s)))) (save_room a.s c.requires.sound a.room _ c.requires.part_len.0))
     c.text_or.ensures
