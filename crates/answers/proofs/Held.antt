@@ -11,7 +11,7 @@ use borrow.Author.Tests.{le-leb, lt-leb}
 use Rattle.text.specs.Number.{put}
 use Rattle.text.proofs.Putting.{put_room, put_put}
 use Rattle.script.specs.Writing.{free_at, most_written, again_at}
-use Rattle.answers.specs.Waiting.{Pieces, Waiting, waiting, piece_room, with, with_all, Short, front, goes_out, sent}
+use Rattle.answers.specs.Waiting.{Pieces, Waiting, waiting, piece_room, with, with_all, Short, front, sent}
 use Rattle.answers.proofs.Sent.{put_length, free_inside}
 
 -- ---- Nothing goes out

@@ -2,14 +2,14 @@
 use mathlib.Core.Path.{◌≡◌, sym, ap, ◌∙◌}
 use mathlib.Core.Bool.{Bool, true, false, cond}
 use mathlib.Core.List.{List, [], ◌∷◌, ◌++◌, append_assoc, append-nil, flatten}
-use Prim.Native.Nat.{ℕ, ◌+◌, ◌-◌, ◌≤◌}
+use Prim.Native.Nat.{ℕ, ◌+◌, ◌≤◌}
 use native.Mathlib.Decide.{dec_lt}
 use native.Mathlib.Omega.{arith}
 use lib.Dec.{leb}
 use lib.ListN.{length, take, drop, length-append, length-take, length-drop}
 use borrow.Author.Tests.{le-leb, lt-leb}
 use Rattle.text.specs.Number.{put}
-use Rattle.text.proofs.Putting.{put_room, take_put}
+use Rattle.text.proofs.Putting.{take_put}
 use Rattle.script.specs.Writing.{free_at, most_written, again_at}
 use Rattle.answers.specs.Waiting.{Pieces, Waiting, waiting, piece_room, with, with_all, Short, Adds, front, goes_out, sent}
 

@@ -7,7 +7,7 @@ use Rattle.text.specs.Bytes.{bytes}
 use Rattle.text.specs.Number.{places_from, decimal_text}
 use Rattle.styles.specs.Marks.{blank, only}
 use Rattle.key_names.specs.Names.{Named, key_text}
-use Rattle.glance.specs.Glance.{each_from, row_front, row_marks, row_end, marked_to, cell_of, entry_text, legend_says}
+use Rattle.glance.specs.Glance.{each_from, row_front, row_marks, row_end, marked_to, cell_of, legend_says}
 
 -- tank 5 of the keeper's example, but for its marks
 row : flatten (row_front 5 (record { share = 48; limit = 200 }) 15 ++ row_marks [] ++ row_end true 4611686018427387928) ≡ bytes "   5      48     200      15             0           0       yes   4611686018427387928\n"

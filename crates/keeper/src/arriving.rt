@@ -9,6 +9,7 @@ use super::kept::{Feeding, Kept, fed, from_place, load, say_overtaken};
 use super::refusing::stopped;
 use super::words::{failed, note, tell, tell_number, wrong};
 use day_log::Stop;
+use std::io::Read;
 
 fn gone() -> Arrived
     ensures held_bound { result.held ≤ 65536 }
@@ -61,7 +62,14 @@ fn holding(bytes: &mut [u8], at: usize, end: usize, lines: u64) -> Arrived
 }
 
 // What is said of a read that has been kept; what it did not take is held.
-fn told(state: &[u8], bytes: &mut [u8], end: usize, lines: u64, f: Feeding) -> Arrived
+fn told(
+    rt: HostRuntime,
+    state: &[u8],
+    bytes: &mut [u8],
+    end: usize,
+    lines: u64,
+    f: Feeding,
+) -> Arrived
     requires { end ≤ length bytes.old }
     ensures held_bound { result.held ≤ 65536 }
     ensures held_value { result.over ≡ false → (result.held ≡ end - min f.at end) × (bytes.new ≡ moved_to_front (min f.at end) end bytes.old) }
@@ -77,6 +85,7 @@ fn told(state: &[u8], bytes: &mut [u8], end: usize, lines: u64, f: Feeding) -> A
             let at = within(least(f.at, end), bytes);
             let n = less(line, f.lines);
             stopped(
+                rt,
                 state,
                 b"standard input",
                 plus(lines, line),
@@ -91,6 +100,7 @@ fn told(state: &[u8], bytes: &mut [u8], end: usize, lines: u64, f: Feeding) -> A
 
 // The groups that have come are kept, and then said; where reading goes on, what is behind them stands in front.
 fn taken(
+    rt: HostRuntime,
     state: &[u8],
     k: Kept,
     text: &mut [u8],
@@ -104,23 +114,31 @@ fn taken(
     ensures held_of { result.over ≡ false → HeldOf end bytes.old result.held bytes.new }
 {
     let n = within(end, bytes);
-    let f = fed(state, k, &bytes[..n], text, sync);
+    let f = fed(rt, state, k, &bytes[..n], text, sync);
     if f.good {
-        return told(state, bytes, end, lines, f);
+        return told(rt, state, bytes, end, lines, f);
     }
     left(f.other)
 }
 
-fn more(state: &[u8], bytes: &mut [u8], end: usize, lines: u64, afresh: bool, sync: bool) -> Arrived
+fn more(
+    rt: HostRuntime,
+    state: &[u8],
+    bytes: &mut [u8],
+    end: usize,
+    lines: u64,
+    afresh: bool,
+    sync: bool,
+) -> Arrived
     requires { end ≤ length bytes.old }
     ensures held_bound { result.held ≤ 65536 }
     ensures held_of { result.over ≡ false → HeldOf end bytes.old result.held bytes.new }
 {
     let mut text = clerk::body_room();
-    let k = load(state, &mut text);
+    let k = load(rt, state, &mut text);
     if k.good {
         let from = from_place(k, afresh);
-        return taken(state, from, &mut text, bytes, end, lines, sync);
+        return taken(rt, state, from, &mut text, bytes, end, lines, sync);
     }
     gone()
 }
@@ -128,6 +146,7 @@ fn more(state: &[u8], bytes: &mut [u8], end: usize, lines: u64, afresh: bool, sy
 // What has come is kept. Where another keeper was quicker, nothing of it was: it is taken again, on what STATE says now, since nothing can be
 // read twice.
 fn insist(
+    rt: HostRuntime,
     state: &[u8],
     bytes: &mut [u8],
     end: usize,
@@ -140,7 +159,7 @@ fn insist(
 {
     let mut tries: u64 = 100;
     while tries > 0 {
-        let a = more(state, bytes, end, lines, afresh, sync);
+        let a = more(rt, state, bytes, end, lines, afresh, sync);
         if a.again {
             tries -= 1;
         } else {
@@ -164,6 +183,7 @@ fn ended(held: usize) {
 
 // One read: it is on disk before anything is said of it.
 fn arrive(
+    rt: HostRuntime,
     state: &[u8],
     bytes: &mut [u8],
     held: usize,
@@ -175,22 +195,25 @@ fn arrive(
     ensures { result.held ≤ 65536 }
 {
     let mut buf = io::large_buffer();
-    let got = libc::read(0, &mut buf);
-    if got < 0 {
-        failed(b"standard input", b" can't be read");
-        return gone();
+    let mut from = rt.stdin();
+    match from.read(&mut buf) {
+        Ok(n) => {
+            if n == 0 {
+                ended(held);
+                return gone();
+            }
+            let end = text::put(bytes, held, &buf[..n]);
+            insist(rt, state, bytes, end, lines, afresh, sync)
+        }
+        Err(e) => {
+            failed(b"standard input", b" can't be read", e);
+            gone()
+        }
     }
-    let n = io::count(got, &buf);
-    if n == 0 {
-        ended(held);
-        return gone();
-    }
-    let end = text::put(bytes, held, &buf[..n]);
-    insist(state, bytes, end, lines, afresh, sync)
 }
 
 // Read after read: the count of turns is one that no run uses up.
-fn arrivals(state: &[u8], bytes: &mut [u8], afresh: bool, sync: bool)
+fn arrivals(rt: HostRuntime, state: &[u8], bytes: &mut [u8], afresh: bool, sync: bool)
     requires { 131072 ≤ length bytes.old }
 {
     let mut first = afresh;
@@ -198,7 +221,7 @@ fn arrivals(state: &[u8], bytes: &mut [u8], afresh: bool, sync: bool)
     let mut lines: u64 = 0;
     let mut turns: u64 = 18446744073709551615;
     while turns > 0 {
-        let a = arrive(state, bytes, held, lines, first, sync);
+        let a = arrive(rt, state, bytes, held, lines, first, sync);
         held = a.held;
         lines = a.lines;
         first = false;
@@ -210,16 +233,16 @@ fn arrivals(state: &[u8], bytes: &mut [u8], afresh: bool, sync: bool)
 }
 
 // STATE is there and whole.
-fn readable(state: &[u8]) -> bool {
+fn readable(rt: HostRuntime, state: &[u8]) -> bool {
     let mut text = clerk::body_room();
-    let k = load(state, &mut text);
+    let k = load(rt, state, &mut text);
     k.good
 }
 
 // Takes standard input as what follows of the log, or as a new one from its start, which is kept with what the first read brings.
-pub fn feed_input(state: &[u8], afresh: bool, sync: bool) {
-    if readable(state) {
+pub fn feed_input(rt: HostRuntime, state: &[u8], afresh: bool, sync: bool) {
+    if readable(rt, state) {
         let mut bytes = clerk::body_room();
-        arrivals(state, &mut bytes, afresh, sync);
+        arrivals(rt, state, &mut bytes, afresh, sync);
     }
 }

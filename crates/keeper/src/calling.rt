@@ -12,6 +12,7 @@ use super::files::within;
 use super::kept::{Kept, Saving, blank, keeping, load, save, sized};
 use super::words::{complain, failed};
 use clerk::Stand;
+use std::io::Read;
 
 // Where a script stands after a line: whether it is over, STATE as it is kept, and where the clerk stands.
 #[derive(Clone, Copy)]
@@ -29,22 +30,24 @@ fn tell_over(over: bool) {
 }
 
 // Writes what waits of the answers, and says whether the script goes on.
-fn handed(out: &[u8], at: usize, over: bool) -> bool {
+fn handed(rt: HostRuntime, out: &[u8], at: usize, over: bool) -> bool {
     let n = within(at, out);
-    if io::write_all(1, &out[..n]) {
-        tell_over(over);
-        return !over;
+    if let Err(e) = rt.write_all(&out[..n]) {
+        failed(
+            b"standard output",
+            b" can't be written: the script ends here, and what it has changed up to here is kept",
+            e,
+        );
+        return false;
     }
-    failed(
-        b"standard output",
-        b" can't be written: the script ends here, and what it has changed up to here is kept",
-    );
-    false
+    tell_over(over);
+    !over
 }
 
 // The answers of a line, where there are any: they are written when what it changed is kept. A line without one has changed nothing, so that
 // what is kept says the tanks in hand either way.
 fn answers(
+    rt: HostRuntime,
     state: &[u8],
     k: Kept,
     at: usize,
@@ -64,10 +67,10 @@ fn answers(
         };
     }
     let s = k.tanks;
-    let w = save(state, s, k.place, text, k.size, sync);
+    let w = save(rt, state, s, k.place, text, k.size, sync);
     if w.good {
         return Saving {
-            good: handed(out, at, over),
+            good: handed(rt, out, at, over),
             other: false,
             size: w.size,
         };
@@ -78,6 +81,7 @@ fn answers(
 
 // One line of a script: afterwards what is kept is in step, or the script is over.
 fn line(
+    rt: HostRuntime,
     state: &[u8],
     k: Kept,
     part: &[u8],
@@ -98,7 +102,7 @@ fn line(
     let next = e.stand;
     let tanks = e.tanks;
     let kept = keeping(k, tanks);
-    let w = answers(state, kept, next.at, next.over, text, out, sync);
+    let w = answers(rt, state, kept, next.at, next.over, text, out, sync);
     Lined {
         over: !w.good,
         kept: sized(kept, w.size),
@@ -108,6 +112,7 @@ fn line(
 
 // The lines of one read.
 fn lines(
+    rt: HostRuntime,
     state: &[u8],
     bytes: &[u8],
     kept: Kept,
@@ -126,7 +131,8 @@ fn lines(
     let mut from = 0;
     while from < bytes.len() {
         let end = line_end(bytes, from);
-        let l = line(state, k, &bytes[from..end], stand, text, body, out, sync);
+        let part = &bytes[from..end];
+        let l = line(rt, state, k, part, stand, text, body, out, sync);
         from = end;
         let next = l.kept;
         k = next;
@@ -173,13 +179,15 @@ fn ended(stand: Stand, body: &mut [u8], out: &mut [u8]) -> Stand
     let side = stand.side;
     let e = clerk::closed(blank(), clerk::fresh(inlet, side), body, out);
     let last = e.stand;
-    script::emit(out, last.at);
+    let mut good = true;
+    script::hand_over(out, last.at, &mut good);
     tell_over(last.at > 0);
     last
 }
 
 // What was read, on STATE as it is now.
 fn heard(
+    rt: HostRuntime,
     state: &[u8],
     bytes: &[u8],
     stand: Stand,
@@ -192,40 +200,50 @@ fn heard(
     ensures { Settled result.side × Fits result.inlet body.new }
 {
     let mut text = clerk::body_room();
-    let k = load(state, &mut text);
+    let k = load(rt, state, &mut text);
     if k.good {
-        return lines(state, bytes, k, stand, &mut text, body, out, sync);
+        return lines(rt, state, bytes, k, stand, &mut text, body, out, sync);
     }
     halted(stand)
 }
 
 // One read of standard input.
-fn turn(state: &[u8], stand: Stand, body: &mut [u8], out: &mut [u8], sync: bool) -> Stand
+fn turn(
+    rt: HostRuntime,
+    state: &[u8],
+    stand: Stand,
+    body: &mut [u8],
+    out: &mut [u8],
+    sync: bool,
+) -> Stand
     requires settled { Settled stand.side × Fits stand.inlet body.old }
     requires most_body_in_bounds { (most_body ≤ length body.old) × (piece_room ≤ length out.old) }
     ensures { Settled result.side × Fits result.inlet body.new }
 {
     let mut buf = io::large_buffer();
-    let got = libc::read(0, &mut buf);
-    if got < 0 {
-        failed(b"standard input", b" can't be read");
-        return halted(stand);
+    let mut from = rt.stdin();
+    match from.read(&mut buf) {
+        Ok(n) => {
+            if n == 0 {
+                return ended(stand, body, out);
+            }
+            heard(rt, state, &buf[..n], stand, body, out, sync)
+        }
+        Err(e) => {
+            failed(b"standard input", b" can't be read", e);
+            halted(stand)
+        }
     }
-    let n = io::count(got, &buf);
-    if n == 0 {
-        return ended(stand, body, out);
-    }
-    heard(state, &buf[..n], stand, body, out, sync)
 }
 
 // All of the input: the count of turns is one that no run uses up.
-fn all(state: &[u8], body: &mut [u8], out: &mut [u8], sync: bool)
+fn all(rt: HostRuntime, state: &[u8], body: &mut [u8], out: &mut [u8], sync: bool)
     requires { (most_body ≤ length body.old) × (piece_room ≤ length out.old) }
 {
     let mut stand = clerk::fresh(script::begin_inlet(), clerk::empty());
     let mut turns: u64 = 18446744073709551615;
     while turns > 0 {
-        let next = turn(state, stand, body, out, sync);
+        let next = turn(rt, state, stand, body, out, sync);
         if next.over {
             return;
         }
@@ -235,12 +253,12 @@ fn all(state: &[u8], body: &mut [u8], out: &mut [u8], sync: bool)
 }
 
 // Answers a script of calls on the tanks that STATE keeps.
-pub fn call(state: &[u8], sync: bool) {
+pub fn call(rt: HostRuntime, state: &[u8], sync: bool) {
     let mut body = clerk::body_room();
     let mut out = io::large_buffer();
     let mut text = clerk::body_room();
-    let k = load(state, &mut text);
+    let k = load(rt, state, &mut text);
     if k.good {
-        all(state, &mut body, &mut out, sync);
+        all(rt, state, &mut body, &mut out, sync);
     }
 }

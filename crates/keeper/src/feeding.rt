@@ -2,11 +2,14 @@
 ghost use Rattle.std.specs.Prelude.{◌≡◌, ◌+◌, ◌-◌, ◌≤◌, min, length};
 ghost use Rattle.tanks.specs.Pool.{Sound};
 
-use super::files::within;
+use super::files::{opened, within};
 use super::kept::{Feeding, Kept, fed, from_place, load, say_overtaken};
 use super::refusing::stopped;
 use super::words::{complain_of, failed, note, note_number, refused_at};
 use day_log::Stop;
+use std::fs::File;
+use std::io::{Result, Seek, SeekFrom};
+use std::os::unix::fs::FileExt;
 
 // What came of a piece of a log: whether all went well, whether reading ends with it, how many edits it applied, up to where the log has been
 // read then, and how many bytes wait behind that place.
@@ -62,15 +65,17 @@ fn newlines(bytes: &[u8]) -> u64 {
 }
 
 // How many lines stand in front of a place: of one read of the file, up to the place.
-fn lines_in(fd: i32, at: u64, place: u64) -> u64
+fn lines_in(file: &File, at: u64, place: u64) -> u64
     requires { at ≤ place }
 {
     let mut buf = io::large_buffer();
     if at > 9223372036854710271 {
         return 0;
     }
-    let got = libc::pread(fd, &mut buf, at as i64);
-    let n = io::count(got, &buf);
+    let n = match file.read_at(&mut buf, at) {
+        Ok(n) => n,
+        Err(_) => 0,
+    };
     if text::wide(n) < place - at {
         return newlines(&buf[..n]);
     }
@@ -79,11 +84,11 @@ fn lines_in(fd: i32, at: u64, place: u64) -> u64
 }
 
 // How many lines stand in front of a place of a file.
-fn lines_before(fd: i32, place: u64) -> u64 {
+fn lines_before(file: &File, place: u64) -> u64 {
     let mut lines: u64 = 0;
     let mut at: u64 = 0;
     while at < place {
-        lines = plus(lines, lines_in(fd, at, place));
+        lines = plus(lines, lines_in(file, at, place));
         at = plus(at, 65536);
     }
     lines
@@ -115,26 +120,35 @@ pub fn endless(log: &[u8], lines: u64, bytes: &[u8]) {
 }
 
 // Where the log goes on: there may be more while groups are taken; else what is left waits.
-fn going(log: &[u8], fd: i32, from: u64, place: u64, edits: u64, bytes: &[u8]) -> Turn {
+fn going(log: &[u8], file: &File, from: u64, place: u64, edits: u64, bytes: &[u8]) -> Turn {
     if from < place {
         return moved(false, edits, place, 0);
     }
     if bytes.len() < 65536 {
         return moved(true, edits, place, bytes.len());
     }
-    endless(log, lines_before(fd, from), bytes);
+    endless(log, lines_before(file, from), bytes);
     moved(true, edits, place, bytes.len())
 }
 
 // What is said of a piece that has been kept.
-fn told(state: &[u8], log: &[u8], fd: i32, from: u64, f: Feeding, bytes: &[u8]) -> Turn {
+fn told(
+    rt: HostRuntime,
+    state: &[u8],
+    log: &[u8],
+    file: &File,
+    from: u64,
+    f: Feeding,
+    bytes: &[u8],
+) -> Turn {
     let stop = f.stop;
     match stop {
-        Stop::Going => going(log, fd, from, f.place, f.edits, bytes),
+        Stop::Going => going(log, file, from, f.place, f.edits, bytes),
         Stop::Refused(line, number) => {
             let at = within(f.at, bytes);
-            let named = plus(lines_before(fd, from), line);
-            stopped(state, log, named, number, &bytes[at..], less(line, f.lines));
+            let named = plus(lines_before(file, from), line);
+            let lines = less(line, f.lines);
+            stopped(rt, state, log, named, number, &bytes[at..], lines);
             moved(true, f.edits, f.place, 0)
         }
     }
@@ -142,9 +156,10 @@ fn told(state: &[u8], log: &[u8], fd: i32, from: u64, f: Feeding, bytes: &[u8]) 
 
 // The groups of a piece are kept, and then said.
 fn applied(
+    rt: HostRuntime,
     state: &[u8],
     log: &[u8],
-    fd: i32,
+    file: &File,
     k: Kept,
     bytes: &[u8],
     text: &mut [u8],
@@ -153,15 +168,23 @@ fn applied(
     requires { (Sound k.tanks) × (131072 ≤ length text.old) }
 {
     let from = k.place;
-    let f = fed(state, k, bytes, text, sync);
+    let f = fed(rt, state, k, bytes, text, sync);
     if f.good {
-        return told(state, log, fd, from, f, bytes);
+        return told(rt, state, log, file, from, f, bytes);
     }
     say_overtaken(state, f.other);
     broken()
 }
 
-fn piece_at(state: &[u8], log: &[u8], fd: i32, k: Kept, text: &mut [u8], sync: bool) -> Turn
+fn piece_at(
+    rt: HostRuntime,
+    state: &[u8],
+    log: &[u8],
+    file: &File,
+    k: Kept,
+    text: &mut [u8],
+    sync: bool,
+) -> Turn
     requires { (Sound k.tanks) × (131072 ≤ length text.old) }
 {
     let mut buf = io::large_buffer();
@@ -173,33 +196,41 @@ fn piece_at(state: &[u8], log: &[u8], fd: i32, k: Kept, text: &mut [u8], sync: b
         );
         return broken();
     }
-    let got = libc::pread(fd, &mut buf, from as i64);
-    if got < 0 {
-        failed(log, b" can't be read");
-        return broken();
+    match file.read_at(&mut buf, from) {
+        Ok(n) => applied(rt, state, log, file, k, &buf[..n], text, sync),
+        Err(e) => {
+            failed(log, b" can't be read", e);
+            broken()
+        }
     }
-    let n = io::count(got, &buf);
-    applied(state, log, fd, k, &buf[..n], text, sync)
 }
 
 // One piece of the log, from where STATE has read it up to; the first of a new log from its start, which is kept with what that piece brings.
-fn piece(state: &[u8], log: &[u8], fd: i32, afresh: bool, sync: bool) -> Turn {
+fn piece(rt: HostRuntime, state: &[u8], log: &[u8], file: &File, afresh: bool, sync: bool) -> Turn {
     let mut text = clerk::body_room();
-    let k = load(state, &mut text);
+    let k = load(rt, state, &mut text);
     if k.good {
-        return piece_at(state, log, fd, from_place(k, afresh), &mut text, sync);
+        let from = from_place(k, afresh);
+        return piece_at(rt, state, log, file, from, &mut text, sync);
     }
     broken()
 }
 
 // Piece after piece, until none brings a whole group: the count of turns is one that no run uses up. Where a piece fails, those before it stand.
-fn pieces(state: &[u8], log: &[u8], fd: i32, afresh: bool, sync: bool) -> Turn {
+fn pieces(
+    rt: HostRuntime,
+    state: &[u8],
+    log: &[u8],
+    file: &File,
+    afresh: bool,
+    sync: bool,
+) -> Turn {
     let mut first = afresh;
     let mut edits: u64 = 0;
     let mut place: u64 = 0;
     let mut turns: u64 = 18446744073709551615;
     while turns > 0 {
-        let t = piece(state, log, fd, first, sync);
+        let t = piece(rt, state, log, file, first, sync);
         edits = plus(edits, t.edits);
         if t.good {
             place = t.place;
@@ -265,49 +296,54 @@ fn shorter(log: &[u8]) {
     );
 }
 
+// How many bytes a file has.
+fn end_of(file: &File) -> Result<u64> {
+    let mut at = file;
+    at.seek(SeekFrom::End(0))
+}
+
 // A log that is shorter than what has been read of it is another log.
-fn long_enough(log: &[u8], fd: i32, place: u64) -> bool {
-    let size = libc::lseek(fd, 0, libc::SEEK_END);
-    if size < 0 {
-        failed(
-            log,
-            b" is no file that can be read from a place on (standard input takes a pipe)",
-        );
-        return false;
+fn long_enough(log: &[u8], file: &File, place: u64) -> bool {
+    match end_of(file) {
+        Ok(size) => {
+            if size < place {
+                shorter(log);
+                return false;
+            }
+            true
+        }
+        Err(e) => {
+            failed(
+                log,
+                b" is no file that can be read from a place on (standard input takes a pipe)",
+                e,
+            );
+            false
+        }
     }
-    if place > 9223372036854775807 {
-        shorter(log);
-        return false;
-    }
-    if size < place as i64 {
-        shorter(log);
-        return false;
-    }
-    true
 }
 
 // STATE is there and whole, and the log can be read from its place on: from its start, where it is a new one.
-fn begun(state: &[u8], log: &[u8], fd: i32, afresh: bool) -> bool {
+fn begun(rt: HostRuntime, state: &[u8], log: &[u8], file: &File, afresh: bool) -> bool {
     let mut text = clerk::body_room();
-    let k = load(state, &mut text);
+    let k = load(rt, state, &mut text);
     if k.good {
         if afresh {
-            return long_enough(log, fd, 0);
+            return long_enough(log, file, 0);
         }
-        return long_enough(log, fd, k.place);
+        return long_enough(log, file, k.place);
     }
     false
 }
 
 // Takes a log from where STATE has read it up to, to its last whole group.
-pub fn feed_log(state: &[u8], log: &[u8], afresh: bool, sync: bool) {
-    let fd = os::open_read(log);
-    if fd < 0 {
-        failed(log, b" can't be opened");
-        return;
+pub fn feed_log(rt: HostRuntime, state: &[u8], log: &[u8], afresh: bool, sync: bool) {
+    match opened(rt, log) {
+        Ok(file) => {
+            if begun(rt, state, log, &file, afresh) {
+                report(pieces(rt, state, log, &file, afresh, sync));
+            }
+        }
+        Err(e) => failed(log, b" can't be opened", e),
     }
-    if begun(state, log, fd, afresh) {
-        report(pieces(state, log, fd, afresh, sync));
-    }
-    libc::close(fd);
 }

@@ -3,6 +3,13 @@ ghost use Rattle.std.specs.Prelude.{◌≤◌, min, ◌≡◌, length};
 ghost use Rattle.io.specs.Counts.{IsPrefixLen};
 
 use super::words::{complain_of, failed};
+use std::fs;
+use std::fs::{File, OpenOptions};
+use std::io::{Error, ErrorKind, Read, Result, Write};
+use std::mem::drop;
+use std::os::fd::AsRawFd;
+use std::random::RandomSource;
+use std::str::from_utf8;
 
 // Whether a file was read whole, and how many bytes of the room it fills.
 #[derive(Clone, Copy)]
@@ -17,6 +24,13 @@ pub enum Replacing {
     Done,
     Failed,
     Overtaken,
+}
+
+// What came of filling a file: it holds the text; or it could not be written, or not be synced.
+enum Filling {
+    Done,
+    Unwritten(Error),
+    Unsynced(Error),
 }
 
 // Room for a path and for what is put behind it.
@@ -63,155 +77,211 @@ pub fn folder(path: &[u8]) -> usize
     0
 }
 
+// A path as the system's calls take it here. One that is no UTF-8 can't be named to them: the error is the system's for such bytes.
+fn named(path: &[u8]) -> Result<&str> {
+    match from_utf8(path) {
+        Ok(name) => Ok(name),
+        Err(_) => Err(Error::from_raw_os_error(84)),
+    }
+}
+
+// Opens a file, or a folder, for reading.
+pub fn opened(rt: HostRuntime, path: &[u8]) -> Result<File> {
+    match named(path) {
+        Ok(name) => File::open(&rt, name),
+        Err(e) => Err(e),
+    }
+}
+
+// Makes a file, where nothing has its name, and opens it for writing.
+pub fn made(rt: HostRuntime, path: &[u8]) -> Result<File> {
+    match named(path) {
+        Ok(name) => OpenOptions::new()
+            .write(true)
+            .create_new(true)
+            .open(&rt, name),
+        Err(e) => Err(e),
+    }
+}
+
+// Removes a file; where it can't be removed it stays, and nothing is said.
+pub fn removed(rt: HostRuntime, path: &[u8]) {
+    if let Ok(name) = named(path) {
+        let _ = fs::remove_file(&rt, name);
+    }
+}
+
+fn moved(rt: HostRuntime, from: &[u8], to: &[u8]) -> Result<()> {
+    match (named(from), named(to)) {
+        (Ok(old), Ok(new)) => fs::rename(&rt, old, new),
+        (Err(e), _) => Err(e),
+        (_, Err(e)) => Err(e),
+    }
+}
+
 // Whether the input ends where the room was not filled: a read that failed looks the same until it is tried again.
-fn ended(fd: i32, path: &[u8], full: bool) -> bool {
+fn ended(file: &File, path: &[u8], full: bool) -> bool {
     let mut one = [0u8; 1];
-    let got = libc::read(fd, &mut one);
-    if got < 0 {
-        failed(path, b" can't be read");
-        return false;
+    let mut from = file;
+    match from.read(&mut one) {
+        Ok(n) => {
+            if full {
+                return true;
+            }
+            if n > 0 {
+                complain_of(path, b" changed while it was read");
+                return false;
+            }
+            true
+        }
+        Err(e) => {
+            failed(path, b" can't be read", e);
+            false
+        }
     }
-    if full {
-        return true;
-    }
-    if got > 0 {
-        complain_of(path, b" changed while it was read");
-        return false;
-    }
-    true
 }
 
 // Reads a file whole. Of one that is longer than the room so much is read as there is room for.
-pub fn read_whole(path: &[u8], room: &mut [u8]) -> Whole
+pub fn read_whole(rt: HostRuntime, path: &[u8], room: &mut [u8]) -> Whole
     ensures { result.size ≤ length room.new }
 {
-    let fd = os::open_read(path);
-    if fd < 0 {
-        failed(path, b" can't be opened");
-        return Whole {
-            good: false,
-            size: 0,
-        };
-    }
-    let n = io::read_full(fd, room);
-    let good = ended(fd, path, n == room.len());
-    libc::close(fd);
-    Whole {
-        good: good,
-        size: n,
+    match opened(rt, path) {
+        Ok(file) => {
+            let n = io::read_full(file.as_raw_fd(), room);
+            let good = ended(&file, path, n == room.len());
+            Whole {
+                good: good,
+                size: n,
+            }
+        }
+        Err(e) => {
+            failed(path, b" can't be opened", e);
+            Whole {
+                good: false,
+                size: 0,
+            }
+        }
     }
 }
 
 // Whether there is no such file.
-pub fn missing(path: &[u8]) -> bool {
-    let fd = os::open_read(path);
-    if fd < 0 {
-        return os::errno() == libc::ENOENT;
+pub fn missing(rt: HostRuntime, path: &[u8]) -> bool {
+    match opened(rt, path) {
+        Ok(_) => false,
+        Err(e) => e.kind() == ErrorKind::NotFound,
     }
-    libc::close(fd);
-    false
 }
 
-// The folder of a file, open so that it can be synced; below 0 where that can't be.
-fn open_folder(path: &[u8]) -> i32 {
+// The folder of a file, open so that it can be synced.
+fn open_folder(rt: HostRuntime, path: &[u8]) -> Result<File> {
     let k = folder(path);
     if k == 0 {
-        return os::open_read(b".");
+        return opened(rt, b".");
     }
-    os::open_read(&path[..k])
+    opened(rt, &path[..k])
 }
 
 // The folder reaches its device: a file's new name is kept by it. The file has that name already, whether or not this goes well.
-fn sync_folder(fd: i32, path: &[u8]) {
-    let done = libc::fsync(fd);
-    libc::close(fd);
-    if done < 0 {
+fn sync_folder(folder: File, path: &[u8]) {
+    let done = folder.sync_all();
+    drop(folder);
+    if let Err(e) = done {
         failed(
             path,
             b" is the new one, but its folder can't be synced, so that after a power cut it may be the old one",
+            e,
         );
     }
 }
 
-fn synced(fd: i32, sync: bool) -> bool {
+// Fills a file that was made, and closes it.
+fn fill(file: File, text: &[u8], sync: bool) -> Filling {
+    let mut to = file;
+    if let Err(e) = to.write_all(text) {
+        return Filling::Unwritten(e);
+    }
     if sync {
-        let done = libc::fsync(fd);
-        return done >= 0;
-    }
-    true
-}
-
-// Fills a file that was made, and closes it before anything is said.
-fn filled(fd: i32, name: &[u8], text: &[u8], sync: bool) -> bool {
-    if io::write_all(fd, text) {
-        if synced(fd, sync) {
-            let shut = libc::close(fd);
-            if shut < 0 {
-                failed(name, b" can't be closed");
-                return false;
-            }
-            return true;
+        if let Err(e) = to.sync_all() {
+            return Filling::Unsynced(e);
         }
-        libc::close(fd);
-        failed(name, b" can't be synced");
-        return false;
     }
-    libc::close(fd);
-    failed(name, b" can't be written");
-    false
+    Filling::Done
 }
 
-fn not_replaced(name: &[u8], path: &[u8]) {
-    failed(path, b" can't be replaced");
-    os::unlink(name);
+// The same, and what is wrong is said when it is closed.
+fn filled(file: File, name: &[u8], text: &[u8], sync: bool) -> bool {
+    match fill(file, text, sync) {
+        Filling::Done => true,
+        Filling::Unwritten(e) => {
+            failed(name, b" can't be written", e);
+            false
+        }
+        Filling::Unsynced(e) => {
+            failed(name, b" can't be synced", e);
+            false
+        }
+    }
+}
+
+fn not_replaced(rt: HostRuntime, name: &[u8], path: &[u8], e: Error) {
+    failed(path, b" can't be replaced", e);
+    removed(rt, name);
 }
 
 // Gives a file its name, and lets the folder reach its device, which is opened before: where that fails the old file is as it was.
-fn renamed_synced(name: &[u8], path: &[u8]) -> bool {
-    let fd = open_folder(path);
-    if fd < 0 {
-        failed(
-            path,
-            b": its folder can't be opened, so that it could be synced",
-        );
-        os::unlink(name);
-        return false;
+fn renamed_synced(rt: HostRuntime, name: &[u8], path: &[u8]) -> bool {
+    match open_folder(rt, path) {
+        Ok(folder) => {
+            if let Err(e) = moved(rt, name, path) {
+                not_replaced(rt, name, path, e);
+                return false;
+            }
+            sync_folder(folder, path);
+            true
+        }
+        Err(e) => {
+            failed(
+                path,
+                b": its folder can't be opened, so that it could be synced",
+                e,
+            );
+            removed(rt, name);
+            false
+        }
     }
-    let done = os::rename(name, path);
-    if done < 0 {
-        not_replaced(name, path);
-        libc::close(fd);
-        return false;
-    }
-    sync_folder(fd, path);
-    true
 }
 
-fn renamed(name: &[u8], path: &[u8], sync: bool) -> bool {
+fn renamed(rt: HostRuntime, name: &[u8], path: &[u8], sync: bool) -> bool {
     if sync {
-        return renamed_synced(name, path);
+        return renamed_synced(rt, name, path);
     }
-    let done = os::rename(name, path);
-    if done < 0 {
-        not_replaced(name, path);
+    if let Err(e) = moved(rt, name, path) {
+        not_replaced(rt, name, path, e);
         return false;
     }
     true
 }
 
 // A new file that was made beside is filled, and takes its name; where that fails it goes.
-pub fn finished(fd: i32, name: &[u8], path: &[u8], text: &[u8], sync: bool) -> bool {
-    if filled(fd, name, text, sync) {
-        return renamed(name, path, sync);
+pub fn finished(
+    rt: HostRuntime,
+    file: File,
+    name: &[u8],
+    path: &[u8],
+    text: &[u8],
+    sync: bool,
+) -> bool {
+    if filled(file, name, text, sync) {
+        return renamed(rt, name, path, sync);
     }
-    os::unlink(name);
+    removed(rt, name);
     false
 }
 
 // Whether a file still has the bytes that were read of it, so that it can be replaced: another keeper may have done so since.
-fn still(path: &[u8], old: &[u8]) -> Replacing {
+fn still(rt: HostRuntime, path: &[u8], old: &[u8]) -> Replacing {
     let mut room = clerk::body_room();
-    let w = read_whole(path, &mut room);
+    let w = read_whole(rt, path, &mut room);
     let n = within(w.size, &room);
     if w.good {
         if text::same(&room[..n], old) {
@@ -223,24 +293,32 @@ fn still(path: &[u8], old: &[u8]) -> Replacing {
 }
 
 // A file that is filled takes the place of the old one.
-fn renamed_as(name: &[u8], path: &[u8], sync: bool) -> Replacing {
-    if renamed(name, path, sync) {
+fn renamed_as(rt: HostRuntime, name: &[u8], path: &[u8], sync: bool) -> Replacing {
+    if renamed(rt, name, path, sync) {
         return Replacing::Done;
     }
     Replacing::Failed
 }
 
 // A file that was made beside takes the place of the old one, where that is still the one that was read; else it goes.
-fn exchanged(fd: i32, name: &[u8], path: &[u8], old: &[u8], text: &[u8], sync: bool) -> Replacing {
-    if filled(fd, name, text, sync) {
-        let now = still(path, old);
+fn exchanged(
+    rt: HostRuntime,
+    file: File,
+    name: &[u8],
+    path: &[u8],
+    old: &[u8],
+    text: &[u8],
+    sync: bool,
+) -> Replacing {
+    if filled(file, name, text, sync) {
+        let now = still(rt, path, old);
         let Replacing::Done = now else {
-            os::unlink(name);
+            removed(rt, name);
             return now;
         };
-        return renamed_as(name, path, sync);
+        return renamed_as(rt, name, path, sync);
     }
-    os::unlink(name);
+    removed(rt, name);
     Replacing::Failed
 }
 
@@ -250,34 +328,35 @@ fn letter(b: u8) -> u8 {
 }
 
 // Sixteen letters by chance, behind the first five of a word. No two runs have the same, so neither writes the file that the other has made.
-fn draw(word: &mut [u8]) -> bool
+fn draw(rt: HostRuntime, word: &mut [u8]) -> Result<()>
     requires { length word.old ≡ 21 }
 {
     let mut chance = [0u8; 16];
-    let drawn = libc::getentropy(&mut chance);
+    let drawn = rt.fill_bytes(&mut chance);
     let mut i = 0;
     while i < 16 {
         word[5 + i] = letter(chance[i]);
         i += 1;
     }
-    drawn >= 0
+    drawn
 }
 
 // Replaces a file whole, if it still is what was read of it: the next one is written beside, under a name of its own, and takes the old one's
 // place when it has reached its device.
-pub fn replaced(path: &[u8], old: &[u8], text: &[u8], sync: bool) -> Replacing {
+pub fn replaced(rt: HostRuntime, path: &[u8], old: &[u8], text: &[u8], sync: bool) -> Replacing {
     let mut word = [0u8; 21];
     text::put(&mut word, 0, b".new-");
-    if !draw(&mut word) {
-        failed(path, b": no name can be drawn for the file beside it");
+    if let Err(e) = draw(rt, &mut word) {
+        failed(path, b": no name can be drawn for the file beside it", e);
         return Replacing::Failed;
     }
     let mut name = path_room();
     let k = put_path(&mut name, path, &word);
-    let fd = os::create(&name[..k]);
-    if fd < 0 {
-        failed(&name[..k], b" can't be made");
-        return Replacing::Failed;
+    match made(rt, &name[..k]) {
+        Ok(file) => exchanged(rt, file, &name[..k], path, old, text, sync),
+        Err(e) => {
+            failed(&name[..k], b" can't be made", e);
+            Replacing::Failed
+        }
     }
-    exchanged(fd, &name[..k], path, old, text, sync)
 }

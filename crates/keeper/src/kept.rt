@@ -80,11 +80,11 @@ fn untold() -> Kept
 }
 
 // Reads STATE whole; what is wrong with it is said.
-pub fn load(path: &[u8], text: &mut [u8]) -> Kept
+pub fn load(rt: HostRuntime, path: &[u8], text: &mut [u8]) -> Kept
     ensures sound { Sound result.tanks }
     ensures in_step { result.good ≡ true → InStep result text.new }
 {
-    let w = read_whole(path, text);
+    let w = read_whole(rt, path, text);
     let n = within(w.size, text);
     if w.good {
         return told(path, &text[..n]);
@@ -165,6 +165,7 @@ pub fn say_overtaken(path: &[u8], other: bool) {
 
 // Writes the text that STATE is to have, where it is another than the one that is kept, which it then replaces in `kept` too.
 pub fn written(
+    rt: HostRuntime,
     path: &[u8],
     r: Renewed,
     next: &[u8],
@@ -182,7 +183,7 @@ pub fn written(
     if r.changed {
         let n = within(r.count, next);
         let k = within(size, kept);
-        let done = replaced(path, &kept[..k], &next[..n], sync);
+        let done = replaced(rt, path, &kept[..k], &next[..n], sync);
         match done {
             Replacing::Done => {
                 text::put(kept, 0, &next[..n]);
@@ -208,20 +209,35 @@ pub fn written(
 }
 
 // Writes STATE, where what it is to say is something else than it says.
-pub fn save(path: &[u8], s: Tanks, place: u64, kept: &mut [u8], size: usize, sync: bool) -> Saving
+pub fn save(
+    rt: HostRuntime,
+    path: &[u8],
+    s: Tanks,
+    place: u64,
+    kept: &mut [u8],
+    size: usize,
+    sync: bool,
+) -> Saving
     requires { (Sound s) × (131072 ≤ length kept.old) }
     ensures { Saves place (meaning s) result kept.new }
 {
     let mut next = clerk::body_room();
     let k = within(size, kept);
     let r = keeper_file::renew(s, place, &kept[..k], &mut next);
-    let w = written(path, r, &next, kept, k, sync);
+    let w = written(rt, path, r, &next, kept, k, sync);
     say_overtaken(path, w.other);
     w
 }
 
 // Takes the whole groups of one read of the log, and writes STATE as they leave it. Nothing is said of them before that.
-pub fn fed(path: &[u8], k: Kept, bytes: &[u8], kept: &mut [u8], sync: bool) -> Feeding
+pub fn fed(
+    rt: HostRuntime,
+    path: &[u8],
+    k: Kept,
+    bytes: &[u8],
+    kept: &mut [u8],
+    sync: bool,
+) -> Feeding
     requires { (Sound k.tanks) × (131072 ≤ length kept.old) }
     ensures { result.good ≡ true → Feeds k bytes.now result kept.new }
 {
@@ -230,7 +246,7 @@ pub fn fed(path: &[u8], k: Kept, bytes: &[u8], kept: &mut [u8], sync: bool) -> F
     let n = within(k.size, kept);
     let f = keeper_file::after_read(s, k.place, bytes, &kept[..n], &mut next);
     let file = f.file;
-    let w = written(path, file, &next, kept, n, sync);
+    let w = written(rt, path, file, &next, kept, n, sync);
     let t = f.took;
     let stop = t.stop;
     Feeding {

@@ -28,14 +28,14 @@ fn names_in(path: &[u8], text: &[u8]) -> Names
     names
 }
 
-fn names_at(path: &[u8]) -> Names
+fn names_at(rt: HostRuntime, path: &[u8]) -> Names
     ensures { Formed result }
 {
-    if missing(path) {
+    if missing(rt, path) {
         return key_names::none();
     }
     let mut text = clerk::body_room();
-    let w = read_whole(path, &mut text);
+    let w = read_whole(rt, path, &mut text);
     let n = within(w.size, &text);
     if w.good {
         return names_in(path, &text[..n]);
@@ -44,44 +44,43 @@ fn names_at(path: &[u8]) -> Names
 }
 
 // The names beside STATE; none where there is no such file, or where it is wrong.
-pub fn names_beside(state: &[u8]) -> Names
+pub fn names_beside(rt: HostRuntime, state: &[u8]) -> Names
     ensures { Formed result }
 {
     let mut name = path_room();
     let k = folder(state);
     let n = put_path(&mut name, &state[..k], b"NAMES");
-    names_at(&name[..n])
+    names_at(rt, &name[..n])
 }
 
 // What waits at the end is written; whether it could be says whether all could, for a device that is full stays full.
-fn written(out: &[u8], n: usize) {
+fn written(rt: HostRuntime, out: &[u8], n: usize) {
     let k = within(n, out);
-    if io::write_all(1, &out[..k]) {
-        return;
+    if let Err(e) = rt.write_all(&out[..k]) {
+        failed(b"standard output", b" can't be written", e);
     }
-    failed(b"standard output", b" can't be written");
 }
 
 // The eight tanks at a glance.
-pub fn show(state: &[u8]) {
+pub fn show(rt: HostRuntime, state: &[u8]) {
     let mut text = clerk::body_room();
-    let k = load(state, &mut text);
+    let k = load(rt, state, &mut text);
     if k.good {
         let mut out = io::large_buffer();
         let s = k.tanks;
-        let n = glance::show(s, k.place, names_beside(state), &mut out, 0);
-        written(&out, n);
+        let n = glance::show(s, k.place, names_beside(rt, state), &mut out, 0);
+        written(rt, &out, n);
     }
 }
 
 // The eight tanks as a picture.
-pub fn picture(state: &[u8]) {
+pub fn picture(rt: HostRuntime, state: &[u8]) {
     let mut text = clerk::body_room();
-    let k = load(state, &mut text);
+    let k = load(rt, state, &mut text);
     if k.good {
         let mut out = io::large_buffer();
         let s = k.tanks;
-        let n = picture::picture(s, names_beside(state), &mut out, 0);
-        written(&out, n);
+        let n = picture::picture(s, names_beside(rt, state), &mut out, 0);
+        written(rt, &out, n);
     }
 }

@@ -19,84 +19,81 @@ ghost use Rattle.std.specs.Prelude.{◌≤◌};
 
 use arguments::Given;
 use commands::Command;
-use words::{complain, failed};
+use std::rt::Env;
+use words::{complain, not_taken};
 
 // A command on STATE alone, or on logs whose names are taken one after another.
-fn on_state(c: Command, state: &[u8], g: Given)
+fn on_state(rt: HostRuntime, c: Command, state: &[u8], g: Given)
     requires { g.next ≤ 4096 }
 {
     let o = g.options;
     match c {
-        Command::Check => moving::check(state),
-        Command::Export => moving::export(state),
-        Command::Show => looking::show(state),
-        Command::Picture => looking::picture(state),
-        Command::Call => calling::call(state, o.sync),
-        Command::Merge => merging::merge(state, g.next + 1, o.trying, o.sync),
-        Command::Feed => arriving::feed_input(state, o.afresh, o.sync),
+        Command::Check => moving::check(rt, state),
+        Command::Export => moving::export(rt, state),
+        Command::Show => looking::show(rt, state),
+        Command::Picture => looking::picture(rt, state),
+        Command::Call => calling::call(rt, state, o.sync),
+        Command::Merge => merging::merge(rt, state, g.next + 1, o.trying, o.sync),
+        Command::Feed => arriving::feed_input(rt, state, o.afresh, o.sync),
         _ => page::page(),
     }
 }
 
 // One on STATE and another file.
-fn with_file(c: Command, state: &[u8], file: &[u8], g: Given)
+fn with_file(rt: HostRuntime, c: Command, state: &[u8], file: &[u8], g: Given)
     requires { g.next ≤ 4096 }
 {
     let o = g.options;
     match c {
-        Command::New => moving::new(state, file, o.sync),
-        Command::Import => moving::import(state, file, o.sync),
-        Command::Feed => feeding::feed_log(state, file, o.afresh, o.sync),
-        _ => on_state(c, state, g),
+        Command::New => moving::new(rt, state, file, o.sync),
+        Command::Import => moving::import(rt, state, file, o.sync),
+        Command::Feed => feeding::feed_log(rt, state, file, o.afresh, o.sync),
+        _ => on_state(rt, c, state, g),
     }
 }
 
 // The second file is named, where there is one: whoever takes logs takes their names itself.
-fn with_state(c: Command, state: &[u8], g: Given)
+fn with_state(rt: HostRuntime, c: Command, state: &[u8], g: Given)
     requires { g.next ≤ 4096 }
 {
-    if arguments::files(g) < 2 {
-        on_state(c, state, g);
+    if arguments::files(rt, g) < 2 {
+        on_state(rt, c, state, g);
         return;
     }
     let mut file = io::buffer();
-    let n = os::arg(g.next + 1, &mut file);
-    if os::errno() != 0 {
-        failed(b"the name of the second file", b" can't be taken");
-        return;
+    match rt.arg(g.next + 1, &mut file) {
+        Ok(n) => with_file(rt, c, state, &file[..n], g),
+        Err(e) => not_taken(b"the name of the second file", e),
     }
-    with_file(c, state, &file[..n], g);
 }
 
-fn carry_out(c: Command, g: Given)
+fn carry_out(rt: HostRuntime, c: Command, g: Given)
     requires { g.next ≤ 4096 }
 {
     let mut state = io::buffer();
-    let n = os::arg(g.next, &mut state);
-    if os::errno() != 0 {
-        failed(b"the name of STATE", b" can't be taken");
-        return;
+    match rt.arg(g.next, &mut state) {
+        Ok(n) => with_state(rt, c, &state[..n], g),
+        Err(e) => not_taken(b"the name of STATE", e),
     }
-    with_state(c, &state[..n], g);
 }
 
-fn run(c: Command) {
+fn run(rt: HostRuntime, c: Command) {
     let Command::Help = c else {
-        let g = arguments::read();
-        if arguments::fine(c, g) {
-            carry_out(c, g);
+        let g = arguments::read(rt);
+        if arguments::fine(rt, c, g) {
+            carry_out(rt, c, g);
         }
         return;
     };
     page::page();
 }
 
-fn main() {
+fn main(rt: HostRuntime) {
     let mut word = io::buffer();
-    let n = os::arg(1, &mut word);
+    let n = arguments::word_at(rt, 1, &mut word);
     if n == 0 {
         complain(b"no command is named (keeper --help lists them)");
         return;
     }
-    run(commands::command_of(&word[..n]));
+    run(rt, commands::command_of(&word[..n]));
 }

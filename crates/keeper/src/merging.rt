@@ -2,12 +2,16 @@
 ghost use Rattle.std.specs.Prelude.{◌≤◌, length};
 ghost use Rattle.keeper_file.specs.Merging.{Sound};
 
+use super::arguments::how_many;
 use super::feeding::note_edits;
-use super::files::within;
+use super::files::{opened, within};
 use super::kept::{load, say_overtaken, written};
-use super::words::{failed, note, refused_at, tell};
+use super::words::{failed, not_taken, note, refused_at, tell};
 use day_log::Stop;
 use keeper_file::Merge;
+use std::fs::File;
+use std::io::Read;
+use std::rt::Env;
 
 // A merge after a read: whether the log is read to its end with it, and whether it could be.
 #[derive(Clone, Copy)]
@@ -54,32 +58,35 @@ fn taken(m: Merge, bytes: &[u8]) -> Poured
 }
 
 // One read of a log.
-fn pour(fd: i32, path: &[u8], m: Merge) -> Poured
+fn pour(file: &File, path: &[u8], m: Merge) -> Poured
     requires { Sound m }
     ensures { Sound result.merge }
 {
     let mut buf = io::large_buffer();
-    let got = libc::read(fd, &mut buf);
-    if got < 0 {
-        failed(path, b" can't be read");
-        return after(true, false, m);
+    let mut from = file;
+    match from.read(&mut buf) {
+        Ok(n) => {
+            if n == 0 {
+                return after(true, true, m);
+            }
+            taken(m, &buf[..n])
+        }
+        Err(e) => {
+            failed(path, b" can't be read", e);
+            after(true, false, m)
+        }
     }
-    let n = io::count(got, &buf);
-    if n == 0 {
-        return after(true, true, m);
-    }
-    taken(m, &buf[..n])
 }
 
 // A log to its end: the count of turns is one that no run uses up.
-fn all_of(fd: i32, path: &[u8], m: Merge) -> Poured
+fn all_of(file: &File, path: &[u8], m: Merge) -> Poured
     requires { Sound m }
     ensures { Sound result.merge }
 {
     let mut merge = m;
     let mut turns: u64 = 18446744073709551615;
     while turns > 0 {
-        let p = pour(fd, path, merge);
+        let p = pour(file, path, merge);
         let next = p.merge;
         merge = next;
         if p.over {
@@ -117,42 +124,45 @@ fn ended(path: &[u8], p: Poured) -> Merged
 }
 
 // One log behind those before it.
-fn one_log(path: &[u8], m: Merge) -> Merged
+fn one_log(rt: HostRuntime, path: &[u8], m: Merge) -> Merged
     requires { Sound m }
     ensures { Sound result.merge }
 {
-    let fd = os::open_read(path);
-    if fd < 0 {
-        failed(path, b" can't be opened");
-        return so_far(false, m);
+    match opened(rt, path) {
+        Ok(file) => {
+            let p = all_of(&file, path, m);
+            ended(path, p)
+        }
+        Err(e) => {
+            failed(path, b" can't be opened", e);
+            so_far(false, m)
+        }
     }
-    let p = all_of(fd, path, m);
-    libc::close(fd);
-    ended(path, p)
 }
 
-fn log_of(i: usize, m: Merge) -> Merged
+fn log_of(rt: HostRuntime, i: usize, m: Merge) -> Merged
     requires { Sound m }
     ensures { Sound result.merge }
 {
     let mut path = io::buffer();
-    let n = os::arg(i, &mut path);
-    if os::errno() != 0 {
-        failed(b"the name of a log", b" can't be taken");
-        return so_far(false, m);
+    match rt.arg(i, &mut path) {
+        Ok(n) => one_log(rt, &path[..n], m),
+        Err(e) => {
+            not_taken(b"the name of a log", e);
+            so_far(false, m)
+        }
     }
-    one_log(&path[..n], m)
 }
 
 // The logs that the arguments from one on name, up to the first that is refused or can't be read.
-fn all_logs(first: usize, count: usize, m: Merge) -> Merged
+fn all_logs(rt: HostRuntime, first: usize, count: usize, m: Merge) -> Merged
     requires { Sound m }
     ensures { Sound result.merge }
 {
     let mut merge = m;
     let mut i = first;
     while i < count {
-        let l = log_of(i, merge);
+        let l = log_of(rt, i, merge);
         let next = l.merge;
         merge = next;
         if l.good {
@@ -174,32 +184,40 @@ fn said(edits: u64, trying: bool) {
 }
 
 // STATE as the logs leave it: written where that is something else than it holds.
-fn settled(state: &[u8], m: Merge, place: u64, kept: &mut [u8], size: usize, sync: bool) -> bool
+fn settled(
+    rt: HostRuntime,
+    state: &[u8],
+    m: Merge,
+    place: u64,
+    kept: &mut [u8],
+    size: usize,
+    sync: bool,
+) -> bool
     requires { (Sound m) × (131072 ≤ length kept.old) }
 {
     let mut next = clerk::body_room();
     let n = within(size, kept);
     let r = keeper_file::settle(m, place, &kept[..n], &mut next);
-    let w = written(state, r, &next, kept, size, sync);
+    let w = written(rt, state, r, &next, kept, size, sync);
     say_overtaken(state, w.other);
     w.good
 }
 
 // The logs, and then STATE once, its place as it was; where anything is refused or can't be read STATE is as it was.
-pub fn merge(state: &[u8], first: usize, trying: bool, sync: bool) {
+pub fn merge(rt: HostRuntime, state: &[u8], first: usize, trying: bool, sync: bool) {
     let mut text = clerk::body_room();
-    let k = load(state, &mut text);
+    let k = load(rt, state, &mut text);
     if k.good {
         let s = k.tanks;
         let begun = keeper_file::begin_merge(s);
-        let m = all_logs(first, os::arg_count(), begun);
+        let m = all_logs(rt, first, how_many(rt), begun);
         let all = m.merge;
         if m.good {
             if trying {
                 said(all.edits, true);
                 return;
             }
-            if settled(state, all, k.place, &mut text, k.size, sync) {
+            if settled(rt, state, all, k.place, &mut text, k.size, sync) {
                 said(all.edits, false);
             }
             return;

@@ -2,86 +2,91 @@
 ghost use Rattle.std.specs.Prelude.{◌≡◌, ◌≤◌, length};
 ghost use Rattle.tanks.specs.Pool.{Sound};
 
-use super::files::{finished, missing, path_room, put_path, read_whole, within};
+use super::files::{finished, made, missing, path_room, put_path, read_whole, removed, within};
 use super::kept::{blank, load, save};
 use super::words::{complain_of, failed, note, note_number, refused, refused_at};
+use std::io::{Error, ErrorKind};
+use std::mem::drop;
 use tanks::{Setting, Tanks};
 
-fn not_made(name: &[u8]) {
-    if os::errno() == libc::EEXIST {
+fn not_made(name: &[u8], e: Error) {
+    if e.kind() == ErrorKind::AlreadyExists {
         complain_of(
             name,
             b" is there already: where no other keeper is at work here, a run that was cut off left it; remove it, and try again",
         );
         return;
     }
-    failed(name, b" can't be made");
+    failed(name, b" can't be made", e);
 }
 
 // Writes a new STATE beside and gives it its name. The name beside is made, and not opened: where two do this at once, one of them finds it
 // taken, or finds STATE.
-fn placed(state: &[u8], name: &[u8], text: &[u8], sync: bool) -> bool {
-    let fd = os::create(name);
-    if fd < 0 {
-        not_made(name);
-        return false;
+fn placed(rt: HostRuntime, state: &[u8], name: &[u8], text: &[u8], sync: bool) -> bool {
+    match made(rt, name) {
+        Ok(file) => {
+            if missing(rt, state) {
+                return finished(rt, file, name, state, text, sync);
+            }
+            drop(file);
+            removed(rt, name);
+            complain_of(state, b" is there already, and is never written over");
+            false
+        }
+        Err(e) => {
+            not_made(name, e);
+            false
+        }
     }
-    if missing(state) {
-        return finished(fd, name, state, text, sync);
-    }
-    libc::close(fd);
-    os::unlink(name);
-    complain_of(state, b" is there already, and is never written over");
-    false
 }
 
-fn created(state: &[u8], text: &[u8], sync: bool) -> bool {
+fn created(rt: HostRuntime, state: &[u8], text: &[u8], sync: bool) -> bool {
     let mut name = path_room();
     let k = put_path(&mut name, state, b".new");
-    placed(state, &name[..k], text, sync)
+    placed(rt, state, &name[..k], text, sync)
 }
 
 // A new STATE of a place and some tanks.
-fn put_new(state: &[u8], s: Tanks, sync: bool) -> bool
+fn put_new(rt: HostRuntime, state: &[u8], s: Tanks, sync: bool) -> bool
     requires { Sound s }
 {
     let mut text = clerk::body_room();
     let w = keeper_file::write(s, 0, &mut text);
     let n = within(w.count, &text);
-    created(state, &text[..n], sync)
+    created(rt, state, &text[..n], sync)
 }
 
-fn opened(state: &[u8], path: &[u8], settings: [Setting; 8], sync: bool) {
+fn opened(rt: HostRuntime, state: &[u8], path: &[u8], settings: [Setting; 8], sync: bool) {
     let o = tanks::open(settings);
     if 0 < o.number {
         refused(path, o.number);
         return;
     }
     let s = o.tanks;
-    if put_new(state, s, sync) {
+    if put_new(rt, state, s, sync) {
         note(state);
         note(b" is made: eight fresh tanks, and no byte of a log is read\n");
     }
 }
 
-fn settings_in(state: &[u8], path: &[u8], text: &[u8], sync: bool) {
+fn settings_in(rt: HostRuntime, state: &[u8], path: &[u8], text: &[u8], sync: bool) {
     let r = settings_text::read(text);
     if 0 < r.number {
         refused_at(path, r.line, r.number);
         return;
     }
     let settings = r.settings;
-    opened(state, path, settings, sync);
+    opened(rt, state, path, settings, sync);
 }
 
 // A new STATE with the settings of a text.
-pub fn new(state: &[u8], path: &[u8], sync: bool) {
-    if missing(state) {
+pub fn new(rt: HostRuntime, state: &[u8], path: &[u8], sync: bool) {
+    if missing(rt, state) {
         let mut text = clerk::body_room();
-        let w = read_whole(path, &mut text);
+        let w = read_whole(rt, path, &mut text);
         let n = within(w.size, &text);
         if w.good {
-            settings_in(state, path, &text[..n], sync);
+            settings_in(rt, state, path, &text[..n], sync);
         }
         return;
     }
@@ -92,9 +97,9 @@ pub fn new(state: &[u8], path: &[u8], sync: bool) {
 }
 
 // Reads STATE whole, and says so.
-pub fn check(state: &[u8]) {
+pub fn check(rt: HostRuntime, state: &[u8]) {
     let mut text = clerk::body_room();
-    let k = load(state, &mut text);
+    let k = load(rt, state, &mut text);
     if k.good {
         note(state);
         note(b" is whole: ");
@@ -105,35 +110,34 @@ pub fn check(state: &[u8]) {
     }
 }
 
-fn exported(s: Tanks)
+fn exported(rt: HostRuntime, s: Tanks)
     requires { Sound s }
 {
     let mut text = clerk::body_room();
     let w = saved::write(s, &mut text);
     let n = within(w.count, &text);
-    if io::write_all(1, &text[..n]) {
-        return;
+    if let Err(e) = rt.write_all(&text[..n]) {
+        failed(b"standard output", b" can't be written", e);
     }
-    failed(b"standard output", b" can't be written");
 }
 
 // The saved text of STATE's tanks on standard output.
-pub fn export(state: &[u8]) {
+pub fn export(rt: HostRuntime, state: &[u8]) {
     let mut text = clerk::body_room();
-    let k = load(state, &mut text);
+    let k = load(rt, state, &mut text);
     if k.good {
         let s = k.tanks;
-        exported(s);
+        exported(rt, s);
     }
 }
 
-fn put_over(state: &[u8], s: Tanks, sync: bool)
+fn put_over(rt: HostRuntime, state: &[u8], s: Tanks, sync: bool)
     requires { Sound s }
 {
     let mut text = clerk::body_room();
-    let k = load(state, &mut text);
+    let k = load(rt, state, &mut text);
     if k.good {
-        let w = save(state, s, k.place, &mut text, k.size, sync);
+        let w = save(rt, state, s, k.place, &mut text, k.size, sync);
         if w.good {
             note(state);
             note(b" has the tanks of that text now; its place in the log is as it was\n");
@@ -141,35 +145,35 @@ fn put_over(state: &[u8], s: Tanks, sync: bool)
     }
 }
 
-fn put_in(state: &[u8], s: Tanks, sync: bool)
+fn put_in(rt: HostRuntime, state: &[u8], s: Tanks, sync: bool)
     requires { Sound s }
 {
-    if missing(state) {
-        if put_new(state, s, sync) {
+    if missing(rt, state) {
+        if put_new(rt, state, s, sync) {
             note(state);
             note(b" is made, with the tanks of that text, and no byte of a log is read\n");
         }
         return;
     }
-    put_over(state, s, sync);
+    put_over(rt, state, s, sync);
 }
 
-fn imported(state: &[u8], path: &[u8], text: &[u8], sync: bool) {
+fn imported(rt: HostRuntime, state: &[u8], path: &[u8], text: &[u8], sync: bool) {
     let r = saved::restore(blank(), text);
     if 0 < r.number {
         refused_at(path, r.line, r.number);
         return;
     }
     let s = r.tanks;
-    put_in(state, s, sync);
+    put_in(rt, state, s, sync);
 }
 
 // The tanks of a saved text in place of STATE's own.
-pub fn import(state: &[u8], path: &[u8], sync: bool) {
+pub fn import(rt: HostRuntime, state: &[u8], path: &[u8], sync: bool) {
     let mut text = clerk::body_room();
-    let w = read_whole(path, &mut text);
+    let w = read_whole(rt, path, &mut text);
     let n = within(w.size, &text);
     if w.good {
-        imported(state, path, &text[..n], sync);
+        imported(rt, state, path, &text[..n], sync);
     }
 }

@@ -43,10 +43,18 @@ fn edit_refused(log: &[u8], line: u64, number: u64, names: Names, group: &[u8], 
 }
 
 // A log that stopped at a line. A line that is wrong is no edit; an edit stands in so many lines at the front of `group`.
-pub fn stopped(state: &[u8], log: &[u8], line: u64, number: u64, group: &[u8], lines: u64) {
+pub fn stopped(
+    rt: HostRuntime,
+    state: &[u8],
+    log: &[u8],
+    line: u64,
+    number: u64,
+    group: &[u8],
+    lines: u64,
+) {
     if number == 13 {
         refused_at(log, line, number);
         return;
     }
-    edit_refused(log, line, number, names_beside(state), group, lines);
+    edit_refused(log, line, number, names_beside(rt, state), group, lines);
 }

@@ -1,7 +1,11 @@
 // What the keeper says: what was done on standard output, what is wrong on standard error.
 ghost use Rattle.std.specs.Prelude.{◌≤◌, length};
+ghost use Rattle.io.specs.Counts.{IsPrefixLen};
 
 use super::files::within;
+use std::env::FillError;
+use std::fmt::InlineText;
+use std::io::Error;
 
 // What can't be written is lost, and whoever started the keeper is told by its status.
 pub fn note(text: &[u8]) {
@@ -46,12 +50,45 @@ pub fn complain_of(path: &[u8], text: &[u8]) {
     wrong();
 }
 
+// How many bytes of an error's text are the system's words: behind them stands its number, as in " (os error 2)".
+fn before_number(text: &[u8]) -> usize
+    ensures { IsPrefixLen result text.now }
+{
+    let mut i = text.len();
+    while i > 1 {
+        i -= 1;
+        if text[i] == b'(' {
+            return i - 1;
+        }
+    }
+    text.len()
+}
+
+// What the system says of an error.
+fn tell_error(e: Error) {
+    let text = InlineText::<256>::of(&e);
+    let words = text.as_str().as_bytes();
+    tell(&words[..before_number(words)]);
+}
+
 // A call of the system that failed on a file, and why.
-pub fn failed(path: &[u8], what: &[u8]) {
+pub fn failed(path: &[u8], what: &[u8], e: Error) {
     tell(b"keeper: ");
     tell(path);
-    os::fail(what);
+    tell(what);
+    tell(b": ");
+    tell_error(e);
+    tell(b"\n");
     wrong();
+}
+
+// An argument that can't be taken: it is longer than any name of a file, or there is none; the numbers are the system's for these.
+pub fn not_taken(name: &[u8], e: FillError) {
+    let why = match e {
+        FillError::TooLong => Error::from_raw_os_error(36),
+        FillError::NotPresent => Error::from_raw_os_error(22),
+    };
+    failed(name, b" can't be taken", why);
 }
 
 fn tell_words(number: u64) {

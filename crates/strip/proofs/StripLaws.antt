@@ -8,10 +8,9 @@ use lib.Dec.{ltb, leb, eqb}
 use lib.ListN.{length, get_or, drop, set, length-set, drop_of_length-le}
 use borrow.Author.Tests.{le-leb, lt-leb, lt-ltb, le-ltb, eq-eqb, ne_eqb}
 use Rattle.laws.proofs.Lists.{stored}
-use Rattle.runs.specs.Positions.{any_at, seek_from}
+use Rattle.runs.specs.Positions.{seek_from}
 use Rattle.runs.specs.Stretches.{in_front}
-use Rattle.runs.proofs.SeekLaws.{seek_is}
-use Rattle.windows.specs.Windows.{list_from, shows_at, shown_in, first_in, window_at, windows}
+use Rattle.windows.specs.Windows.{list_from, shown_in, first_in, window_at, windows}
 use Rattle.windows.proofs.WalkLaws.{length_from, at_from, stored_front}
 use Rattle.tank.specs.Rules.{View, when_accepted}
 use Rattle.tanks.specs.House.{no_tank}

@@ -1,18 +1,18 @@
 -- The cells of a small tank, computed from the definitions: key 1 shows a value at 2 and 3, key 0 at 3 alone, and key 2 is a winning null at 5.
 use Prim.Native.Nat.{ℕ}
 use mathlib.Core.Path.{◌≡◌, refl}
-use mathlib.Core.Bool.{Bool, true, cond}
-use mathlib.Core.List.{List, [], ◌∷◌}
+use mathlib.Core.Bool.{true, cond}
+use mathlib.Core.List.{[], ◌∷◌}
 use lib.Dec.{eqb}
 use lib.IntN.{pos}
 use Rattle.styles.specs.declared.Mark.{Mark}
 use Rattle.styles.specs.declared.Party.TheVariants.{Plant}
 use Rattle.styles.specs.declared.Value.{Value}
 use Rattle.styles.specs.declared.Value.TheVariants.{Null, Flag}
-use Rattle.styles.specs.Marks.{winner, key_is}
+use Rattle.styles.specs.Marks.{winner}
 use Rattle.runs.specs.Positions.{any_at}
 use Rattle.questions.specs.Questions.{position_refusal}
-use Rattle.windows.specs.Windows.{is_value, shows_at}
+use Rattle.windows.specs.Windows.{is_value}
 use Rattle.tank.specs.Rules.{View}
 use Rattle.strip.specs.Strip.{letter_from, strip_number}
 use Rattle.strip.specs.Legend.{first_legend}

@@ -1,5 +1,5 @@
 -- The eight keys of a strip and their letters, as a caller may keep them.
-use Rattle.std.specs.Prelude.{ℕ, ◌%◌, List, [], ◌∷◌, set}
+use Rattle.std.specs.Prelude.{ℕ, ◌%◌, [], ◌∷◌, set}
 use Rattle.strip.specs.declared.legend.Legend.{Legend}
 
 -- key i with the digit i as its letter, at place i

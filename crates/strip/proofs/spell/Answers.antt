@@ -1,4 +1,3 @@
-use Prim.Native.Nat.{◌-◌}
 use native.Mathlib.Omega.{arith}
 use Rattle.strip.proofs.StripLaws.{spelt_none, spelt_on, spelt_all}
 use Rattle.strip.proofs.spell.Goals as goal

@@ -1,4 +1,4 @@
-use Rattle.std.proofs.Common.{◌≡◌, ◌-◌, arith, rules}
+use Rattle.std.proofs.Common.{◌≡◌, arith, rules}
 use Rattle.timing.specs.Work as rules
 use Rattle.timing.proofs.Laws.{summed_none, summed_next, left_none, left_next}
 use Rattle.timing.proofs.edits.Goals as goal

@@ -1,5 +1,5 @@
 -- After k turns so many are added up, and the last state means the house that the last of them left.
-use Rattle.std.proofs.Common.{◌≡◌, ◌-◌, ◌<◌, rules}
+use Rattle.std.proofs.Common.{◌≡◌, ◌-◌, ◌<◌}
 use Rattle.tanks.specs.Pool.{meaning, Sound}
 use Rattle.timing.specs.Promises.{Sized}
 use Rattle.timing.specs.Work as rules

@@ -1,4 +1,4 @@
-use Rattle.std.proofs.Common.{◌-◌, rules}
+use Rattle.std.proofs.Common.{rules}
 use Rattle.timing.proofs.Laws.{stepped_none, stepped_next, stepped_all}
 use Rattle.timing.proofs.every_other.Goals as goal
 
@@ -6,11 +6,11 @@ pub loop-j-init : goal.loop-j-init
 loop-j-init c = search (rules, stepped_none)
 
 pub loop-j-preserved : goal.loop-j-preserved
-loop-again c = (
+loop-j-preserved c = (
   search rules,
   search rules,
   search rules,
-  stepped_next c.before.before.before.loop.invariant.3 (search rules) (rw c.before.mark.ensures at c.annotated.ensures),
+  stepped_next c.loop-j.invariant.3 (search rules) (rw c.mark.ensures at c.annotated-u.ensures),
 )
 
 pub returns : goal.returns

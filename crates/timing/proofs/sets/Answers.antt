@@ -1,4 +1,4 @@
-use Rattle.std.proofs.Common.{◌-◌, rules}
+use Rattle.std.proofs.Common.{rules}
 use Rattle.timing.proofs.Laws.{summed_none, summed_next, summed_all}
 use Rattle.timing.proofs.sets.Goals as goal
 

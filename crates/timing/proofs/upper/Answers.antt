@@ -1,4 +1,4 @@
-use Rattle.std.proofs.Common.{◌-◌, rules}
+use Rattle.std.proofs.Common.{rules}
 use Rattle.timing.proofs.Laws.{stepped_none, stepped_next, stepped_all}
 use Rattle.timing.proofs.upper.Goals as goal
 

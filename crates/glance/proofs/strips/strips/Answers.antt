@@ -1,4 +1,3 @@
-use Prim.Native.Nat.{◌-◌}
 use native.Mathlib.Omega.{arith}
 use Rattle.tanks.specs.Pool.{meaning}
 use Rattle.answers.proofs.Laws.{and_then, left_all, left_more, left_none}
