@@ -20,7 +20,7 @@ returns-then-l-gt0 c =
     let t = k.result in
     let w = c.write-l.ensures in
     feed_long a.text.now a.bytes.now a.next.now c.tanks_of-t.ensures _ t c.if-t-gt0.false k.ensures c.wrong-then-l-gt0.ensures
-    (too_long (meaning t.tanks) a.next.now w.0 w.1.0 (fed_on (meaning t.tanks) t.at t.edits t.stop) c.if-l-gt0.true)
+    (too_long (meaning t.tanks) a.next.now w.value w.out_after (fed_on (meaning t.tanks) t.at t.edits t.stop) c.if-l-gt0.true)
 
 pub returns : goal.returns
 returns c =
@@ -29,4 +29,4 @@ returns c =
     let t = k.result in
     let w = c.write-l.ensures in
     feed_done a.text.now a.bytes.now a.next.now c.tanks_of-t.ensures _ t c.if-t-gt0.false k.ensures c.fed.ensures
-    (fits (meaning t.tanks) a.next.now w.0 w.1.0 (fed_on (meaning t.tanks) t.at t.edits t.stop) c.if-l-gt0.false)
+    (fits (meaning t.tanks) a.next.now w.value w.out_after (fed_on (meaning t.tanks) t.at t.edits t.stop) c.if-l-gt0.false)

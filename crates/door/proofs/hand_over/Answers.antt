@@ -22,7 +22,7 @@ pub returns-then-l-gt0 : goal.returns-then-l-gt0
 returns-then-l-gt0 c =
     let a = c.args in
     let w = c.write-l.ensures in
-    let long = too_long (meaning a.s) a.next.now w.0 w.1.0 (right (meaning a.s) (take a.at a.held.now)) c.if-l-gt0.true in
+    let long = too_long (meaning a.s) a.next.now w.value w.out_after (right (meaning a.s) (take a.at a.held.now)) c.if-l-gt0.true in
     wrong_runs 11 0 a.next.now _ a.answers.now c.wrong-then-l-gt0.ensures
     (held_fit (meaning a.s) (length a.next.now) (length a.answers.now) a.at a.held.now c.requires.1 c.room_for.ensures c.if-room_for-at.false ∙ long.0)
     long.1
@@ -38,7 +38,7 @@ returns c =
     let a = c.args in
     let w = c.write-l.ensures in
     let t = take a.at a.held.now in
-    let good = fits (meaning a.s) a.next.now w.0 w.1.0 (right (meaning a.s) t) c.if-l-gt0.false in
+    let good = fits (meaning a.s) a.next.now w.value w.out_after (right (meaning a.s) t) c.if-l-gt0.false in
     let p = c.put-n.ensures in
     done_runs (meaning a.s) t a.next.now _ a.answers.now _ c.right.ensures good.2 p.0
     (held_fit (meaning a.s) (length a.next.now) (length a.answers.now) a.at a.held.now c.requires.1 c.room_for.ensures c.if-room_for-at.false ∙ good.0)

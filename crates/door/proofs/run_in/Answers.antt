@@ -42,7 +42,7 @@ returns-then-r-gt262144 c =
     refl
 
 pub hand_over-requires : goal.hand_over-requires
-hand_over-requires c = (c.calls_on-r.ensures.sound, omega (arith, c.if-r-gt262144.false, c.calls_on-r.auto.1.1.0, c.requires))
+hand_over-requires c = (c.calls_on-r.ensures.sound, omega (arith, c.if-r-gt262144.false, c.calls_on-r.auto.held, c.requires))
 
 pub returns : goal.returns
 returns c =

@@ -3,7 +3,7 @@ use Rattle.door.proofs.Laws.{reads_text}
 use Rattle.door.proofs.tanks_of.Goals as goal
 
 pub restore-requires : goal.restore-requires
-restore-requires c = c.«open».ensures.sound
+restore-requires c = c.open-o.ensures.sound
 
 pub returns : goal.returns
-returns c = reads_text c.«open».ensures.is c.restore.ensures
+returns c = reads_text c.open-o.ensures.is c.restore.ensures
