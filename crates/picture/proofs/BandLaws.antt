@@ -7,7 +7,6 @@ use native.Mathlib.Omega.{arith}
 use borrow.Author.Tests.{lt-ltb, le-ltb, lt-leb, le-leb}
 use lib.Dec.{ltb, leb}
 use lib.ListN.{length, get_or, drop, length-drop}
-use Rattle.answers.specs.Waiting.{Pieces}
 use Rattle.questions.specs.declared.Told.{Told}
 use Rattle.questions.specs.Questions.{range_contains_key}
 use Rattle.styles.specs.declared.Party.TheVariants.{Lab}
@@ -16,7 +15,7 @@ use Rattle.tank.specs.Rules.{View, marks_of, carried}
 use Rattle.tank.specs.State.{view, table_of, Sound}
 use Rattle.tank.proofs.Unique.{marks_carried}
 use Rattle.picture.specs.Scale.{place_of}
-use Rattle.picture.specs.Bands.{is_yes, held_in, room_of, labelled, last_after, edge_says, edges_from, end_of, depth_of}
+use Rattle.picture.specs.Bands.{is_yes, held_in, labelled, last_after, edge_says, edges_from, end_of, depth_of}
 use Rattle.picture.proofs.Choices.{whole_key}
 use Rattle.picture.proofs.Turns.{three}
 

@@ -1,8 +1,8 @@
 -- Pieces that are put where a test holds, and tests as the code makes them.
-use Prim.Native.Nat.{ℕ, ◌+◌, ◌-◌, ◌≤◌, ◌<◌, ◌^◌, ◌%◌}
+use Prim.Native.Nat.{ℕ, ◌≤◌, ◌<◌, ◌^◌, ◌%◌}
 use mathlib.Core.Bool.{Bool, true, false, cond}
 use mathlib.Core.List.{List, []}
-use mathlib.Core.Path.{◌≡◌, refl, sym, ap, ◌∙◌}
+use mathlib.Core.Path.{◌≡◌, sym, ap, ◌∙◌}
 use native.Mathlib.Nat.{mod-eq_of_lt}
 use native.Mathlib.Omega.{arith}
 use borrow.Author.Tests.{lt-ltb, le-ltb}
@@ -10,8 +10,7 @@ use lib.Dec.{ltb}
 use Rattle.answers.specs.Waiting.{Pieces, Adds}
 use Rattle.answers.proofs.Laws.{adds_as, no_piece}
 use Rattle.questions.specs.declared.Shown.{Shown}
-use Rattle.questions.specs.declared.Told.{Told}
-use Rattle.questions.specs.Questions.{value_at, range_contains_key}
+use Rattle.questions.specs.Questions.{value_at}
 use Rattle.tank.specs.Rules.{View}
 use Rattle.windows.specs.Windows.{is_value, shows_at}
 

@@ -1,6 +1,6 @@
 -- Where lanes lie: within their band, and, where the band is at least as high as they are many, one under the other.
-use Prim.Native.Nat.{ℕ, suc, ◌+◌, ◌-◌, ◌*◌, ◌/◌, ◌≤◌, ◌<◌, max}
-use mathlib.Core.Path.{◌≡◌, refl, sym, ap, ◌∙◌}
+use Prim.Native.Nat.{ℕ, suc, ◌+◌, ◌*◌, ◌≤◌, ◌<◌}
+use mathlib.Core.Path.{◌≡◌, ap, ◌∙◌}
 use native.Mathlib.Nat.{add-mul, one-mul, mul_comm, mul-le-mul_right, div-lt_iff_lt-mul, add-mul-div_right}
 use native.Mathlib.Omega.{arith}
 use Rattle.picture.specs.declared.scale.Band.{Band}

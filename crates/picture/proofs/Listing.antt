@@ -1,8 +1,8 @@
 -- The list of a tank's marked stretches, at the front of 1,536 numbers: there is always room for it.
-use Prim.Native.Nat.{ℕ, ◌*◌, ◌≤◌, ◌<◌}
+use Prim.Native.Nat.{ℕ, ◌≤◌}
 use mathlib.Core.Bool.{Bool, cond}
-use mathlib.Core.List.{List, ◌++◌}
-use mathlib.Core.Path.{◌≡◌, refl, sym, ap, ◌∙◌}
+use mathlib.Core.List.{List}
+use mathlib.Core.Path.{◌≡◌, sym, ap, ◌∙◌}
 use native.Mathlib.Nat.{le_trans}
 use native.Mathlib.Omega.{arith}
 use borrow.Author.Tests.{le-ltb}
@@ -14,7 +14,7 @@ use Rattle.lists.proofs.Most.{list_most}
 use Rattle.runs.specs.Stretches.{in_front}
 use Rattle.tank.specs.declared.Tank.{Tank}
 use Rattle.tank.specs.State.{view, Sound}
-use Rattle.tank.specs.Rules.{View, carried}
+use Rattle.tank.specs.Rules.{carried}
 use Rattle.tank.proofs.Unique.{marks_carried, table_length}
 
 module _ {t : Tank} (s : Sound t) (entry exit : List ℕ) (r : Listed) (room : length entry ≡ 1536)

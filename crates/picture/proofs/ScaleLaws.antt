@@ -1,7 +1,7 @@
 -- The scale of a band: it never falls, begins at 0, and ends at 900.
-use Prim.Native.Nat.{ℕ, suc, ◌+◌, ◌-◌, ◌*◌, ◌/◌, ◌%◌, ◌≤◌, ◌<◌, min, max}
-use mathlib.Core.Path.{◌≡◌, refl, sym, ap, ◌∙◌}
-use native.Mathlib.Nat.{le_trans, le_of_eq, mul_comm, mul-div_cancel_left, zero-div, div-le_of_le-mul, le-div_iff_mul-le, div-lt_iff_lt-mul, mul-le-mul_right, mul-le-mul_left, div-mul-le_self}
+use Prim.Native.Nat.{ℕ, ◌*◌, ◌/◌, ◌≤◌, ◌<◌, min}
+use mathlib.Core.Path.{◌≡◌, ap, ◌∙◌}
+use native.Mathlib.Nat.{le_trans, mul-div_cancel_left, zero-div, div-le_of_le-mul, le-div_iff_mul-le, div-lt_iff_lt-mul, mul-le-mul_right, div-mul-le_self}
 use native.Mathlib.Omega.{arith}
 use Rattle.picture.specs.Scale.{unit_of, whole_of, place_of}
 

@@ -1,6 +1,6 @@
 -- docs/KEEPER.md, "picture": which keys have a lane in a tank's band, where it lies, and where it has bars. `v` is what a party is shown of a
 -- tank, `list` the list of its marked stretches, `keys` the twelve lowest keys that occur, 65536 behind the last.
-use Rattle.std.specs.Prelude.{Bool, true, false, cond, ◌&&◌, ◌||◌, List, [], ◌∷◌, ◌++◌, ℕ, ◌+◌, ◌-◌, ◌*◌, ◌/◌, max, ltb, leb, length, get_or}
+use Rattle.std.specs.Prelude.{Bool, false, cond, ◌&&◌, ◌||◌, List, [], ◌∷◌, ◌++◌, ℕ, ◌+◌, ◌-◌, ◌*◌, ◌/◌, max, ltb, leb, length, get_or}
 use Rattle.answers.specs.Waiting.{Pieces}
 use Rattle.lists.specs.Lists.{whole_list}
 use Rattle.questions.specs.declared.Asked.{Asked}

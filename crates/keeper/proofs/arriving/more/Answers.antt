@@ -7,8 +7,8 @@ use Rattle.keeper.proofs.Over.{over_not}
 use Rattle.keeper.proofs.arriving.more.Goals as goal
 
 pub taken-requires : goal.taken-requires
-taken-requires c κs = (
-  subst (λ (t : Tanks). Sound t) (sym c.before.before.from_place.ensures) c.before.before.before.before.before.load.ensures.0,
+taken-requires c = (
+  subst (λ (t : Tanks). Sound t) (sym c.from_place-from.ensures) c.load-k.ensures.sound,
   search rules,
   search rules,
 )

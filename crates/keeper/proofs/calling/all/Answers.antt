@@ -1,6 +1,6 @@
+-- Where the clerk stands fits the room for a body, turn after turn.
 use native.Mathlib.Omega.{arith}
-use mathlib.Core.Path.{◌≡◌, sym, ap, subst, ◌∙◌}
-use lib.ListN.{length}
+use mathlib.Core.Path.{sym, ap, subst, ◌∙◌}
 use borrow.Author.Rules.{rules}
 use Rattle.script.specs.declared.Inlet.{Inlet}
 use Rattle.script.specs.Bodies.{Fits}
@@ -24,23 +24,5 @@ turn-next-requires c =
     let s = c.requires in
     record { settled = (w.invariant.2, w.invariant.3); most_body_in_bounds = (omega (arith, s.0, w.invariant.0), omega (arith, s.1, w.invariant.1)) }
 
-pub shape_of-body-then-next : goal.shape_of-body-then-next
-shape_of-body-then-next c = (let h : length c.turn-next.new.out.1.0 ≡ length c.args.body.now = search rules in h)
-
-pub shape_of-out-then-next : goal.shape_of-out-then-next
-shape_of-out-then-next c = (let h : length c.turn-next.new.out.1.1.0 ≡ length c.args.out.now = search rules in h)
-
-pub overflow_sub-turns : goal.overflow_sub-turns
-overflow_sub-turns c = omega (arith, c.loop-turns-test.true)
-
-pub loop-turns-smaller : goal.loop-turns-smaller
-loop-turns-smaller c = omega (arith, c.loop-turns-test.true)
-
 pub loop-turns-preserved : goal.loop-turns-preserved
-loop-turns-preserved c = ((let h : length c.turn-next.new.out.1.0 ≡ length c.args.body.now = search rules in h), (let h : length c.turn-next.new.out.1.1.0 ≡ length c.args.out.now = search rules in h), c.turn-next.ensures.0, c.turn-next.ensures.1)
-
-pub shape_of-body : goal.shape_of-body
-shape_of-body c = c.loop-turns.invariant.0
-
-pub shape_of-out : goal.shape_of-out
-shape_of-out c = c.loop-turns.invariant.1
+loop-turns-preserved c = let e = c.turn-next.ensures in (search rules, search rules, e.0, e.1)

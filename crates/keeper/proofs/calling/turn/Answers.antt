@@ -1,8 +1,8 @@
 -- Where nothing can be read, the clerk stands where he stood.
 use Rattle.keeper.proofs.calling.turn.Goals as goal
 
-pub returns-then-got-lt0 : goal.returns-then-got-lt0
-returns-then-got-lt0 c =
-    let s = c.requires in
+pub returns-in-Err : goal.returns-in-Err
+returns-in-Err c =
+    let s = c.requires.settled in
     let h = c.halted.ensures in
-    (rw h.1 s.0.0, rw h.0 s.0.1)
+    (rw h.1 s.0, rw h.0 s.1)

@@ -6,7 +6,7 @@ use Rattle.tanks.specs.Pool.{Sound}
 use Rattle.keeper.proofs.feeding.piece.Goals as goal
 
 pub piece_at-requires : goal.piece_at-requires
-piece-at-requires c κs = (
-  subst (λ (t : Tanks). Sound t) (sym c.before.from_place.ensures) c.before.before.before.before.load.ensures.0,
+piece_at-requires c = (
+  subst (λ (t : Tanks). Sound t) (sym c.from_place-from.ensures) c.load-k.ensures.sound,
   search rules,
 )

@@ -14,8 +14,8 @@ returns-then-w c =
     let k = c.told.result in
     let n = c.within-n in
     let text = c.read_whole-w.new.room in
-    let size : n.result ≡ k.size = n.ensures.0.1 ∙ sym t.1.1 in
-    record { sound = t.0; in_step = λ g. record { sound = t.0; holds = record { inside = omega (arith, size, n.ensures.0.0); tells = subst (λ (m : ℕ). Tells k.place (meaning k.tanks) (take m text)) size (t.1.0 g) } } }
+    let size : n.result ≡ k.size = n.ensures.prefix_len.1 ∙ sym t.size_value in
+    record { sound = t.sound; in_step = λ g. record { sound = t.sound; holds = record { inside = omega (arith, size, n.ensures.prefix_len.0); tells = subst (λ (m : ℕ). Tells k.place (meaning k.tanks) (take m text)) size (t.tells g) } } }
 
 pub returns : goal.returns
 returns c = let u = c.untold.ensures in record { sound = u.0; in_step = λ g. absurd (true≢false (sym g ∙ u.1)) }

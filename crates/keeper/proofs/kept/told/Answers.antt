@@ -8,4 +8,4 @@ pub returns : goal.returns
 returns c =
     let r = c.read_back-b in
     let text = c.args.text.now in
-    (r.ensures.sound, (λ g. back_tells _ text r.result r.ensures (eqb-true _ _ g), refl))
+    record { sound = r.ensures.sound; tells = λ g. back_tells _ text r.result r.ensures (eqb-true _ _ g); size_value = refl }

@@ -17,7 +17,7 @@ returns-in-Done c =
     let n = c.within-n in
     λ place h buffer inside renews good.
     subst (λ (l : List ℕ). Holds place h n.result l) (sym p.ensures.1)
-    (put_holds place h c.args.kept.now _ buffer c.args.r c.args.next.now n.result renews (omega (arith, c.if-r-gt0.false)) n.ensures.1 (omega (arith, n.ensures.0.0, c.requires)))
+    (put_holds place h c.args.kept.now _ buffer c.args.r c.args.next.now n.result renews (omega (arith, c.if-r-gt0.false)) n.ensures.value (omega (arith, n.ensures.prefix_len.0, c.requires)))
 
 pub returns-in-Failed : goal.returns-in-Failed
 returns-in-Failed c = λ place h buffer inside n good. absurd (true≢false (sym good ∙ c.not_saved-in-Failed.ensures))

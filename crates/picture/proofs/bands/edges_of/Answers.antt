@@ -1,4 +1,3 @@
-use Prim.Native.Nat.{◌-◌}
 use native.Mathlib.Omega.{arith}
 use Rattle.answers.proofs.Laws.{and_then, left_all, left_more, left_none}
 use Rattle.picture.proofs.BandLaws.{edges_more, edges_none}

@@ -1,4 +1,4 @@
-use Prim.Native.Nat.{ℕ, ◌+◌, ◌-◌}
+use Prim.Native.Nat.{ℕ, ◌+◌}
 use mathlib.Core.Bool.{Bool, cond}
 use mathlib.Core.List.{[]}
 use mathlib.Core.Path.{ap}
@@ -7,7 +7,7 @@ use lib.ListN.{get_or}
 use Rattle.answers.proofs.Laws.{no_piece, adds_as, left_all, left_more, left_none}
 use Rattle.tank.specs.State.{view}
 use Rattle.picture.specs.Elements.{each_stretch}
-use Rattle.picture.specs.Bands.{band, held_in, hatch_says, holds_say}
+use Rattle.picture.specs.Bands.{held_in, hatch_says, holds_say}
 use Rattle.picture.proofs.Choices.{when_true, when_false}
 use Rattle.picture.proofs.Turns.{stretch_more, stretch_none}
 use borrow.Author.Tests.{lt-ltb, le-ltb}

@@ -7,7 +7,7 @@ use lib.ListN.{length, drop}
 use Rattle.answers.proofs.Laws.{Left}
 use Rattle.tank.specs.State.{view}
 use Rattle.picture.specs.Elements.{each_stretch}
-use Rattle.picture.specs.Bands.{band, held_in, hatch_says}
+use Rattle.picture.specs.Bands.{held_in, hatch_says}
 use Rattle.picture.proofs.bands.holds.Given as goal
 
 abbrev pub invariant-loop-i : goal.invariant-loop-i

@@ -1,5 +1,4 @@
 -- The edge that has a label, or the one before.
-use Rattle.picture.specs.Bands.{labelled}
 use Rattle.picture.proofs.BandLaws.{last_here, last_stays}
 use Rattle.picture.proofs.bands.last_after.Goals as goal
 

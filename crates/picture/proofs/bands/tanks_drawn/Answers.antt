@@ -1,4 +1,3 @@
-use Prim.Native.Nat.{◌-◌}
 use native.Mathlib.Omega.{arith}
 use Rattle.answers.proofs.Laws.{left_all, left_more, left_none}
 use Rattle.tanks.specs.Pool.{meaning}
