@@ -199,13 +199,13 @@ module _ (ms : List Mark) (p x y : ℕ) where
       length-append (anchors_of (p - 1) End (pick ms (lacking_bits x y))) (anchors_of p Start (pick ms (lacking_bits y x)))
       ∙ ap₂ (λ (a b : ℕ). a + b) (length-map (pick ms (lacking_bits x y)) (anchor_of (p - 1) End)) (length-map (pick ms (lacking_bits y x)) (anchor_of p Start))
 
-  between_count : x < 2 ^ length ms → y < 2 ^ length ms → length (between ms p x y) ≡ ones (lacking_bits x y) + ones (lacking_bits y x)
+  pub between_count : x < 2 ^ length ms → y < 2 ^ length ms → length (between ms p x y) ≡ ones (lacking_bits x y) + ones (lacking_bits y x)
   between_count a b = omega (arith, between_length, pick_length ms (lacking_bits x y) (omega arith), pick_length ms (lacking_bits y x) (omega arith))
 
-lack_nothing : (x : ℕ) → lacking_bits x 0 ≡ x
+pub lack_nothing : (x : ℕ) → lacking_bits x 0 ≡ x
 lack_nothing x = omega (arith, and_zero_r x)
 
-nothing_lacks : (x : ℕ) → lacking_bits 0 x ≡ 0
+pub nothing_lacks : (x : ℕ) → lacking_bits 0 x ≡ 0
 nothing_lacks x = omega arith
 
 module _ {hs : List Head} {pool : List Run} {table : Table} {t : ℕ} (ok : Stands hs pool table t) (who : Party) {own : ℕ}

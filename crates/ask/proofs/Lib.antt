@@ -2,6 +2,7 @@ pub mod AskLaws
 pub mod Standing
 pub mod WindowLaws
 pub mod Borders
+pub mod RecordLaws
 pub mod Most
 pub mod Ranges
 pub mod Examples

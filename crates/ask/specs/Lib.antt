@@ -1,3 +1,4 @@
 pub mod Asks
 pub mod Parts
+pub mod Records
 pub mod Examples

@@ -15,7 +15,7 @@ use styles::{Party, bits};
 use tanks::{Head, Run, Table, look, pool};
 
 // How many bits two sets do not share.
-fn changes(before: u64, behind: u64) -> usize
+pub(crate) fn changes(before: u64, behind: u64) -> usize
     ensures { (result ≡ ones (lacking_bits before behind) + ones (lacking_bits behind before)) × (result ≤ 128) }
 {
     bits::count(lacking(before, behind)) + bits::count(lacking(behind, before))

@@ -5,6 +5,7 @@ pub mod parts; // parts.rt: questions of one tank, on the parts of a state that 
 pub mod listed; // listed.rt: lists of one tank, likewise
 pub mod windowed; // windowed.rt: what shows in equal windows over one tank, likewise
 pub mod anchored; // anchored.rt: how many anchors it has, likewise
+mod records; // records.rt: its anchors as records
 
 ghost use Rattle.std.specs.Prelude.{◌≡◌, [], length};
 ghost use Rattle.lists.specs.Lists.{range_list, whole_list, range_number, whole_number, unless_refused, filled_beside};
@@ -316,7 +317,7 @@ pub fn iter_anchors(s: Tanks, spot: Spot, out: &mut [Anchor]) -> Listed
     requires { Sound s }
     ensures { (result ≡ ask_at (meaning s) spot.tank spot.who no_list (λ v. filled_beside (anchors_number (length out.old) v) (anchors v))) × (out.new ≡ ask_at (meaning s) spot.tank spot.who out.old (λ v. in_front (unless_refused (anchors_number (length out.old) v) (anchors v)) out.old)) }
 {
-    let t = own(s, spot);
+    let place = records::placed(s, spot);
     let number = missing(spot);
-    lists::anchors::iter_anchors(t, number, out)
+    records::iter_anchors(place, number, out)
 }

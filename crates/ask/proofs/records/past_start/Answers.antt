@@ -1,0 +1,7 @@
+-- `past_start` meets its contract: one bit less.
+use Rattle.ask.proofs.records.past_start.Goals as goal
+
+pub returns : goal.returns
+returns c =
+    let w = c.args.w in
+    λ i. record { passed = w.passed; end = w.end; last = w.last; at = w.at; ends = w.ends; starts = c.without_bit.ensures i }
