@@ -272,12 +272,7 @@ pub fn mavelino_run(
 }
 
 // A piece of the boxes' log, from the start of a group on, on the tanks of a saved text: the next text, and how much of the piece was taken.
-pub fn mavelino_feed(
-    text: &[u8],
-    bytes: &[u8],
-    next: &mut [u8],
-    report: &mut [u64; 7],
-) -> u64
+pub fn mavelino_feed(text: &[u8], bytes: &[u8], next: &mut [u8], report: &mut [u64; 7]) -> u64
     ensures { FeedsLog text.now bytes.now next.old result next.new report.new }
 {
     let o = feed_in(text, bytes, next);
