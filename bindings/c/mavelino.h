@@ -13,8 +13,8 @@
  *
  * A call wants MAVELINO_STACK bytes of stack: a thread with less is to be given more.
  *
- * Link with libdoor.a, which `tools/archive door` writes, for x86-64. Of the C library it uses memcpy, memset, and write and close, which no call of
- * these functions reaches.
+ * Link with libdoor.a, which `tools/archive door` writes, for x86-64. Of the C library it uses memcpy, memmove, memset, and write, which no call of these
+ * functions reaches.
  */
 #ifndef MAVELINO_H
 #define MAVELINO_H
