@@ -5,7 +5,7 @@ use Prim.Native.Nat.{ℕ, zero, suc, ◌+◌, ◌-◌, ◌*◌, ◌≤◌, ◌<�
 use native.Mathlib.Decide.{dec_le}
 use native.Mathlib.Omega.{arith}
 use lib.ListN.{length, get_or, take, drop, length-drop, take-append-drop}
-use lib.Seq.{drop-cons, take-suc, take_all, drop-drop}
+use lib.Seq.{take-suc, take_all, drop-drop}
 use Rattle.styles.specs.declared.Mark.{Mark}
 use Rattle.styles.specs.Marks.{blank}
 use Rattle.text.specs.Bytes.{bytes}
@@ -48,29 +48,24 @@ unfolding ranges_say
 range_none n i xs h = let e : n - i ≡ 0 = omega arith in ap (λ (m : ℕ). ranges_say m i xs) e
 
 -- ---- three numbers to a stretch
-module _ (list : List ℕ) (i : ℕ) where
-  pub stretch_more : 3 ≤ length list - i → stretches_say (drop i list) ≡ line_says (bytes "from=") (get_or list i 0) ++ line_says (bytes "to=") (get_or list (i + 1) 0) ++ line_says (bytes "marks=") (get_or list (i + 2) 0) ++ stretches_say (drop (i + 3) list)
-  unfolding stretches_say
-  stretch_more h = ap stretches_say taken
-    where
-      step : (j k : ℕ) → suc j ≡ k → j < length list → drop j list ≡ get_or list j 0 ∷ drop k list
-      step j k e l = drop-cons list j 0 l ∙ ap (λ (m : ℕ). get_or list j 0 ∷ drop m list) e
+-- what is behind the first three
+pub rest_is : (l : List ℕ) → take (length l - 3) (drop 3 l) ≡ drop 3 l
+rest_is l = take_all (length l - 3) (drop 3 l) (omega (arith, length-drop 3 l))
 
-      taken : drop i list ≡ get_or list i 0 ∷ get_or list (i + 1) 0 ∷ get_or list (i + 2) 0 ∷ drop (i + 3) list
-      taken =
-          step i (i + 1) (omega arith) (omega arith)
-          ∙ ap (λ (l : List ℕ). get_or list i 0 ∷ l) (step (i + 1) (i + 2) (omega arith) (omega arith) ∙ ap (λ (l : List ℕ). get_or list (i + 1) 0 ∷ l) (step (i + 2) (i + 3) (omega arith) (omega arith)))
+pub stretch_more : (l : List ℕ) → 3 ≤ length l → stretches_say l ≡ line_says (bytes "from=") (get_or l 0 0) ++ line_says (bytes "to=") (get_or l 1 0) ++ line_says (bytes "marks=") (get_or l 2 0) ++ stretches_say (take (length l - 3) (drop 3 l))
+unfolding stretches_say
+stretch_more [] h = absurd (omega arith)
+stretch_more (a ∷ []) h = absurd (omega arith)
+stretch_more (a ∷ b ∷ []) h = absurd (omega arith)
+stretch_more (a ∷ b ∷ c ∷ l) h = ap (λ (k : List ℕ). line_says (bytes "from=") a ++ line_says (bytes "to=") b ++ line_says (bytes "marks=") c ++ stretches_say k) (sym (rest_is (a ∷ b ∷ c ∷ l)))
 
 -- fewer are none
-few : (l : List ℕ) → length l < 3 → stretches_say l ≡ []
+pub stretch_none : (l : List ℕ) → length l < 3 → stretches_say l ≡ []
 unfolding stretches_say
-few [] h = refl
-few (a ∷ []) h = refl
-few (a ∷ b ∷ []) h = refl
-few (a ∷ b ∷ c ∷ l) h = absurd (omega arith)
-
-pub stretch_none : (list : List ℕ) (i : ℕ) → length list - i < 3 → stretches_say (drop i list) ≡ []
-stretch_none list i h = few (drop i list) (omega (arith, length-drop i list))
+stretch_none [] h = refl
+stretch_none (a ∷ []) h = refl
+stretch_none (a ∷ b ∷ []) h = refl
+stretch_none (a ∷ b ∷ c ∷ l) h = absurd (omega arith)
 
 -- ---- pieces of a text
 -- the piece that begins at a place is what the text has from there on, as far as a piece goes

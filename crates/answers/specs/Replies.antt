@@ -1,5 +1,5 @@
 -- docs/CONSOLE.md: the lines of each answer, as pieces of text.
-use Rattle.std.specs.Prelude.{cond, ℕ, zero, suc, ◌+◌, ◌*◌, ◌/◌, min, length, get_or, take, drop}
+use Rattle.std.specs.Prelude.{cond, ℕ, zero, suc, ◌+◌, ◌*◌, ◌/◌, min, length, get_or, take, drop, Option, Some, None, Result, Ok, Err}
 use mathlib.Core.List.{List, [], ◌∷◌, ◌++◌, map, flat_map}
 use Rattle.styles.specs.declared.Styles.{Styles}
 use Rattle.richtext.specs.declared.AnchorType.{AnchorType}
@@ -11,7 +11,6 @@ use Rattle.questions.specs.declared.Shown.{Shown}
 use Rattle.questions.specs.declared.Told.{Told}
 use Rattle.lists.specs.declared.Listed.{Listed}
 use Rattle.night.specs.declared.Plan.{Plan}
-use Rattle.night.specs.declared.Proposal.{Proposal}
 use Rattle.night.specs.declared.Range.{Range}
 use Rattle.night.specs.Plans.{no_range}
 use Rattle.lists.specs.declared.anchors.Anchor.{Anchor}
@@ -123,8 +122,10 @@ abbrev pub plan_says : Plan → Pieces
 plan_says p = range_count_says p.count ++ ranges_say (min p.count 32) 0 p.ranges
 
 -- a plan that is proposed, or none
-abbrev pub proposal_says : Proposal → Pieces
-proposal_says p = or_refused p.number (cond p.found (plan_says p.plan) none_says)
+abbrev pub proposal_says : Result (Option Plan) ℕ → Pieces
+proposal_says (Ok (Some p)) = plan_says p
+proposal_says (Ok None) = none_says
+proposal_says (Err number) = refused_says number
 
 -- ---- Lists
 -- how much a list takes

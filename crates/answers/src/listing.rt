@@ -25,15 +25,12 @@ pub fn put_stretches(out: &mut [u8], at: usize, tank: u64, list: &[u64]) -> usiz
     ensures { Adds out.old at (list_says tank list.now) result out.new }
 {
     let mut k = say(out, at, b"tank=", tank);
-    let mut i = 0;
-    while i < list.len() {
-        if list.len() - i < 3 {
-            return k;
-        }
-        k = say(out, k, b"from=", list[i]);
-        k = say(out, k, b"to=", list[i + 1]);
-        k = say(out, k, b"marks=", list[i + 2]);
-        i += 3;
+    let mut left = list;
+    while let [from, to, marks, rest @ ..] = left {
+        k = say(out, k, b"from=", *from);
+        k = say(out, k, b"to=", *to);
+        k = say(out, k, b"marks=", *marks);
+        left = rest;
     }
     k
 }

@@ -4,7 +4,7 @@ ghost use Rattle.answers.specs.Waiting.{Adds, piece_room};
 ghost use Rattle.answers.specs.Replies.{range_says, ranges_say, plan_says, proposal_says};
 
 use super::pieces::{none, refuse, say};
-use night::{Plan, Proposal, Range};
+use night::{Plan, Range};
 
 // The two lines of a range.
 fn put_range(out: &mut [u8], at: usize, x: Range) -> usize
@@ -15,25 +15,14 @@ fn put_range(out: &mut [u8], at: usize, x: Range) -> usize
     say(out, k, b"end=", x.end)
 }
 
-// A count, and 32 for more.
-fn at_most_32(n: usize) -> usize
-    ensures { result ≡ min n 32 }
-{
-    if n < 32 { n } else { 32 }
-}
-
 // The lines of all ranges.
 fn put_ranges(out: &mut [u8], at: usize, plan: Plan) -> usize
     requires { piece_room ≤ length out.old }
     ensures { Adds out.old at (ranges_say (min plan.count 32) 0 plan.ranges) result out.new }
 {
-    let n = at_most_32(plan.count);
     let mut k = at;
-    let mut i = 0;
-    while i < n {
-        let x = plan.ranges[i];
-        k = put_range(out, k, x);
-        i += 1;
+    for x in &plan.ranges[..plan.count.min(32)] {
+        k = put_range(out, k, *x);
     }
     k
 }
@@ -49,16 +38,13 @@ fn put_plan(out: &mut [u8], at: usize, plan: Plan) -> usize
 }
 
 // A plan that is proposed, none, or a refusal.
-pub fn put_proposal(out: &mut [u8], at: usize, p: Proposal) -> usize
+pub fn put_proposal(out: &mut [u8], at: usize, p: Result<Option<Plan>, u64>) -> usize
     requires { piece_room ≤ length out.old }
     ensures { Adds out.old at (proposal_says p) result out.new }
 {
-    let plan = p.plan;
-    if p.number == 0 {
-        if p.found {
-            return put_plan(out, at, plan);
-        }
-        return none(out, at);
+    match p {
+        Ok(Some(plan)) => put_plan(out, at, plan),
+        Ok(None) => none(out, at),
+        Err(number) => refuse(out, at, number),
     }
-    refuse(out, at, p.number)
 }

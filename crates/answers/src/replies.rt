@@ -42,12 +42,6 @@ pub fn put_count(out: &mut [u8], at: usize, name: &[u8], c: Count) -> usize
     }
 }
 
-fn bit(b: bool) -> u64
-    ensures { result ≡ cond b 1 0 }
-{
-    if b { 1 } else { 0 }
-}
-
 // Whether a tank is touched.
 pub fn put_touched(out: &mut [u8], at: usize, y: YesNo) -> usize
     requires { piece_room ≤ length out.old }
@@ -55,7 +49,7 @@ pub fn put_touched(out: &mut [u8], at: usize, y: YesNo) -> usize
 {
     match y {
         YesNo::Refused(n) => refuse(out, at, n),
-        YesNo::Says(b) => say(out, at, b"touched=", bit(b)),
+        YesNo::Says(b) => say(out, at, b"touched=", u64::from(b)),
     }
 }
 

@@ -11,17 +11,9 @@ pub fn put_set(out: &mut [u8], at: usize, m: Styles) -> usize
     requires { piece_room ≤ length out.old }
     ensures { Adds out.old at (styles_say m) result out.new }
 {
-    let count = m.count;
-    let marks = m.marks;
-    let mut k = say(out, at, b"marks=", text::wide(count));
-    let mut i = 0;
-    while i < 64 {
-        if count <= i {
-            return k;
-        }
-        let mark = marks[i];
-        k = put_mark(out, k, mark);
-        i += 1;
+    let mut k = say(out, at, b"marks=", text::wide(m.count));
+    for mark in &m.marks[..m.count.min(64)] {
+        k = put_mark(out, k, *mark);
     }
     k
 }

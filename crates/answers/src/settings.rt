@@ -24,11 +24,8 @@ fn put_pairs(out: &mut [u8], at: usize, settings: [Setting; 8]) -> usize
     ensures { Adds out.old at (pairs_say 8 0 settings) result out.new }
 {
     let mut k = at;
-    let mut t = 0;
-    while t < 8 {
-        let s = settings[t];
-        k = put_pair(out, k, t, s);
-        t += 1;
+    for (t, s) in settings.iter().enumerate() {
+        k = put_pair(out, k, t, *s);
     }
     k
 }

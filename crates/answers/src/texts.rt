@@ -20,10 +20,7 @@ fn piece_end(from: usize, len: usize) -> usize
     requires { from ≤ len }
     ensures { result ≡ min (from + 192) len }
 {
-    if len - from < 192 {
-        return len;
-    }
-    from + 192
+    from + (len - from).min(192)
 }
 
 // The piece of a text that begins at a place.
@@ -41,10 +38,8 @@ fn put_pieces(out: &mut [u8], at: usize, text: &[u8], count: usize) -> usize
     ensures { Adds out.old at (cut_up count 0 text.now) result out.new }
 {
     let mut k = at;
-    let mut i = 0;
-    while i < count {
+    for i in 0..count {
         k = put_part(out, k, text, 192 * i);
-        i += 1;
     }
     k
 }

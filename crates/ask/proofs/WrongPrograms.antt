@@ -23,8 +23,10 @@ use Rattle.questions.specs.Questions.{position_refusal, set_of, styles_at}
 use Rattle.tank.specs.Rules.{View, fresh_view, Edit, annotating, inserting, shown_to, when_accepted}
 use Rattle.tank.proofs.Calls.{when_refused}
 use Rattle.laws.proofs.Cases.{cond_by}
+use Rattle.std.specs.Prelude.{Result}
+use Rattle.refusal.specs.declared.Refusal.{Refusal}
+use Rattle.refusal.specs.Answers.{given_or}
 use Rattle.tanks.specs.declared.Count.{Count}
-use Rattle.tanks.specs.declared.Inserted.{Inserted}
 use Rattle.tanks.specs.declared.Setting.{Setting}
 use Rattle.tanks.specs.declared.Tanks.{Tanks}
 use Rattle.tanks.specs.Settings.{accepted}
@@ -144,7 +146,7 @@ refuses_every_edit s next n e c wrong = wrong (c.number_is ∙ ap (λ (h : House
 
 -- ---- A program that inherits nothing
 -- the insertion lies between two positions that carry A: neither is the set that it answers empty, nor are the new positions bare
-pub inherits_nothing : (s : Tanks) (r : Inserted) → meaning s ≡ between → r.styles ≡ styles_of (inserted_set_at (meaning s) 0 Plant 15 4) → r.styles ≢ styles_of []
+pub inherits_nothing : (s : Tanks) (r : Result Styles Refusal) → meaning s ≡ between → given_or (styles_of []) r ≡ styles_of (inserted_set_at (meaning s) 0 Plant 15 4) → given_or (styles_of []) r ≢ styles_of []
 inherits_nothing s r e c wrong =
     let f : styles_of (A ∷ []) ≡ styles_of [] = sym (c ∙ ap styles_of (ap (λ (h : House). inserted_set_at h 0 Plant 15 4) e ∙ filling_set)) ∙ wrong in
     absurd (omega (arith, ap (λ (x : Styles). x.count) f))

@@ -1,11 +1,9 @@
 -- Document 01, "Checked examples": what an example claims of the rules, and the table of the twelve that are numbered.
-use Rattle.std.specs.Prelude.{ℕ, zero, suc, ◌+◌, ◌-◌, ◌≡◌, cond, List, [], ◌∷◌, ◌++◌, map, length, replicate}
+use Rattle.std.specs.Prelude.{ℕ, zero, suc, ◌+◌, ◌-◌, ◌≡◌, cond, List, [], ◌∷◌, ◌++◌, map, length, replicate, Option, Some}
 use Rattle.std.proofs.Math.IntN as int
 use Rattle.styles.specs.declared.Mark.{Mark}
 use Rattle.styles.specs.declared.Party.TheVariants.{Plant}
 use Rattle.styles.specs.declared.Value.TheVariants.{Null}
-use Rattle.styles.specs.declared.Winner.{Winner}
-use Rattle.styles.specs.declared.Winner.TheVariants.{Shows}
 use Rattle.styles.specs.Marks.{winner}
 use Rattle.styles.specs.Order.{id_of}
 use Rattle.lists.specs.declared.anchors.Anchor.{Anchor}
@@ -64,7 +62,7 @@ pub record Looks (l : Look) (v : View) : Type 0 where
   pub marks_are : (p : ℕ) → v.at p ≡ marks_at l.marks p
 
 -- the winners of a key, position by position: n of them from p on
-unfoldable pub winners : ℕ → ℕ → ℕ → View → List Winner
+unfoldable pub winners : ℕ → ℕ → ℕ → View → List (Option Mark)
 winners key p zero v = []
 winners key p (suc n) v = winner key (v.at p) ∷ winners key (suc p) n v
 
@@ -81,7 +79,7 @@ pub data Line : Type 0 where
   -- of a tank: has any position of a .. b a mark with this key?
   contains_key : ℕ → ℕ → ℕ → ℕ → Told → Line
   -- of a tank: the winners of a key from a position on
-  wins : ℕ → ℕ → ℕ → List Winner → Line
+  wins : ℕ → ℕ → ℕ → List (Option Mark) → Line
   -- of a tank: all its anchors
   anchored : ℕ → List Anchor → Line
 
@@ -210,7 +208,7 @@ table =
     ∷ [])
     -- 7. A and B on 10..20: B wins key 1.
     ∷ alone
-    (first_a ∷ edit (annotating 10 20 B) taken (look fresh_length 3 (on 10 20 (A ∷ B ∷ []) ∷ [])) ∷ wins 0 1 10 (replicate 10 (Shows B)) ∷ [])
+    (first_a ∷ edit (annotating 10 20 B) taken (look fresh_length 3 (on 10 20 (A ∷ B ∷ []) ∷ [])) ∷ wins 0 1 10 (replicate 10 (Some B)) ∷ [])
     -- 8. A on 10..20, delete 10..20: 1 run, length 4611686018427387893. Insert 0, len 10: length T.
     ∷ alone
     (first_a ∷ edit (deleting Plant 10 20) taken (look 4611686018427387893 1 []) ∷ edit (inserting Plant 0 10) (gives []) (look fresh_length 1 []) ∷ [])

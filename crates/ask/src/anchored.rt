@@ -30,15 +30,13 @@ fn count_in(heads: [Head; 8], pool: [Run; 512], table: Table, t: usize, who: Par
     let at = pool::start(heads, t);
     let h = heads[t];
     let n = h.runs;
-    let mut i = 0;
     let mut last: u64 = 0;
     let mut count = 0;
-    while i < n {
+    for i in 0..n {
         let r = pool[at + i];
         let next = r.set & own;
         count += changes(last, next);
         last = next;
-        i += 1;
     }
     count + bits::count(last)
 }

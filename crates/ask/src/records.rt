@@ -64,22 +64,12 @@ pub fn placed(s: Tanks, spot: Spot) -> Place
     let h = heads[t];
     let marks = table.marks;
     Place {
-        pool: pool,
-        marks: marks,
-        from: from,
+        pool,
+        marks,
+        from,
         runs: h.runs,
-        own: own,
+        own,
     }
-}
-
-// The position before a boundary; at the first, where nothing ends, 0.
-fn before(at: u64) -> u64
-    ensures { result ≡ at - 1 }
-{
-    if at == 0 {
-        return 0;
-    }
-    at - 1
 }
 
 // The end of mark i has had its turn.
@@ -87,12 +77,8 @@ fn past_end(w: Walk, i: usize) -> Walk
     ensures { result ≡ record { passed = w.passed; end = w.end; last = w.last; at = w.at; ends = without_bit i w.ends; starts = w.starts } }
 {
     Walk {
-        passed: w.passed,
-        end: w.end,
-        last: w.last,
-        at: w.at,
         ends: bits::without_bit(w.ends, i),
-        starts: w.starts,
+        ..w
     }
 }
 
@@ -101,12 +87,8 @@ fn past_start(w: Walk, i: usize) -> Walk
     ensures { result ≡ record { passed = w.passed; end = w.end; last = w.last; at = w.at; ends = w.ends; starts = without_bit i w.starts } }
 {
     Walk {
-        passed: w.passed,
-        end: w.end,
-        last: w.last,
-        at: w.at,
-        ends: w.ends,
         starts: bits::without_bit(w.starts, i),
+        ..w
     }
 }
 
@@ -130,12 +112,11 @@ fn behind(w: Walk) -> Walk
     ensures { result ≡ record { passed = w.passed; end = w.end; last = 0; at = w.end; ends = w.last; starts = 0 } }
 {
     Walk {
-        passed: w.passed,
-        end: w.end,
         last: 0,
         at: w.end,
         ends: w.last,
         starts: 0,
+        ..w
     }
 }
 
@@ -155,10 +136,10 @@ fn handed(made: [Anchor; 16], count: usize, walk: Walk) -> Ahead
     ensures { result ≡ record { made = made; next = 0; count = count; walk = walk } }
 {
     Ahead {
-        made: made,
+        made,
         next: 0,
-        count: count,
-        walk: walk,
+        count,
+        walk,
     }
 }
 
@@ -173,29 +154,25 @@ fn made_ahead(p: Place, walk: Walk) -> Ahead
     let mut made = [none; 16];
     let mut count = 0;
     let mut w = walk;
+    // No `for`: a turn makes an anchor, or only moves the walk on.
     while count < 16 {
         if 0 < w.ends {
             let i = bits::lowest(w.ends);
-            made[count] = mark_anchor(before(w.at), AnchorType::End, marks[i]);
+            made[count] = mark_anchor(w.at.saturating_sub(1), AnchorType::End, marks[i]);
             w = past_end(w, i);
             count += 1;
+        } else if 0 < w.starts {
+            let i = bits::lowest(w.starts);
+            made[count] = mark_anchor(w.at, AnchorType::Start, marks[i]);
+            w = past_start(w, i);
+            count += 1;
+        } else if w.passed < p.runs {
+            let r = pool[p.from + w.passed];
+            w = over(w, r.len, r.set & p.own);
+        } else if w.last == 0 {
+            return handed(made, count, w);
         } else {
-            if 0 < w.starts {
-                let i = bits::lowest(w.starts);
-                made[count] = mark_anchor(w.at, AnchorType::Start, marks[i]);
-                w = past_start(w, i);
-                count += 1;
-            } else {
-                if w.passed < p.runs {
-                    let r = pool[p.from + w.passed];
-                    w = over(w, r.len, r.set & p.own);
-                } else {
-                    if w.last == 0 {
-                        return handed(made, count, w);
-                    }
-                    w = behind(w);
-                }
-            }
+            w = behind(w);
         }
     }
     handed(made, count, w)
@@ -234,13 +211,9 @@ fn turned(c: Ahead) -> Ahead
     requires { c.next ≤ 15 }
     ensures { result ≡ record { made = c.made; next = c.next + 1; count = c.count; walk = c.walk } }
 {
-    let made = c.made;
-    let walk = c.walk;
     Ahead {
-        made: made,
         next: c.next + 1,
-        count: c.count,
-        walk: walk,
+        ..c
     }
 }
 
@@ -252,8 +225,7 @@ fn advance(p: Place, c: Ahead) -> Ahead
     if c.next + 1 < c.count {
         return turned(c);
     }
-    let walk = c.walk;
-    made_ahead(p, walk)
+    made_ahead(p, c.walk)
 }
 
 // How many anchors there are: of each boundary that a run begins at, and of the one behind the last. Where two runs have the same of the party's bits,
@@ -266,15 +238,13 @@ fn count(p: Place) -> usize
     let at = p.from;
     let n = p.runs;
     let own = p.own;
-    let mut i = 0;
     let mut last: u64 = 0;
     let mut count = 0;
-    while i < n {
+    for i in 0..n {
         let r = pool[at + i];
         let next = r.set & own;
         count += changes(last, next);
         last = next;
-        i += 1;
     }
     count + bits::count(last)
 }
@@ -319,11 +289,9 @@ pub fn iter_anchors(p: Place, lower: u64, out: &mut [Anchor]) -> Listed
 {
     let n = turns(p, lower, out.len());
     let mut c = first(p);
-    let mut j = 0;
-    while j < n {
+    for j in 0..n {
         out[j] = anchor_at(c);
         c = advance(p, c);
-        j += 1;
     }
     judged(p, lower, out.len())
 }

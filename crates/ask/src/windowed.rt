@@ -35,6 +35,7 @@ fn over_pool(
     let mut from = first;
     let mut best = 8;
     let mut w = 0;
+    // No `for`: a turn passes a run, or closes a window.
     while w < out.len() {
         let to = plus(from, k);
         if i < n {

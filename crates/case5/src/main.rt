@@ -6,12 +6,12 @@ use tanks::Setting;
 
 fn mark(key: u16, lamport: u32, peer: u64) -> Mark {
     Mark {
-        key: key,
+        key,
         flags: 132,
         party: Party::Plant,
-        lamport: lamport,
+        lamport,
         cnt: 0,
-        peer: peer,
+        peer,
         value: Value::Null,
     }
 }
@@ -21,13 +21,11 @@ fn main() {
         share: 40,
         limit: 200,
     }; 8]);
-    let s = opened.tanks;
-    let a = s.annotate(0, 10, 20, mark(1, 5, 1));
-    let t = a.tanks;
-    let c = t.annotate(0, 15, 25, mark(2, 3, 1));
-    let u = c.tanks;
+    let mut s = opened.tanks;
+    let _first = s.annotate(0, 10, 20, mark(1, 5, 1));
+    let _second = s.annotate(0, 15, 25, mark(2, 3, 1));
     let mut out = io::large_buffer();
-    let k = clerk::whole(u, Party::Plant, 0, 1536, &mut out, 0);
+    let k = clerk::whole(s, Party::Plant, 0, 1536, &mut out, 0);
     let mut good = true;
     script::hand_over(&out, k, &mut good);
 }

@@ -4,17 +4,18 @@ ghost use Rattle.tank.specs.State.{Formed, Sound};
 use crate::print::{
     say, say_mark, say_number, say_refusal, say_set, say_shown, say_tank, say_told,
 };
+use refusal::Refusal;
 use styles::{Mark, Party, Value};
 use tank::Tank;
 
 fn mark(key: u16, lamport: u32, peer: u64) -> Mark {
     Mark {
-        key: key,
+        key,
         flags: 0x84,
         party: Party::Plant,
-        lamport: lamport,
+        lamport,
         cnt: 0,
-        peer: peer,
+        peer,
         value: Value::Null,
     }
 }
@@ -33,15 +34,9 @@ fn c() -> Mark {
 
 // The mark with yes or no for its value.
 fn saying(m: Mark, b: bool) -> Mark {
-    let party = m.party;
     Mark {
-        key: m.key,
-        flags: m.flags,
-        party: party,
-        lamport: m.lamport,
-        cnt: m.cnt,
-        peer: m.peer,
         value: Value::Flag(b),
+        ..m
     }
 }
 
@@ -84,7 +79,14 @@ fn next(t: Tank) -> Tank
     Tank::fresh()
 }
 
-fn annotate(t: Tank, start: u64, end: u64, m: Mark) -> Tank
+fn number_in(answer: Result<(), Refusal>) -> u64 {
+    match answer {
+        Ok(()) => 0,
+        Err(refusal) => refusal.number(),
+    }
+}
+
+fn annotate(mut t: Tank, start: u64, end: u64, m: Mark) -> Tank
     requires { Sound t }
     ensures { Sound result }
 {
@@ -95,12 +97,12 @@ fn annotate(t: Tank, start: u64, end: u64, m: Mark) -> Tank
     say_number(end);
     say_mark(m);
     say(b":");
-    say_refusal(r.number);
-    say_tank(r.tank);
-    next(r.tank)
+    say_refusal(number_in(r));
+    say_tank(t);
+    next(t)
 }
 
-fn insert(t: Tank, pos: u64, len: u64) -> Tank
+fn insert(mut t: Tank, pos: u64, len: u64) -> Tank
     requires { Sound t }
     ensures { Sound result }
 {
@@ -110,13 +112,21 @@ fn insert(t: Tank, pos: u64, len: u64) -> Tank
     say(b", len ");
     say_number(len);
     say(b":");
-    say_refusal(r.number);
-    say_set(r.styles);
-    say_tank(r.tank);
-    next(r.tank)
+    match r {
+        Ok(styles) => {
+            say_refusal(0);
+            say_set(styles);
+        }
+        Err(refusal) => {
+            say_refusal(refusal.number());
+            say_set(styles::table::no_marks());
+        }
+    }
+    say_tank(t);
+    next(t)
 }
 
-fn delete(t: Tank, start: u64, end: u64) -> Tank
+fn delete(mut t: Tank, start: u64, end: u64) -> Tank
     requires { Sound t }
     ensures { Sound result }
 {
@@ -126,12 +136,12 @@ fn delete(t: Tank, start: u64, end: u64) -> Tank
     say(b"..");
     say_number(end);
     say(b":");
-    say_refusal(r.number);
-    say_tank(r.tank);
-    next(r.tank)
+    say_refusal(number_in(r));
+    say_tank(t);
+    next(t)
 }
 
-fn remove(t: Tank, m: Mark, last: u64) -> Tank
+fn remove(mut t: Tank, m: Mark, last: u64) -> Tank
     requires { Sound t }
     ensures { Sound result }
 {
@@ -141,11 +151,19 @@ fn remove(t: Tank, m: Mark, last: u64) -> Tank
     say_number(last);
     say_mark(m);
     say(b":");
-    say_refusal(r.number);
-    say(b" first=");
-    say_number(r.first);
-    say_tank(r.tank);
-    next(r.tank)
+    match r {
+        Ok(first) => {
+            say_refusal(0);
+            say(b" first=");
+            say_number(first);
+        }
+        Err(refusal) => {
+            say_refusal(refusal.number());
+            say(b" first=0");
+        }
+    }
+    say_tank(t);
+    next(t)
 }
 
 // A fresh tank with A on 10..20.

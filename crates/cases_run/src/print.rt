@@ -37,12 +37,8 @@ pub(crate) fn say_set(s: Styles) {
     let marks = s.marks;
     say(b" marks=");
     say_number(s.count as u64);
-    let mut j = 0;
-    while j < 64 {
-        if j < s.count {
-            say_mark(marks[j]);
-        }
-        j += 1;
+    for m in marks.iter().take(s.count) {
+        say_mark(*m);
     }
 }
 

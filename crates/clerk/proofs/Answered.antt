@@ -1,5 +1,6 @@
 -- A call that changes the tanks has an answer: where nothing waits after some bytes, the tanks are as they were.
-use mathlib.Core.Path.{◌≡◌, refl, sym, ap, subst, ◌∙◌}
+use Rattle.std.proofs.Common.{Option, Some, None, Result, Ok, Err}
+use mathlib.Core.Path.{◌≡◌, refl, sym, ap, ◌∙◌}
 use mathlib.Core.Bool.{Bool, true, false, cond}
 use mathlib.Core.List.{List, [], ◌∷◌, ◌++◌, map}
 use Prim.Native.Nat.{ℕ, min}
@@ -18,7 +19,6 @@ use Rattle.questions.specs.declared.Told.{Told}
 use Rattle.lists.specs.declared.Listed.{Listed}
 use Rattle.lists.specs.Lists.{range_list, whole_list, range_number, whole_number}
 use Rattle.lists.specs.Anchors.{anchors, anchors_number}
-use Rattle.night.specs.declared.Proposal.{Proposal}
 use Rattle.settings_text.specs.declared.Taken.{Taken}
 use Rattle.tank.specs.Rules.{View, when_accepted}
 use Rattle.tanks.specs.declared.Count.{Count}
@@ -29,6 +29,7 @@ use Rattle.tanks.specs.House.{House, shown_at, tank_at, held, open_number, ask_n
 use Rattle.tanks.specs.Promises.{counts, says}
 use Rattle.night.specs.Ageings.{age_number_by, dropped_by, remaining_by}
 use Rattle.night.specs.Planning.{plan_number_by}
+use Rattle.night.specs.declared.Plan.{Plan}
 use Rattle.night.specs.Proposing.{proposal_at}
 use Rattle.day_log.specs.Log.{log_at}
 use Rattle.day_log.specs.Log as logs
@@ -58,7 +59,7 @@ use Rattle.clerk.specs.Desk.{taken_from, log_read, said_in, text_says, text_hous
 use Rattle.clerk.specs.declared.Stand.{Stand}
 use Rattle.clerk.specs.declared.Eaten.{Eaten}
 use Rattle.clerk.specs.Course.{Course, said_on, house_on, on_brought, after_byte, after_bytes, course_of, Eats}
-use Rattle.clerk.proofs.Full.{Full, Silent, silent, full_append, full_cond, line_full, one_full, refused_full, or_full, accepted_full, none_full, value_says, mark_says, styles_full, list_full, anchors_full, plan_full, found_full, two_full, report_full, bytes_full}
+use Rattle.clerk.proofs.Full.{Full, silent, full_append, full_cond, line_full, one_full, refused_full, or_full, accepted_full, none_full, value_says, mark_says, styles_full, list_full, anchors_full, plan_full, found_full, two_full, report_full, bytes_full}
 
 -- ---- No piece of any answer is empty
 change_full : (e : Change) (h : House) (who : Party) (c : Call) → Full (change_says e h who c)
@@ -109,8 +110,10 @@ shared_full a = or_full a.number (cond a.agree (styles_say a.styles) none_says) 
 extent_full : (e : Extent) → Full (extent_says e)
 extent_full e = or_full e.number (line_says (bytes "first=") e.first ++ line_says (bytes "last=") e.last) (two_full (bytes "first=") (bytes "last=") e.first e.last)
 
-proposal_full : (p : Proposal) → Full (proposal_says p)
-proposal_full p = or_full p.number (cond p.found (plan_says p.plan) none_says) (full_cond p.found (plan_says p.plan) none_says (plan_full p.plan) none_full)
+proposal_full : (p : Result (Option Plan) ℕ) → Full (proposal_says p)
+proposal_full (Ok (Some p)) = plan_full p
+proposal_full (Ok None) = none_full
+proposal_full (Err number) = refused_full number
 
 answer_full : (q : Question) (h : House) (who : Party) (c : Call) → Full (answer_says q h who c)
 unfolding answer_says

@@ -1,12 +1,10 @@
--- An edit that is made on the parts of the state, and answered from what it hands back, performs the call that asks for it.
-use mathlib.Core.Path.{◌≡◌, refl, sym, ap, ap₂, subst}
+-- An edit that is made and answered performs the call that asks for it.
+use mathlib.Core.Path.{◌≡◌, refl, sym, subst}
 use mathlib.Core.List.{List}
 use Prim.Native.Nat.{ℕ}
 use Rattle.styles.specs.declared.Styles.{Styles}
-use Rattle.tanks.specs.declared.Done.{Done}
 use Rattle.tanks.specs.declared.Edit.{Edit}
 use Rattle.tanks.specs.declared.Tanks.{Tanks}
-use Rattle.tanks.specs.Promises.{edit_of, DoneAt}
 use Rattle.script.specs.declared.Both.{Both}
 use Rattle.script.specs.declared.Call.{Call}
 use Rattle.script.specs.declared.Change.{Change}
@@ -14,23 +12,25 @@ use Rattle.script.specs.declared.Listing.{Listing}
 use Rattle.script.specs.declared.Op.{Op}
 use Rattle.script.specs.declared.Question.{Question}
 use Rattle.answers.specs.Waiting.{Adds}
-use Rattle.answers.specs.Replies.{or_refused, accepted_says, styles_say, first_says}
-use Rattle.answers.proofs.Laws.{adds_as}
 use Rattle.clerk.specs.declared.Kind.{Kind}
 use Rattle.clerk.specs.declared.Side.{Side}
-use Rattle.clerk.specs.Calls.{tank_for, changed, change_says, question_kind, listing_kind, change_kind, both_kind, kind_of, edit_says}
+use Rattle.clerk.specs.Calls.{tank_for, Edits, changed, change_says, question_kind, listing_kind, change_kind, both_kind, kind_of, edit_says}
 use Rattle.clerk.specs.Desk.{Settled, after_op, side_after, says_of, Performs}
 
 -- of `answered`
 pub as_edit : (number : ℕ) (styles : Styles) (first : ℕ) {d out : List ℕ} {at k : ℕ} {e f : Edit} → e ≡ f → Adds d at (edit_says f number styles first) k out → Adds d at (edit_says e number styles first) k out
 as_edit number styles first {d} {out} {at} {k} e p = subst (λ (x : Edit). Adds d at (edit_says x number styles first) k out) (sym e) p
 
+-- of `edited`
+pub same_says : (e : Edit) {n m : ℕ} {x y : Styles} {a b : ℕ} → n ≡ m → x ≡ y → a ≡ b → edit_says e n x a ≡ edit_says e m y b
+same_says e p q r = λ i. edit_says e (p i) (q i) (r i)
+
 -- where a call is an edit of one tank, that edit of its tank, done and answered, performs it as one of its op
 abbrev Serves : Tanks → Side → Call → List ℕ → List ℕ → ℕ → List ℕ → Op → Kind → Type 0
 Serves s side c body d at out op Kind.Asks = Unit
 Serves s side c body d at out op (Kind.Looks q) = Unit
 Serves s side c body d at out op (Kind.Edits e) =
-    (r : Done) (k : ℕ) → DoneAt s (tank_for c) (edit_of e) r → Adds d at (edit_says e r.number r.styles r.first) k out → Performs op s side c body d at (record { tanks = r.tanks; side = side; at = k }) out
+    (next : Tanks) (k : ℕ) → Edits e s (tank_for c) d at next k out → Performs op s side c body d at (record { tanks = next; side = side; at = k }) out
 Serves s side c body d at out op Kind.Other = Unit
 
 module _ (s : Tanks) (side : Side) (c : Call) (body d : List ℕ) (at : ℕ) (out : List ℕ) (kept : Settled side) where
@@ -38,10 +38,10 @@ module _ (s : Tanks) (side : Side) (c : Call) (body d : List ℕ) (at : ℕ) (ou
   change_serves : (e : Change) → Serves s side c body d at out (Op.Change e) (change_kind e side.party c)
   unfolding changed change_says change_kind edit_says after_op side_after says_of
   change_serves Change.Open = tt
-  change_serves Change.Annotate = λ r k done says. record { sound = done.called.sound; settled = kept; is = done.called.is; keeps = refl; answer = adds_as (ap accepted_says done.called.number_is) says }
-  change_serves Change.Insert = λ r k done says. record { sound = done.called.sound; settled = kept; is = done.called.is; keeps = refl; answer = adds_as (ap₂ (λ (n : ℕ) (m : Styles). or_refused n (styles_say m)) done.called.number_is done.styles_are) says }
-  change_serves Change.Delete = λ r k done says. record { sound = done.called.sound; settled = kept; is = done.called.is; keeps = refl; answer = adds_as (ap accepted_says done.called.number_is) says }
-  change_serves Change.Remove = λ r k done says. record { sound = done.called.sound; settled = kept; is = done.called.is; keeps = refl; answer = adds_as (ap₂ first_says done.called.number_is done.first_is) says }
+  change_serves Change.Annotate = λ next k p. record { sound = p.sound; settled = kept; is = p.is; keeps = refl; answer = p.answer }
+  change_serves Change.Insert = λ next k p. record { sound = p.sound; settled = kept; is = p.is; keeps = refl; answer = p.answer }
+  change_serves Change.Delete = λ next k p. record { sound = p.sound; settled = kept; is = p.is; keeps = refl; answer = p.answer }
+  change_serves Change.Remove = λ next k p. record { sound = p.sound; settled = kept; is = p.is; keeps = refl; answer = p.answer }
   change_serves Change.Age = tt
 
   -- no question is one of them, no list and no strip
@@ -87,6 +87,6 @@ module _ (s : Tanks) (side : Side) (c : Call) (body d : List ℕ) (at : ℕ) (ou
   serves (Op.Desk x) = tt
   serves (Op.Both b) = both_serves b
 
-pub edited : (s : Tanks) (side : Side) (c : Call) (body : List ℕ) {d out : List ℕ} {at : ℕ} {e : Edit} → kind_of c.op side.party c ≡ Kind.Edits e → Settled side → (r : Done) (k : ℕ) → DoneAt s (tank_for c) (edit_of e) r
-    → Adds d at (edit_says e r.number r.styles r.first) k out → Performs c.op s side c body d at (record { tanks = r.tanks; side = side; at = k }) out
-edited s side c body {d} {out} {at} e kept = subst (Serves s side c body d at out c.op) e (serves s side c body d at out kept c.op)
+pub performs : (s : Tanks) (side : Side) (c : Call) (body : List ℕ) {d out : List ℕ} {at : ℕ} {e : Edit} → kind_of c.op side.party c ≡ Kind.Edits e → Settled side → (next : Tanks) (k : ℕ) → Edits e s (tank_for c) d at next k out
+    → Performs c.op s side c body d at (record { tanks = next; side = side; at = k }) out
+performs s side c body {d} {out} {at} e kept = subst (Serves s side c body d at out c.op) e (serves s side c body d at out kept c.op)

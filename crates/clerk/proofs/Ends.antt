@@ -12,13 +12,13 @@ use Rattle.script.specs.declared.Inlet.{Inlet}
 use Rattle.script.specs.Reading.{fresh_of}
 use Rattle.script.specs.Writing.{most_written}
 use Rattle.script.specs.Lines.{reader_at, state_of}
-use Rattle.script.specs.Bodies.{Stage, ending_in, stage_of, Fits, resting}
+use Rattle.script.specs.Bodies.{ending_in, stage_of, Fits, resting}
 use Rattle.answers.specs.Waiting.{Pieces, Waiting, waiting, piece_room, with_all, Short, Adds}
 use Rattle.clerk.specs.declared.Eaten.{Eaten}
 use Rattle.clerk.specs.declared.Side.{Side}
 use Rattle.clerk.specs.declared.Stand.{Stand}
 use Rattle.clerk.specs.Desk.{empty_side, Settled}
-use Rattle.clerk.specs.Course.{Course, malformed_says, after_bytes, said_bytes, said_ending, ended_as, ending_at, at_end, said_at_end, after_read, said_read, written, written_after, after_reads, said_reads, course_of, Ready, Eats, Closes, Reads, Leads, most_reads, RunsFrom, going, RunsWhole}
+use Rattle.clerk.specs.Course.{Course, malformed_says, after_bytes, said_bytes, said_ending, ended_as, at_end, said_at_end, after_read, said_read, written, written_after, after_reads, said_reads, course_of, Ready, Eats, Closes, Reads, Leads, most_reads, RunsFrom, going, RunsWhole}
 use Rattle.clerk.proofs.Bytes.{standing, Left}
 use Rattle.answers.proofs.Laws.{short_append}
 use Rattle.clerk.proofs.Cuts.{some_by, said_append}

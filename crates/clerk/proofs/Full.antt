@@ -1,8 +1,8 @@
 -- No piece of an answer is empty. So where nothing waits after an answer was put, there was none.
-use mathlib.Core.Path.{◌≡◌, refl, sym, ap, subst}
+use mathlib.Core.Path.{◌≡◌, refl}
 use mathlib.Core.Bool.{Bool, true, false, cond}
 use mathlib.Core.List.{List, [], ◌∷◌, ◌++◌, map, flat_map}
-use Prim.Native.Nat.{ℕ, zero, suc, ◌+◌, ◌*◌, ◌/◌, ◌≤◌, ◌<◌, min}
+use Prim.Native.Nat.{ℕ, zero, suc, ◌+◌, ◌*◌, ◌<◌, min}
 use native.Mathlib.Omega.{arith}
 use lib.Dec.{eqb}
 use lib.ListN.{length, get_or, take, drop, length-append, length-take, length-drop}
@@ -10,9 +10,6 @@ use Rattle.styles.specs.declared.Mark.{Mark}
 use Rattle.styles.specs.declared.Styles.{Styles}
 use Rattle.styles.specs.declared.Value.{Value}
 use Rattle.richtext.specs.declared.AnchorType.{AnchorType}
-use Rattle.questions.specs.declared.Asked.{Asked}
-use Rattle.questions.specs.declared.Shown.{Shown}
-use Rattle.questions.specs.declared.Told.{Told}
 use Rattle.lists.specs.declared.anchors.Anchor.{Anchor}
 use Rattle.day_log.specs.declared.Log.{Log}
 use Rattle.day_log.specs.declared.Stop.{Stop}
@@ -21,16 +18,13 @@ use Rattle.night.specs.declared.Plan.{Plan}
 use Rattle.night.specs.Plans.{no_range}
 use Rattle.settings_text.specs.declared.Asked as sets
 use Rattle.settings_text.specs.Text.{share_name, limit_name}
-use Rattle.tanks.specs.declared.Count.{Count}
 use Rattle.tanks.specs.declared.Setting.{Setting}
-use Rattle.tanks.specs.declared.YesNo.{YesNo}
 use Rattle.tanks.specs.Settings.{no_setting}
 use Rattle.text.specs.Bytes.{bytes}
-use Rattle.script.specs.Writing.{free_at, line_text, field_text, value_text, mark_text, origin_text, kind_of, value_word, counter_text}
+use Rattle.script.specs.Writing.{line_text, field_text, value_text, mark_text, origin_text, kind_of, value_word}
 use Rattle.script.specs.Grammar.{kind_name}
 use Rattle.text.specs.Number.{decimal_text}
-use Rattle.tank.specs.Rules.{when_accepted}
-use Rattle.answers.specs.Waiting.{Pieces, Waiting, with, with_all, piece_room}
+use Rattle.answers.specs.Waiting.{Pieces, Waiting, with, with_all}
 use Rattle.answers.specs.Replies.{line_says, refused_says, or_refused, none_says, styles_say, stretches_say, anchor_says, side_says, range_says, ranges_say, plan_says, pair_says, pairs_say, found_says, stop_says, cut_up, piece_count, bytes_say}
 
 -- no piece is empty

@@ -20,7 +20,7 @@ use Rattle.tanks.specs.declared.Tanks.{Tanks}
 use Rattle.tanks.specs.House.{House, tank_at, held, open_number, opening, ask_number, refusal_at, after_at, inserted_set_at, removed_first_at}
 use Rattle.tanks.specs.Looks.{shown_in}
 use Rattle.tanks.specs.Pool.{meaning, Sound}
-use Rattle.tanks.specs.Promises.{counts, says}
+use Rattle.tanks.specs.Promises.{counts, says, edit_of, set_beside, first_beside}
 use Rattle.night.specs.Ageings.{age_number_by, aged_house_by, dropped_by, remaining_by}
 use Rattle.night.specs.Proposing.{proposal_at}
 use Rattle.ask.specs.Asks.{ask_at, no_list, value_asked, marks_asked, mark_asked, stretch_asked, inherit_asked, inherited_asked, key_asked, all_value_asked, same_asked, range_needed_asked, whole_needed_asked}
@@ -249,6 +249,10 @@ edit_says (code.Edit.Insert who pos len) number styles first = or_refused number
 edit_says (code.Edit.Delete who start end) number styles first = accepted_says number
 edit_says (code.Edit.Remove id last) number styles first = first_says number first
 
+-- and from the edit of tank t that is asked of a state
+abbrev pub edit_answer : code.Edit → House → ℕ → Pieces
+edit_answer e h t = edit_says e (refusal_at h t (edit_of e)) (styles_of (set_beside (inserted_set_at h t) (edit_of e))) (first_beside (removed_first_at h t) (edit_of e))
+
 -- what is answered by those that only ask; the others are not among these
 unfoldable pub asking_says : Op → House → Party → Call → Pieces
 asking_says Op.Nothing h who c = []
@@ -258,6 +262,12 @@ asking_says (Op.Listing l) h who c = listing_says l h who c
 asking_says (Op.Text x) h who c = []
 asking_says (Op.Desk d) h who c = []
 asking_says (Op.Both b) h who c = []
+
+-- an edit of tank t: the next state, and its answer behind what waits
+pub record Edits (e : code.Edit) (s : Tanks) (t : ℕ) (d : List ℕ) (at : ℕ) (next : Tanks) (k : ℕ) (out : List ℕ) : Type 0 where
+  pub sound : Sound next
+  pub is : meaning next ≡ after_at (meaning s) t (edit_of e)
+  pub answer : Adds d at (edit_answer e (meaning s) t) k out
 
 -- a call that changes the tanks: the next state, and its answer behind what waits
 pub record Changes (e : Change) (s : Tanks) (who : Party) (c : Call) (buffer : List ℕ) (at : ℕ) (r : Done) (out : List ℕ) : Type 0 where

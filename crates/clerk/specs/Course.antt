@@ -9,7 +9,6 @@ use Rattle.script.specs.declared.Ending.{Ending}
 use Rattle.script.specs.declared.Event.{Event}
 use Rattle.script.specs.declared.Inlet.{Inlet}
 use Rattle.text.specs.Bytes.{bytes}
-use Rattle.script.specs.Grammar.{most_body}
 use Rattle.script.specs.Reading.{fresh_of}
 use Rattle.script.specs.Writing.{most_written}
 use Rattle.script.specs.Lines.{State, reader_at, state_of, counted_of}

@@ -1,5 +1,5 @@
 -- What the console keeps beside the tanks, and what the calls that have to do with it do and answer: a row for each op. Then any call.
-use Rattle.std.specs.Prelude.{◌≡◌, cond, List, [], ◌∷◌, ◌++◌, ℕ, ◌+◌, ◌%◌, ◌^◌, ltb, set}
+use Rattle.std.specs.Prelude.{◌≡◌, cond, List, [], ℕ, ◌+◌, ◌%◌, ◌^◌, ltb, set}
 use Rattle.settings_text.specs.declared.Asked.{Asked}
 use Rattle.settings_text.specs.declared.Kept.{Kept}
 use Rattle.settings_text.specs.declared.Taken.{Taken}

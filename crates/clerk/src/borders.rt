@@ -28,17 +28,7 @@ fn put_side(out: &mut [u8], at: usize, table: Table, pos: u64, side: AnchorType,
     k
 }
 
-// The position before a boundary; at the first, where nothing ends, 0.
-fn place_before(pos: u64) -> u64
-    ensures { result ≡ pos - 1 }
-{
-    if pos == 0 {
-        return 0;
-    }
-    pos - 1
-}
-
-// The anchors between two sets. A side that is empty is not called for: every call copies the table.
+// The anchors between two sets; what ends at a boundary ends at the position before it. A side that is empty is not called for: every call copies the table.
 fn put_border(out: &mut [u8], at: usize, table: Table, pos: u64, before: u64, behind: u64) -> usize
     requires { (length table.marks ≡ 64) × (piece_room ≤ length out.old) }
     ensures { Adds out.old at (anchors_say (between table.marks pos before behind)) result out.new }
@@ -48,7 +38,7 @@ fn put_border(out: &mut [u8], at: usize, table: Table, pos: u64, before: u64, be
     if ends == 0 {
         return put_side(out, at, table, pos, AnchorType::Start, starts);
     }
-    let k = put_side(out, at, table, place_before(pos), AnchorType::End, ends);
+    let k = put_side(out, at, table, pos.saturating_sub(1), AnchorType::End, ends);
     if starts == 0 {
         return k;
     }
@@ -73,16 +63,14 @@ pub fn put_anchors(
     let from = pool::start(heads, t);
     let h = heads[t];
     let n = h.runs;
-    let mut i = 0;
     let mut end: u64 = 0;
     let mut last: u64 = 0;
     let mut k = at;
-    while i < n {
+    for i in 0..n {
         let r = pool[from + i];
         let next = r.set & own;
         let begun = end;
         end += r.len;
-        i += 1;
         if next != last {
             k = put_border(out, k, table, begun, last, next);
             last = next;

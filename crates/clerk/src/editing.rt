@@ -1,15 +1,16 @@
-// The four edits of one tank: the one that a call asks for, and its answer. The edit itself is made where the state stands, in `eat`.
+// The four edits of one tank: the one that a call asks for, and its answer.
 ghost use Rattle.std.specs.Prelude.{◌≡◌, ◌≤◌, ◌<◌, ◌^◌, length, take};
 ghost use Rattle.styles.specs.Answers.{styles_of};
 ghost use Rattle.styles.specs.Bits.{pick};
 ghost use Rattle.answers.specs.Waiting.{Adds, piece_room};
-ghost use Rattle.clerk.specs.Calls.{change_kind, edit_says};
+ghost use Rattle.tanks.specs.Pool.{Sound};
+ghost use Rattle.clerk.specs.Calls.{change_kind, edit_says, Edits};
 
 use super::Kind;
 use answers::{accept, first_or, set_or};
 use script::{Call, Change};
 use styles::Party;
-use tanks::{Edit, Head, Table};
+use tanks::{Edit, Head, Table, Tanks};
 
 // Which of the four a call by a party is, with the numbers that were read.
 pub fn change_kind(e: Change, who: Party, call: Call) -> Kind
@@ -54,5 +55,21 @@ pub fn answered(
         }
         Edit::Delete(_, _, _) => accept(out, at, number),
         Edit::Remove(_, _) => first_or(out, at, number, first),
+    }
+}
+
+// The edit made where the state stands, and its answer: the head and the table that it is written by are those before it.
+pub fn edited(tanks: &mut Tanks, tank: u64, edit: Edit, out: &mut [u8], at: usize) -> usize
+    requires sound { Sound tanks.old }
+    requires piece_room_in_bounds { piece_room ≤ length out.old }
+    ensures { Edits edit tanks.old tank out.old at tanks.new result out.new }
+{
+    let u = tanks::place(tank);
+    let heads = tanks.heads;
+    let h = heads[u];
+    let table = tanks.tables[u];
+    match tanks.apply(tank, edit) {
+        Ok(shown) => answered(edit, h, table, 0, shown.bits, shown.first, out, at),
+        Err(refusal) => answered(edit, h, table, refusal.number(), 0, 0, out, at),
     }
 }

@@ -373,9 +373,8 @@ fn put_bad(out: &mut [u8], at: usize, r: Reader) -> usize
 }
 
 // The bytes of one read, a line or a part of a body to a turn. The tanks go through a call once a group, and never once a
-// line. An edit of one tank is made here and not in a function of its own, for a function that takes the tanks copies them:
-// the parts that it has to do with are handed over, and what comes is put back in their place. So are those that a question, a
-// list or a strip of one tank has to do with, for an index that is not known beforehand copies all eight tables where they are handed on.
+// line. An edit of one tank changes them where they stand. What a question, a list or a strip of one tank has to do with is handed over in
+// parts, for an index that is not known beforehand copies all eight tables where they are handed on.
 pub fn eat(bytes: &[u8], s: Tanks, stand: Stand, body: &mut [u8], out: &mut [u8]) -> Eaten
     requires sound { (Sound s) × Settled stand.side × Fits stand.inlet body.old × (stand.over ≡ false) }
     requires most_body_in_bounds { (most_body ≤ length body.old) × (piece_room ≤ length out.old) }
@@ -386,6 +385,7 @@ pub fn eat(bytes: &[u8], s: Tanks, stand: Stand, body: &mut [u8], out: &mut [u8]
     let mut inlet = stand.inlet;
     let mut at = stand.at;
     let mut from = 0;
+    // No `for`: how far a turn comes is for `take` to say.
     while from < bytes.len() {
         let t = script::take(inlet, bytes, from, body);
         from = t.at;
@@ -417,20 +417,7 @@ pub fn eat(bytes: &[u8], s: Tanks, stand: Stand, body: &mut [u8], out: &mut [u8]
                     }
                     Kind::Edits(edit) => {
                         let n = call.numbers;
-                        let u = tanks::place(n[0]);
-                        let settings = tanks.settings;
-                        let heads = tanks.heads;
-                        let pool = tanks.pool;
-                        let table = tanks.tables[u];
-                        let p = tanks::edit_parts(settings, heads, pool, table, n[0], edit);
-                        let left = p.pool;
-                        tanks.pool = left;
-                        let head = p.head;
-                        tanks.heads[u] = head;
-                        let marks = p.table;
-                        tanks.tables[u] = marks;
-                        let h = heads[u];
-                        at = editing::answered(edit, h, table, p.number, p.shown, p.first, out, at);
+                        at = editing::edited(&mut tanks, n[0], edit, out, at);
                     }
                     Kind::Other => {
                         let size = t.size;
@@ -507,8 +494,7 @@ fn all(input: Stdin, s: Tanks, first: Inlet, kept: Side, body: &mut [u8], out: &
     let mut inlet = first;
     let mut side = kept;
     let mut good = true;
-    let mut turns: u64 = 18446744073709551615;
-    while turns > 0 {
+    for _ in 0..u64::MAX {
         let e = turn(input, good, tanks, fresh(inlet, side), body, out);
         let next = e.tanks;
         tanks = next;
@@ -521,7 +507,6 @@ fn all(input: Stdin, s: Tanks, first: Inlet, kept: Side, body: &mut [u8], out: &
         if after.over {
             return standing(tanks, inlet, side, 0, true);
         }
-        turns -= 1;
     }
     standing(tanks, inlet, side, 0, false)
 }

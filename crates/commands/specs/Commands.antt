@@ -1,5 +1,5 @@
 -- The keeper's commands, as docs/KEEPER.md has them: words, files and options.
-use Rattle.std.specs.Prelude.{Bool, true, false, cond, ◌&&◌, not, List, ℕ, ltb}
+use Rattle.std.specs.Prelude.{Bool, true, false, cond, ◌&&◌, not, List, ℕ, ltb, Option, Some, None}
 use Rattle.text.specs.Bytes.{bytes, starts_of, same_of}
 use Rattle.commands.specs.declared.Command.{Command}
 use Rattle.commands.specs.declared.Options.{Options}
@@ -82,20 +82,20 @@ with_option o w =
     (record { afresh = o.afresh; sync = o.sync; trying = o.trying; unknown = true })))
 
 -- ---- What is wrong
--- of a command by its rules, with so many files, the first that is wrong: no such command, no such option, an option of another command, too few
+-- of a command by its rules, with so many files, the first that is wrong, or nothing: no such command, no such option, an option of another command, too few
 -- files or too many
-unfoldable pub problem_of : Rules → Options → ℕ → Problem
+unfoldable pub problem_of : Rules → Options → ℕ → Option Problem
 problem_of c o files =
     cond
     (not c.known)
-    Problem.NoCommand
+    (Some Problem.NoCommand)
     (cond
     o.unknown
-    Problem.NoOption
+    (Some Problem.NoOption)
     (cond
     (o.trying && not c.tries)
-    Problem.TryElsewhere
+    (Some Problem.TryElsewhere)
     (cond
     (o.afresh && not c.starts)
-    Problem.FromStartElsewhere
-    (cond (ltb files c.least) Problem.TooFew (cond (ltb c.most files) Problem.TooMany Problem.None)))))
+    (Some Problem.FromStartElsewhere)
+    (cond (ltb files c.least) (Some Problem.TooFew) (cond (ltb c.most files) (Some Problem.TooMany) None)))))

@@ -41,7 +41,6 @@ struct Rules {
 // What is wrong with a command, its options and its files.
 #[derive(Clone, Copy)]
 pub enum Problem {
-    None,
     NoCommand,
     NoOption,
     TryElsewhere,
@@ -51,6 +50,7 @@ pub enum Problem {
 }
 
 // A command that reads STATE and changes nothing.
+#[tactic(auto, unfolding(crate::specs::Commands::reading_of))]
 fn reading(word: &[u8]) -> Command
     ensures { result ≡ reading_of word.now }
 {
@@ -73,6 +73,7 @@ fn reading(word: &[u8]) -> Command
 }
 
 // The command that a word names.
+#[tactic(auto, unfolding(crate::specs::Commands::command_of))]
 pub fn command_of(word: &[u8]) -> Command
     ensures { result ≡ command_of word.now }
 {
@@ -99,10 +100,10 @@ fn rule(least: usize, most: usize, tries: bool, starts: bool) -> Rules
 {
     Rules {
         known: true,
-        least: least,
-        most: most,
-        tries: tries,
-        starts: starts,
+        least,
+        most,
+        tries,
+        starts,
     }
 }
 
@@ -158,6 +159,7 @@ pub fn no_options() -> Options
 }
 
 // One option more.
+#[tactic(auto, unfolding(crate::specs::Commands::with_option))]
 pub fn with_option(o: Options, word: &[u8]) -> Options
     ensures { result ≡ with_option o word.now }
 {
@@ -182,36 +184,37 @@ pub fn with_option(o: Options, word: &[u8]) -> Options
 fn astray(asked: bool, allowed: bool) -> bool
     ensures { result ≡ (asked && not allowed) }
 {
-    if asked { !allowed } else { false }
+    asked && !allowed
 }
 
 // By a command's rules.
-fn against(c: Rules, o: Options, files: usize) -> Problem
+#[tactic(auto, unfolding(crate::specs::Commands::problem_of))]
+fn against(c: Rules, o: Options, files: usize) -> Option<Problem>
     ensures { result ≡ problem_of c o files }
 {
     if !c.known {
-        return Problem::NoCommand;
+        return Some(Problem::NoCommand);
     }
     if o.unknown {
-        return Problem::NoOption;
+        return Some(Problem::NoOption);
     }
     if astray(o.trying, c.tries) {
-        return Problem::TryElsewhere;
+        return Some(Problem::TryElsewhere);
     }
     if astray(o.afresh, c.starts) {
-        return Problem::FromStartElsewhere;
+        return Some(Problem::FromStartElsewhere);
     }
     if files < c.least {
-        return Problem::TooFew;
+        return Some(Problem::TooFew);
     }
     if c.most < files {
-        return Problem::TooMany;
+        return Some(Problem::TooMany);
     }
-    Problem::None
+    None
 }
 
 // What is wrong with a command, its options and so many files, or nothing.
-pub fn wrong_with(c: Command, o: Options, files: usize) -> Problem
+pub fn wrong_with(c: Command, o: Options, files: usize) -> Option<Problem>
     ensures { result ≡ problem_of (rules_of c) o files }
 {
     against(rules_of(c), o, files)

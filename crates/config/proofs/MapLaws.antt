@@ -2,7 +2,7 @@
 use mathlib.Core.Path.{◌≡◌, refl, sym, ap, ◌∙◌}
 use mathlib.Core.Bool.{true, false}
 use mathlib.Core.List.{List, [], ◌∷◌, map, map-append}
-use mathlib.Core.Option.{none, some, or_else}
+use Rattle.std.specs.Prelude.{Option}
 use Prim.Native.Nat.{ℕ, suc, ◌+◌, ◌-◌, ◌≤◌, ◌<◌}
 use native.Mathlib.Decide.{dec_lt, ℕ_discrete}
 use native.Mathlib.Numerals.{add-one}
@@ -14,10 +14,8 @@ use Rattle.laws.proofs.Lists.{map_set}
 use Rattle.text.specs.Bytes.{same_of}
 use Rattle.config.specs.Names.{holds_colon}
 use Rattle.config.specs.Table.{Named, Table, find, place, entered, refuses, with_entry, style_for}
-use Rattle.config.specs.Meaning.{blank_entry, no_entry, entry_of, name_in, named_of, style_in, configured, entry_at, stored, Tidy, Sound, Means, Enters}
+use Rattle.config.specs.Meaning.{blank_entry, no_entry, entry_of, name_in, named_of, configured, entry_at, stored, Tidy, Sound, Means}
 use Rattle.config.specs.declared.Entry.{Entry}
-use Rattle.config.specs.declared.MaybeStyle.{MaybeStyle}
-use Rattle.config.specs.declared.MaybeStyle.TheVariants.{Style, Nothing}
 use Rattle.config.specs.declared.StyleConfig.{StyleConfig}
 use Rattle.config.specs.declared.StyleConfigMap.{StyleConfigMap}
 use Rattle.config.proofs.EntryLaws.{name_entry, tidy_entry, one_entry}
@@ -47,17 +45,15 @@ module _ (m : StyleConfigMap) (s : Sound m) (k : List ℕ) (i : ℕ) where
 
 module _ (m : StyleConfigMap) (s : Sound m) (k : List ℕ) where
   -- the style of a name is that of the entry at its place, or the default
-  pub style_known : place k (configured m).entries < m.count → style_for k (configured m) ≡ some (entry_at m (place k (configured m).entries)).style
-  unfolding or_else
+  pub style_known : place k (configured m).entries < m.count → style_for k (configured m) ≡ Option.Some (entry_at m (place k (configured m).entries)).style
   style_known h =
-      let f : find k (configured m).entries ≡ some (get_or (configured m).entries (place k (configured m).entries) (named_of no_entry)).style =
+      let f : find k (configured m).entries ≡ Option.Some (get_or (configured m).entries (place k (configured m).entries) (named_of no_entry)).style =
       (find_place k (named_of no_entry) (configured m).entries).0 (rw (length_configured m s) h) in
       rw (f, configured_at m (place k (configured m).entries) h)
 
-  pub style_default : m.count ≤ place k (configured m).entries → style_for k (configured m) ≡ style_in m.default_style
-  unfolding or_else
+  pub style_default : m.count ≤ place k (configured m).entries → style_for k (configured m) ≡ m.default_style
   style_default h =
-      let f : find k (configured m).entries ≡ none = (find_place k (named_of no_entry) (configured m).entries).1 (rw (length_configured m s) h) in
+      let f : find k (configured m).entries ≡ Option.None = (find_place k (named_of no_entry) (configured m).entries).1 (rw (length_configured m s) h) in
       rw f
 
 -- One meaning, one map
@@ -70,12 +66,6 @@ spare_at m s i h l =
     rw (← e)
     (sym (get_or-drop m.count m.entries (i - m.count) no_entry) ∙ rw s.rest (get_or-replicate (32 - m.count) (i - m.count) blank_entry no_entry k))
 
-one_default : (a b : MaybeStyle) → style_in a ≡ style_in b → a ≡ b
-one_default (Style s) (Style t) e = cc
-one_default (Style s) Nothing e = cc
-one_default Nothing (Style t) e = cc
-one_default Nothing Nothing e = refl
-
 pub one_map : (m n : StyleConfigMap) → Sound m → Sound n → configured m ≡ configured n → m ≡ n
 one_map m n s t e =
     let c : m.count ≡ n.count = sym (length_configured m s) ∙ (ap (λ (x : Table). length x.entries) e ∙ length_configured n t) in
@@ -87,7 +77,7 @@ one_map m n s t e =
       | no k ↦ spare_at m s i (omega arith) (omega arith) ∙ sym (spare_at n t i (omega arith) (omega arith))
     ] in
     let es : m.entries ≡ n.entries = ext_get_or no_entry m.entries n.entries (omega arith) entry in
-    let d : m.default_style ≡ n.default_style = one_default m.default_style n.default_style (ap (λ (x : Table). x.default) e) in
+    let d : m.default_style ≡ n.default_style = ap (λ (x : Table). x.default) e in
     λ i. record { entries = es i; count = c i; default_style = d i }
 
 -- two maps that a statement allows are one
@@ -134,11 +124,11 @@ module _ (m : StyleConfigMap) (s : Sound m) (k : List ℕ) (v : StyleConfig) (sh
               rest = rest;
               names = rw a (once_entered k v (configured m).entries s.names);
             };
-        means = rw r (λ i. record { entries = a i; default = style_in m.default_style });
+        means = rw r (λ i. record { entries = a i; default = m.default_style });
       }
 
   -- at the place of a known name
-  stored_known : place k (configured m).entries < m.count → Enters m k v (record { refusal = 0; map = stored m (place k (configured m).entries) (entry_of k v) })
+  stored_known : place k (configured m).entries < m.count → Means (with_entry k v (configured m)) (stored m (place k (configured m).entries) (entry_of k v))
   stored_known h =
       let at : ℕ = place k (configured m).entries in
       let es : List Named = (configured m).entries in
@@ -147,15 +137,11 @@ module _ (m : StyleConfigMap) (s : Sound m) (k : List ℕ) (v : StyleConfig) (sh
       rw (take-set-lt m.count m.entries at (entry_of k v) h, map_set named_of (take m.count m.entries) at (entry_of k v), named_entry k v)
       (sym ((entered_place k v es).0 (omega arith))) in
       let r : refuses k (configured m) ≡ false = accepts_known k (configured m) short plain ((known_place k es).0 (omega arith)) in
-      record {
-        refusal = rw r;
-        table =
-            rw (ne_eqb at m.count (λ e. omega arith))
-            (placed at m.count (omega arith) s.within a (rest_known m.entries m.count at (entry_of k v) h s.rest) r);
-      }
+      rw (ne_eqb at m.count (λ e. omega arith))
+      (placed at m.count (omega arith) s.within a (rest_known m.entries m.count at (entry_of k v) h s.rest) r)
 
   -- after the last entry
-  stored_new : place k (configured m).entries ≡ m.count → m.count < 32 → Enters m k v (record { refusal = 0; map = stored m m.count (entry_of k v) })
+  stored_new : place k (configured m).entries ≡ m.count → m.count < 32 → Means (with_entry k v (configured m)) (stored m m.count (entry_of k v))
   stored_new h f =
       let es : List Named = (configured m).entries in
       let l : length es ≡ m.count = length_configured m s in
@@ -163,15 +149,11 @@ module _ (m : StyleConfigMap) (s : Sound m) (k : List ℕ) (v : StyleConfig) (sh
       rw (add-one m.count, take-suc-set m.entries m.count (entry_of k v) (omega arith), map-append named_of (take m.count m.entries) (entry_of k v ∷ []), named_entry k v)
       (sym ((entered_place k v es).1 (omega arith))) in
       let r : refuses k (configured m) ≡ false = accepts_new k (configured m) short plain ((known_place k es).1 (omega arith)) (omega arith) in
-      record {
-        refusal = rw r;
-        table =
-            rw (eq-eqb m.count m.count refl)
-            (placed m.count (m.count + 1) f (omega arith) a (rest_new m.entries m.count (entry_of k v) f s.rest) r);
-      }
+      rw (eq-eqb m.count m.count refl)
+      (placed m.count (m.count + 1) f (omega arith) a (rest_new m.entries m.count (entry_of k v) f s.rest) r)
 
   -- a name with a place among the 32 is accepted
-  pub accepted : place k (configured m).entries < 32 → Enters m k v (record { refusal = 0; map = stored m (place k (configured m).entries) (entry_of k v) })
+  pub accepted : place k (configured m).entries < 32 → Means (with_entry k v (configured m)) (stored m (place k (configured m).entries) (entry_of k v))
   accepted h =
       elim (dec_lt (place k (configured m).entries) m.count) [
         | yes p ↦ stored_known p
@@ -187,6 +169,17 @@ full m s k h =
     let l : length es ≡ m.count = length_configured m s in
     refuses_full k (configured m) ((known_place k es).1 (omega arith)) (omega (arith, place_le k es))
 
--- a refused insertion hands back the map as it was
-pub refused : (m : StyleConfigMap) → Sound m → (k : List ℕ) (v : StyleConfig) → refuses k (configured m) ≡ true → Enters m k v (record { refusal = 19; map = m })
-refused m s k v r = record { refusal = rw r; table = record { sound = s; means = rw r } }
+-- a refused entry leaves the map as it was
+pub refused : (m : StyleConfigMap) → Sound m → (k : List ℕ) (v : StyleConfig) → refuses k (configured m) ≡ true → Means (with_entry k v (configured m)) m
+refused m s k v r = record { sound = s; means = rw r }
+
+-- a place among the 32 is that of a name which is not refused
+pub not_refused : (m : StyleConfigMap) → Sound m → (k : List ℕ) → length k ≤ 32 → holds_colon k ≡ false → place k (configured m).entries < 32
+    → refuses k (configured m) ≡ false
+not_refused m s k short plain h =
+    let es : List Named = (configured m).entries in
+    let l : length es ≡ m.count = length_configured m s in
+    elim (dec_lt (place k es) (length es)) [
+      | yes p ↦ accepts_known k (configured m) short plain ((known_place k es).0 p)
+      | no p ↦ accepts_new k (configured m) short plain ((known_place k es).1 (omega arith)) (omega (arith, place_le k es))
+    ]

@@ -2,7 +2,7 @@
 use mathlib.Core.Path.{◌≡◌, refl}
 use mathlib.Core.Bool.{true, false, not, and-eq-true_iff, or-true}
 use mathlib.Core.List.{List, [], ◌∷◌, ◌++◌}
-use mathlib.Core.Option.{none, some}
+use Rattle.std.specs.Prelude.{Option}
 use Prim.Native.Nat.{ℕ, suc, ◌≤◌, ◌<◌}
 use native.Mathlib.Omega.{arith}
 use lib.ListN.{length, get_or, set}
@@ -42,12 +42,12 @@ known_place k =
     (λ x xs e r. ((λ h. rw e (r.0 (omega arith))), λ h. rw e (r.1 (omega arith))))
 
 pub find_place : (k : List ℕ) (d : Named) (es : List Named)
-    → (place k es < length es → find k es ≡ some (get_or es (place k es) d).style) × (length es ≤ place k es → find k es ≡ none)
+    → (place k es < length es → find k es ≡ Option.Some (get_or es (place k es) d).style) × (length es ≤ place k es → find k es ≡ Option.None)
 unfolding find
 find_place k d =
     place_by
     k
-    (λ es n. (n < length es → find k es ≡ some (get_or es n d).style) × (length es ≤ n → find k es ≡ none))
+    (λ es n. (n < length es → find k es ≡ Option.Some (get_or es n d).style) × (length es ≤ n → find k es ≡ Option.None))
     ((λ h. absurd (omega arith)), λ h. refl)
     (λ x xs e. ((λ h. rw e), λ h. absurd (omega arith)))
     (λ x xs e r. ((λ h. rw e (r.0 (omega arith))), λ h. rw e (r.1 (omega arith))))

@@ -2,7 +2,7 @@
 use mathlib.Core.Path.{◌≡◌, refl}
 use mathlib.Core.Bool.{true}
 use mathlib.Core.List.{List, [], ◌∷◌, ◌++◌}
-use mathlib.Core.Option.{none, some, or_else}
+use Rattle.std.specs.Prelude.{Option}
 use Prim.Native.Nat.{ℕ}
 use lib.ListN.{replicate}
 use Rattle.text.specs.Bytes.{bytes, up_to, holds, starts_of, same_of}
@@ -30,41 +30,41 @@ unfolding up_to
 cut_front = refl
 
 -- comment:17 is looked up as comment, with the flag's type reversed to unmark
-flag_17 : flag_says comment17 built_in ≡ record { refusal = 0; value = some (flag_of 128) }
-unfolding comment17 up_to find starts_of same_of or_else
+flag_17 : flag_says comment17 built_in ≡ record { refusal = 0; value = Option.Some (flag_of 128) }
+unfolding comment17 up_to find starts_of same_of
 flag_17 = refl
 
-unmark_17 : unmark_says comment17 built_in ≡ record { refusal = 0; value = some (flag_of 134) }
-unfolding comment17 up_to find starts_of same_of or_else
+unmark_17 : unmark_says comment17 built_in ≡ record { refusal = 0; value = Option.Some (flag_of 134) }
+unfolding comment17 up_to find starts_of same_of
 unmark_17 = refl
 
 -- get takes it whole: no entry and no default, or the default
-get_17 : get_says comment17 built_in ≡ record { refusal = 0; value = none }
-unfolding comment17 find starts_of same_of or_else
+get_17 : get_says comment17 built_in ≡ record { refusal = 0; value = Option.None }
+unfolding comment17 find starts_of same_of
 get_17 = refl
 
-get_17_default : get_says comment17 (with_default (some (record { expand = Before })) built_in) ≡ record { refusal = 0; value = some (record { expand = Before }) }
-unfolding comment17 find starts_of same_of or_else
+get_17_default : get_says comment17 (with_default (Option.Some (record { expand = Before })) built_in) ≡ record { refusal = 0; value = Option.Some (record { expand = Before }) }
+unfolding comment17 find starts_of same_of
 get_17_default = refl
 
 -- 32 bytes are a name, 33 are refused, also where the cut would leave fewer
-get_32 : get_says (xs 32) built_in ≡ record { refusal = 0; value = none }
-unfolding xs find starts_of same_of or_else
+get_32 : get_says (xs 32) built_in ≡ record { refusal = 0; value = Option.None }
+unfolding xs find starts_of same_of
 get_32 = refl
 
-flag_33 : flag_says (bytes "comment:" ++ xs 25) built_in ≡ record { refusal = 19; value = none }
+flag_33 : flag_says (bytes "comment:" ++ xs 25) built_in ≡ record { refusal = 19; value = Option.None }
 unfolding xs
 flag_33 = refl
 
 -- a known name is replaced where it stands, a new one comes last
 bold_alone : Table
-bold_alone = record { entries = growing "bold" After ∷ []; default = none }
+bold_alone = record { entries = growing "bold" After ∷ []; default = Option.None }
 
-replaced : with_entry (bytes "bold") (record { expand = Both }) bold_alone ≡ record { entries = growing "bold" Both ∷ []; default = none }
+replaced : with_entry (bytes "bold") (record { expand = Both }) bold_alone ≡ record { entries = growing "bold" Both ∷ []; default = Option.None }
 unfolding bold_alone holds known entered starts_of same_of
 replaced = refl
 
-appended : with_entry (bytes "link") (record { expand = None }) bold_alone ≡ record { entries = growing "bold" After ∷ growing "link" None ∷ []; default = none }
+appended : with_entry (bytes "link") (record { expand = None }) bold_alone ≡ record { entries = growing "bold" After ∷ growing "link" None ∷ []; default = Option.None }
 unfolding bold_alone holds known entered starts_of same_of
 appended = refl
 
@@ -75,11 +75,11 @@ colon = refl
 
 -- a table from before change request 13 keeps its entry until that is replaced: Before is answered, and its reverse is Before
 before : Table
-before = record { entries = growing "old" Before ∷ []; default = none }
+before = record { entries = growing "old" Before ∷ []; default = Option.None }
 
-kept_before : (get_says (bytes "old") before ≡ record { refusal = 0; value = some (record { expand = Before }) })
-    × (unmark_says (bytes "old") before ≡ record { refusal = 0; value = some (flag_of 0x82) })
-unfolding before up_to find starts_of same_of or_else
+kept_before : (get_says (bytes "old") before ≡ record { refusal = 0; value = Option.Some (record { expand = Before }) })
+    × (unmark_says (bytes "old") before ≡ record { refusal = 0; value = Option.Some (flag_of 0x82) })
+unfolding before up_to find starts_of same_of
 kept_before = (refl, refl)
 
 -- 18 for the retired type, also where it would replace itself, and 19 before it

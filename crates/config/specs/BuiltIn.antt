@@ -1,6 +1,5 @@
 -- The table that a config starts from: document 01, "Built in".
-use Rattle.std.specs.Prelude.{List, [], ◌∷◌}
-use Rattle.std.proofs.Math.Option.{none}
+use Rattle.std.specs.Prelude.{List, [], ◌∷◌, Option}
 use Prim.Native.String.{String}
 use Rattle.text.specs.Bytes.{bytes}
 use Rattle.richtext.specs.declared.ExpandType.{ExpandType}
@@ -25,4 +24,4 @@ built_ins =
 
 -- these, and no default
 abbrev pub built_in : Table
-built_in = record { entries = built_ins; default = none }
+built_in = record { entries = built_ins; default = Option.None }

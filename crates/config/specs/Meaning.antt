@@ -1,14 +1,11 @@
 -- The meaning of a map, and when a map is sound: every place that its meaning leaves open is blank.
-use Rattle.std.specs.Prelude.{◌≡◌, true, false, cond, List, [], ◌++◌, map, ℕ, ◌+◌, ◌-◌, ◌≤◌, ◌<◌, length, get_or, take, drop, set, replicate, eqb}
-use Rattle.std.proofs.Math.Option.{Option, none, some}
+use Rattle.std.specs.Prelude.{◌≡◌, true, false, cond, List, [], ◌++◌, map, ℕ, ◌+◌, ◌-◌, ◌≤◌, ◌<◌, length, get_or, take, drop, set, replicate, eqb, Result}
 use Rattle.richtext.specs.declared.ExpandType.TheVariants.{Before}
 use Rattle.config.specs.Names.{holds_colon, zeros}
-use Rattle.config.specs.Table.{Named, Table, once, with_entry, refuses, insert_number, after_insert, default_number, after_default}
-use Rattle.config.specs.Answers.{number}
+use Rattle.config.specs.Table.{Named, Table, once, insert_number, after_insert, default_number, after_default}
+use Rattle.config.specs.Answers.{call_number}
+use Rattle.config.specs.declared.ConfigRefusal.{ConfigRefusal}
 use Rattle.config.specs.declared.Entry.{Entry}
-use Rattle.config.specs.declared.Inserted.{Inserted}
-use Rattle.config.specs.declared.MaybeStyle.{MaybeStyle}
-use Rattle.config.specs.declared.MaybeStyle.TheVariants.{Style, Nothing}
 use Rattle.config.specs.declared.StyleConfig.{StyleConfig}
 use Rattle.config.specs.declared.StyleConfigMap.{StyleConfigMap}
 
@@ -28,14 +25,9 @@ name_in e = take e.len e.name
 abbrev pub named_of : Entry → Named
 named_of e = record { name = name_in e; style = e.style }
 
--- the default, where there is one
-abbrev pub style_in : MaybeStyle → Option StyleConfig
-style_in (Style s) = some s
-style_in Nothing = none
-
 -- the names of the first `count` places, in their order, and the default
 abbrev pub configured : StyleConfigMap → Table
-configured m = record { entries = map named_of (take m.count m.entries); default = style_in m.default_style }
+configured m = record { entries = map named_of (take m.count m.entries); default = m.default_style }
 
 -- no place past the last is read: this stands for what would be there
 abbrev pub no_entry : Entry
@@ -74,17 +66,12 @@ pub record Means (t : Table) (m : StyleConfigMap) : Type 0 where
   pub sound : Sound m
   pub means : configured m ≡ t
 
--- what an entry hands back, whatever its type: 19 or 0, and the table after it
-pub record Enters (m : StyleConfigMap) (k : List ℕ) (s : StyleConfig) (r : Inserted) : Type 0 where
-  pub refusal : r.refusal ≡ number (refuses k (configured m))
-  pub table : Means (with_entry k s (configured m)) r.map
+-- what a new default answers, 18 or nothing, and the table after it
+pub record SetsDefault (m : StyleConfigMap) (s : StyleConfig) (r : Result (Unit {0}) ConfigRefusal) (n : StyleConfigMap) : Type 0 where
+  pub refusal : call_number r ≡ default_number s
+  pub table : Means (after_default s (configured m)) n
 
--- what a new default hands back: 18 or 0, and the table after it
-pub record SetsDefault (m : StyleConfigMap) (s : StyleConfig) (r : Inserted) : Type 0 where
-  pub refusal : r.refusal ≡ default_number s
-  pub table : Means (after_default s (configured m)) r.map
-
--- what an insertion hands back: 19, 18 or 0, and the table after it
-pub record Inserts (m : StyleConfigMap) (k : List ℕ) (s : StyleConfig) (r : Inserted) : Type 0 where
-  pub refusal : r.refusal ≡ insert_number k s (configured m)
-  pub table : Means (after_insert k s (configured m)) r.map
+-- what an insertion answers, 19, 18 or nothing, and the table after it
+pub record Inserts (m : StyleConfigMap) (k : List ℕ) (s : StyleConfig) (r : Result (Unit {0}) ConfigRefusal) (n : StyleConfigMap) : Type 0 where
+  pub refusal : call_number r ≡ insert_number k s (configured m)
+  pub table : Means (after_insert k s (configured m)) n

@@ -1,7 +1,7 @@
 -- What a config means: its names with their styles, in the order of their first insertion, and the default.
 -- Document 01, "Flags and config", in its order.
-use Rattle.std.specs.Prelude.{Bool, true, false, cond, ◌&&◌, ◌||◌, not, List, [], ◌∷◌, ℕ, suc, leb, length}
-use Rattle.std.proofs.Math.Option.{Option, none, some, or_else}
+use Rattle.std.specs.Prelude.{Bool, true, false, cond, ◌&&◌, ◌||◌, not, List, [], ◌∷◌, ℕ, suc, leb, length, Option}
+use Rattle.std.specs.Option.{option_or}
 use Rattle.text.specs.Bytes.{same_of}
 use Rattle.richtext.specs.Types.{retired}
 use Rattle.config.specs.Names.{too_long, holds_colon}
@@ -19,7 +19,7 @@ pub record Table : Type 0 where
 
 -- no entry and no default
 abbrev pub empty_table : Table
-empty_table = record { entries = []; default = none }
+empty_table = record { entries = []; default = Option.None }
 
 -- a name among the entries
 unfoldable pub known : List ℕ → List Named → Bool
@@ -28,8 +28,8 @@ known k (x ∷ xs) = same_of x.name k || known k xs
 
 -- the style of a name among the entries
 unfoldable pub find : List ℕ → List Named → Option StyleConfig
-find k [] = none
-find k (x ∷ xs) = cond (same_of x.name k) (some x.style) (find k xs)
+find k [] = Option.None
+find k (x ∷ xs) = cond (same_of x.name k) (Option.Some x.style) (find k xs)
 
 -- how many entries stand before the name's: all of them where it is not known
 unfoldable pub place : List ℕ → List Named → ℕ
@@ -77,8 +77,8 @@ default_number s = cond (retired_style s) 18 0
 
 -- the table after a new default: as it was where that is refused
 abbrev pub after_default : StyleConfig → Table → Table
-after_default s t = cond (retired_style s) t (with_default (some s) t)
+after_default s t = cond (retired_style s) t (with_default (Option.Some s) t)
 
 -- the style that a name has: its entry's, else the default
 abbrev pub style_for : List ℕ → Table → Option StyleConfig
-style_for k t = or_else (find k t.entries) t.default
+style_for k t = option_or (find k t.entries) t.default

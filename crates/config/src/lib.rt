@@ -1,14 +1,13 @@
 // Which way each named style grows: a table of up to 32 names and an optional default, held by value.
 #![tactic(auto)]
 
-ghost use Rattle.std.specs.Prelude.{◌≡◌, ◌++◌, cond, eqb, ◌-◌, ◌≤◌, ◌<◌, length};
-ghost use Rattle.std.proofs.Math.Option.{none, some};
+ghost use Rattle.std.specs.Prelude.{◌≡◌, false, true, ◌++◌, ◌-◌, ◌≤◌, ◌<◌, length, Option, MatchResult, OnErr};
 ghost use Rattle.text.specs.Bytes.{same_of};
-ghost use Rattle.config.specs.Names.{cut, zeros};
-ghost use Rattle.config.specs.Table.{empty_table, place, style_for, with_default, with_entry};
+ghost use Rattle.config.specs.Names.{cut, zeros, holds_colon};
+ghost use Rattle.config.specs.Table.{empty_table, place, refuses, style_for, with_default, with_entry};
 ghost use Rattle.config.specs.BuiltIn.{built_in};
-ghost use Rattle.config.specs.Answers.{said, said_flag, asked, get_says, flag_says, unmark_says};
-ghost use Rattle.config.specs.Meaning.{entry_of, name_in, style_in, configured, stored, Tidy, Sound, Means, Enters, SetsDefault, Inserts};
+ghost use Rattle.config.specs.Answers.{said, refusal_number, asked, get_says, flag_says, unmark_says};
+ghost use Rattle.config.specs.Meaning.{entry_of, name_in, configured, stored, Tidy, Sound, Means, SetsDefault, Inserts};
 
 use richtext::{ExpandType, TextStyleInfoFlag};
 
@@ -18,12 +17,8 @@ const MAX_NAME: usize = 32;
 
 const COLON: u8 = b':';
 
-const REFUSED: u64 = 19;
-
-const RETIRED: u64 = 18;
-
 // How a style grows.
-#[derive(Clone, Copy)]
+#[derive(Clone, Copy, PartialEq, Eq, Debug)]
 pub struct StyleConfig {
     pub expand: ExpandType,
 }
@@ -46,30 +41,28 @@ impl StyleConfig {
     }
 }
 
-// What a table may have for a default.
-#[derive(Clone, Copy)]
-pub enum MaybeStyle {
-    Style(StyleConfig),
-    Nothing,
+// Why a call is refused. It has changed nothing then.
+#[derive(Clone, Copy, PartialEq, Eq, Debug)]
+pub enum ConfigRefusal {
+    // 18: a type that no new entry may have.
+    RetiredType,
+    // 19: a name over 32 bytes; for an insertion also one that holds a colon, and a new name into 32 entries.
+    UnfitName,
 }
 
-// The answer to `get`: a style, no entry and no default, or refusal 19.
-#[derive(Clone, Copy)]
-pub enum Got {
-    Style(StyleConfig),
-    Nothing,
-    Refused,
+impl ConfigRefusal {
+    // The number that the documents give it.
+    pub fn number(self) -> u64
+        ensures { result ≡ refusal_number self }
+    {
+        match self {
+            ConfigRefusal::RetiredType => 18,
+            ConfigRefusal::UnfitName => 19,
+        }
+    }
 }
 
-// The answer to the two questions for a flag, in the same way.
-#[derive(Clone, Copy)]
-pub enum GotFlag {
-    Flag(TextStyleInfoFlag),
-    Nothing,
-    Refused,
-}
-
-// A name with its style: the first `len` bytes are the name, the others zero.
+// A name with its style: the first `len` bytes are the name, the others zero. (No heap: a name's length stands beside its place.)
 #[derive(Clone, Copy)]
 pub struct Entry {
     name: [u8; 32],
@@ -82,24 +75,7 @@ pub struct Entry {
 pub struct StyleConfigMap {
     entries: [Entry; 32],
     count: usize,
-    default_style: MaybeStyle,
-}
-
-// The refusal of an insertion or of a new default, 0 where there is none, and the table after it.
-#[derive(Clone, Copy)]
-pub struct Inserted {
-    pub refusal: u64,
-    pub map: StyleConfigMap,
-}
-
-// The first number, or the second where the first is 0.
-fn first(number: u64, later: u64) -> u64
-    ensures { result ≡ cond (eqb number 0) later number }
-{
-    if number == 0 {
-        return later;
-    }
-    number
+    default_style: Option<StyleConfig>,
 }
 
 // The bytes of a name, and zeros after them.
@@ -108,10 +84,8 @@ fn padded(key: &[u8]) -> [u8; 32]
     ensures { result ≡ key.now ++ zeros (32 - length key.now) }
 {
     let mut name = [0u8; 32];
-    let mut i = 0;
-    while i < key.len() {
-        name[i] = key[i];
-        i += 1;
+    for (i, byte) in key.iter().enumerate() {
+        name[i] = *byte;
     }
     name
 }
@@ -131,13 +105,11 @@ impl Entry {
     }
 
     // Whether this is the entry of the name.
-    fn is_named(self, key: &[u8]) -> bool
-        requires { Tidy self }
-        ensures { result ≡ same_of (name_in self) key.now }
+    fn is_named(&self, key: &[u8]) -> bool
+        requires { Tidy self.now }
+        ensures { result ≡ same_of (name_in self.now) key.now }
     {
-        let name = self.name;
-        let len = self.len;
-        text::same(&name[..len], key)
+        &self.name[..self.len] == key
     }
 }
 
@@ -155,7 +127,7 @@ impl StyleConfigMap {
                 },
             }; 32],
             count: 0,
-            default_style: MaybeStyle::Nothing,
+            default_style: None,
         }
     }
 
@@ -175,205 +147,151 @@ impl StyleConfigMap {
 
     // A known name's style is replaced; a new name comes last. Refused: by 19 a name that holds a colon, a name over 32 bytes, a new name
     // into 32 entries; then by 18 a retired type.
-    pub fn insert(self, key: &[u8], value: StyleConfig) -> Inserted
-        requires { Sound self }
-        ensures { Inserts self key.now value result }
+    pub fn insert(&mut self, key: &[u8], value: StyleConfig) -> Result<(), ConfigRefusal>
+        requires { Sound self.old }
+        ensures inserts { Inserts self.old key.now value result self.new }
+        ensures stays { OnErr result (self.new ≡ self.old) }
     {
-        let done = self.enter(key, value);
-        let number = done.refusal;
-        let expand = value.expand;
-        if expand.retired() {
-            return Inserted {
-                refusal: first(number, RETIRED),
-                map: self,
-            };
+        let at = self.place_to_enter(key)?;
+        if value.expand.retired() {
+            return Err(ConfigRefusal::RetiredType);
         }
-        done
+        self.store(at, Entry::new(key, value));
+        Ok(())
     }
 
-    // The same whatever the type.
-    fn enter(self, key: &[u8], value: StyleConfig) -> Inserted
-        requires { Sound self }
-        ensures { Enters self key.now value result }
+    // Where the entry of this name stands or would stand; refused by 19, whatever the type.
+    fn place_to_enter(&self, key: &[u8]) -> Result<usize, ConfigRefusal>
+        requires { Sound self.now }
+        ensures { MatchResult result (λ at. (at ≡ place key.now (configured self.now).entries) × (at < 32) × (length key.now ≤ 32) × (holds_colon key.now ≡ false)) (λ e. (e ≡ ConfigRefusal.UnfitName) × (refuses key.now (configured self.now) ≡ true)) }
     {
-        if MAX_NAME < key.len() {
-            return Inserted {
-                refusal: REFUSED,
-                map: self,
-            };
+        if key.len() > MAX_NAME {
+            return Err(ConfigRefusal::UnfitName);
         }
         if text::find(key, 0, COLON) < key.len() {
-            return Inserted {
-                refusal: REFUSED,
-                map: self,
-            };
+            return Err(ConfigRefusal::UnfitName);
         }
         let at = self.place(key);
-        if MAX_ENTRIES <= at {
-            return Inserted {
-                refusal: REFUSED,
-                map: self,
-            };
+        if at >= MAX_ENTRIES {
+            return Err(ConfigRefusal::UnfitName);
         }
-        let map = self.store(at, Entry::new(key, value));
-        Inserted { refusal: 0, map }
+        Ok(at)
     }
 
-    // The table after an insertion, refused or not.
+    // The table after an insertion whatever the type, refused or not.
     fn with(self, key: &[u8], expand: ExpandType) -> StyleConfigMap
         requires { Sound self }
         ensures { Means (with_entry key.now (record { expand = expand }) (configured self)) result }
     {
-        self.enter(key, StyleConfig { expand }).map
+        let mut map = self;
+        if let Ok(at) = map.place_to_enter(key) {
+            map.store(at, Entry::new(key, StyleConfig { expand }));
+        }
+        map
     }
 
-    // The table with this default; a retired type is refused by 18.
-    pub fn set_default(self, style: StyleConfig) -> Inserted
-        requires { Sound self }
-        ensures { SetsDefault self style result }
+    // Sets the default; a retired type is refused by 18.
+    pub fn set_default(&mut self, style: StyleConfig) -> Result<(), ConfigRefusal>
+        requires { Sound self.old }
+        ensures sets { SetsDefault self.old style result self.new }
+        ensures stays { OnErr result (self.new ≡ self.old) }
     {
-        let expand = style.expand;
-        if expand.retired() {
-            return Inserted {
-                refusal: RETIRED,
-                map: self,
-            };
+        if style.expand.retired() {
+            return Err(ConfigRefusal::RetiredType);
         }
-        let map = self.with_default(style);
-        Inserted { refusal: 0, map }
+        self.default_style = Some(style);
+        Ok(())
     }
 
-    // The same whatever the type.
-    fn with_default(self, style: StyleConfig) -> StyleConfigMap
-        requires { Sound self }
-        ensures { Means (with_default (some style) (configured self)) result }
+    // Takes the default away.
+    pub fn clear_default(&mut self)
+        requires { Sound self.old }
+        ensures { Means (with_default Option.None (configured self.old)) self.new }
     {
-        let entries = self.entries;
-        let count = self.count;
-        StyleConfigMap {
-            entries,
-            count,
-            default_style: MaybeStyle::Style(style),
-        }
+        self.default_style = None;
     }
 
-    // The table with no default.
-    pub fn clear_default(self) -> StyleConfigMap
-        requires { Sound self }
-        ensures { Means (with_default none (configured self)) result }
+    // The style of this name, taken whole, or the default; none without either. Refused by 19: a name over 32 bytes.
+    pub fn get(&self, key: &[u8]) -> Result<Option<StyleConfig>, ConfigRefusal>
+        requires { Sound self.now }
+        ensures { said result ≡ get_says key.now (configured self.now) }
     {
-        let entries = self.entries;
-        let count = self.count;
-        StyleConfigMap {
-            entries,
-            count,
-            default_style: MaybeStyle::Nothing,
+        if key.len() > MAX_NAME {
+            return Err(ConfigRefusal::UnfitName);
         }
-    }
-
-    // The style of this name, taken whole, or the default.
-    pub fn get(self, key: &[u8]) -> Got
-        requires { Sound self }
-        ensures { said result ≡ get_says key.now (configured self) }
-    {
-        if MAX_NAME < key.len() {
-            return Got::Refused;
-        }
-        match self.style_for(key) {
-            MaybeStyle::Style(style) => Got::Style(style),
-            MaybeStyle::Nothing => Got::Nothing,
-        }
+        Ok(self.style_for(key))
     }
 
     // The flag of a new mark of this name, taken up to its first colon.
-    pub fn get_style_flag(self, key: &[u8]) -> GotFlag
-        requires { Sound self }
-        ensures { said_flag result ≡ flag_says key.now (configured self) }
+    pub fn get_style_flag(&self, key: &[u8]) -> Result<Option<TextStyleInfoFlag>, ConfigRefusal>
+        requires { Sound self.now }
+        ensures { said result ≡ flag_says key.now (configured self.now) }
     {
-        match self.get_cut(key) {
-            Got::Style(style) => {
-                let expand = style.expand;
-                GotFlag::Flag(TextStyleInfoFlag::new(expand))
-            }
-            Got::Nothing => GotFlag::Nothing,
-            Got::Refused => GotFlag::Refused,
+        match self.get_cut(key)? {
+            Some(style) => Ok(Some(TextStyleInfoFlag::new(style.expand))),
+            None => Ok(None),
         }
     }
 
     // The flag of a mark that takes this name's style away.
-    pub fn get_style_flag_for_unmark(self, key: &[u8]) -> GotFlag
-        requires { Sound self }
-        ensures { said_flag result ≡ unmark_says key.now (configured self) }
+    pub fn get_style_flag_for_unmark(
+        &self,
+        key: &[u8],
+    ) -> Result<Option<TextStyleInfoFlag>, ConfigRefusal>
+        requires { Sound self.now }
+        ensures { said result ≡ unmark_says key.now (configured self.now) }
     {
-        match self.get_cut(key) {
-            Got::Style(style) => {
-                let expand = style.expand;
-                GotFlag::Flag(TextStyleInfoFlag::new(expand.reverse()))
-            }
-            Got::Nothing => GotFlag::Nothing,
-            Got::Refused => GotFlag::Refused,
+        match self.get_cut(key)? {
+            Some(style) => Ok(Some(TextStyleInfoFlag::new(style.expand.reverse()))),
+            None => Ok(None),
         }
     }
 
     // As `get`, for what stands before the first colon; the length is that of the whole name.
-    fn get_cut(self, key: &[u8]) -> Got
-        requires { Sound self }
-        ensures { said result ≡ asked key.now (style_for (cut key.now) (configured self)) }
+    fn get_cut(&self, key: &[u8]) -> Result<Option<StyleConfig>, ConfigRefusal>
+        requires { Sound self.now }
+        ensures { said result ≡ asked key.now (style_for (cut key.now) (configured self.now)) }
     {
-        if MAX_NAME < key.len() {
-            return Got::Refused;
+        if key.len() > MAX_NAME {
+            return Err(ConfigRefusal::UnfitName);
         }
         let end = text::find(key, 0, COLON);
-        match self.style_for(&key[..end]) {
-            MaybeStyle::Style(style) => Got::Style(style),
-            MaybeStyle::Nothing => Got::Nothing,
-        }
+        Ok(self.style_for(&key[..end]))
     }
 
     // The style of a name, or the default.
-    fn style_for(self, key: &[u8]) -> MaybeStyle
-        requires { Sound self }
-        ensures { style_in result ≡ style_for key.now (configured self) }
+    fn style_for(&self, key: &[u8]) -> Option<StyleConfig>
+        requires { Sound self.now }
+        ensures { result ≡ style_for key.now (configured self.now) }
     {
         let at = self.place(key);
-        let count = self.count;
-        if at < count {
-            let entry = self.entries[at];
-            let style = entry.style;
-            return MaybeStyle::Style(style);
+        if at < self.count {
+            return Some(self.entries[at].style);
         }
         self.default_style
     }
 
     // Where the entry of this name stands, or the count where it is not known.
-    fn place(self, key: &[u8]) -> usize
-        requires { Sound self }
-        ensures { result ≡ place key.now (configured self).entries }
+    fn place(&self, key: &[u8]) -> usize
+        requires { Sound self.now }
+        ensures { result ≡ place key.now (configured self.now).entries }
     {
-        let count = self.count;
-        let mut i = 0;
-        while i < count {
-            let entry = self.entries[i];
-            if entry.is_named(key) {
+        for i in 0..self.count {
+            if self.entries[i].is_named(key) {
                 return i;
             }
-            i += 1;
         }
-        i
+        self.count
     }
 
-    // The entry put at a place among the entries, or after the last.
-    fn store(self, at: usize, entry: Entry) -> StyleConfigMap
+    // Puts the entry at a place among the entries, or after the last.
+    fn store(&mut self, at: usize, entry: Entry)
         requires { at < 32 }
-        ensures { result ≡ stored self at entry }
+        ensures { self.new ≡ stored self.old at entry }
     {
-        let mut next = self;
-        let count = self.count;
-        next.entries[at] = entry;
-        if at == count {
-            next.count = count + 1;
-            return next;
+        self.entries[at] = entry;
+        if at == self.count {
+            self.count += 1;
         }
-        next
     }
 }

@@ -314,9 +314,10 @@ fn page_8(good: &mut bool) {
 }
 
 // Writes a refusal's number and its words, with a blank more in front of a number of one digit.
-fn put_row(good: &mut bool, row: &mut [u8], lead: &[u8], number: u64)
-    requires { (80 ≤ length row.old) × (length lead.now ≤ 3) }
+fn put_row(good: &mut bool, row: &mut [u8], number: u64)
+    requires { 80 ≤ length row.old }
 {
+    let lead: &[u8] = if number < 10 { b"   " } else { b"  " };
     let a = text::put(row, 0, lead);
     let b = text::put_decimal(row, a, number);
     let c = text::put(row, b, b"  ");
@@ -325,40 +326,20 @@ fn put_row(good: &mut bool, row: &mut [u8], lead: &[u8], number: u64)
     script::hand_over(row, e, good);
 }
 
-fn say_refusal(good: &mut bool, lead: &[u8], number: u64)
-    requires { length lead.now ≤ 3 }
-{
+fn say_refusal(good: &mut bool, number: u64) {
     let mut row = [0u8; 80];
-    put_row(good, &mut row, lead, number);
+    put_row(good, &mut row, number);
 }
 
 fn page_9(good: &mut bool) {
     say(good, b"A refusal is a number, the same for all calls:\n");
-    say_refusal(good, b"   ", 1);
-    say_refusal(good, b"   ", 2);
-    say_refusal(good, b"   ", 3);
-    say_refusal(good, b"   ", 4);
-    say_refusal(good, b"   ", 5);
-    say_refusal(good, b"   ", 6);
-    say_refusal(good, b"   ", 7);
-}
-
-fn page_10(good: &mut bool) {
-    say_refusal(good, b"   ", 8);
-    say_refusal(good, b"   ", 9);
-    say_refusal(good, b"  ", 10);
-    say_refusal(good, b"  ", 11);
-    say_refusal(good, b"  ", 12);
-    say_refusal(good, b"  ", 13);
-    say_refusal(good, b"  ", 14);
-    say_refusal(good, b"  ", 15);
-    say_refusal(good, b"  ", 16);
-    say_refusal(good, b"  ", 17);
-    say_refusal(good, b"  ", 18);
+    for number in 1..=18 {
+        say_refusal(good, number);
+    }
     say(good, b"\n");
 }
 
-fn page_11(good: &mut bool) {
+fn page_10(good: &mut bool) {
     say(
         good,
         b"Example: a script on the left, its answers on the right\n",
@@ -366,7 +347,7 @@ fn page_11(good: &mut bool) {
     say(good, b"\n");
 }
 
-fn page_12(good: &mut bool) {
+fn page_11(good: &mut bool) {
     say(good, b"  op=insert               marks=0\n");
     say(good, b"  tank=0\n");
     say(good, b"  at=0\n");
@@ -387,14 +368,13 @@ fn page(good: &mut bool) {
     page_9(good);
     page_10(good);
     page_11(good);
-    page_12(good);
 }
 
 // Is the first argument this word?
 fn asks_for(rt: HostRuntime, word: &[u8]) -> bool {
     let mut first = io::buffer();
     match rt.arg(1, &mut first) {
-        Ok(n) => text::same(&first[..n], word),
+        Ok(n) => &first[..n] == word,
         Err(_) => false,
     }
 }

@@ -1,5 +1,6 @@
 -- Where a log does not stand between two groups: inside a line, and behind a good line that is not its group's last. And where it does: behind
 -- the last line of a group.
+use Rattle.std.specs.Prelude.{ℤ, Option, Some, None}
 use mathlib.Core.Path.{◌≡◌, refl, sym, ap, subst, ◌∙◌}
 use mathlib.Core.Bool.{Bool, true, false, cond}
 use mathlib.Core.List.{List, [], ◌∷◌, ◌++◌}
@@ -10,18 +11,15 @@ use lib.Dec.{ltb}
 use lib.ListN.{length, take, drop, length-take, length-append}
 use lib.Seq.{take-nil}
 use Rattle.text.specs.Bytes.{same_of, starts_of}
-use Rattle.text.specs.declared.Parsed.{Parsed}
-use Rattle.text.specs.declared.Signed32.{Signed32}
 use Rattle.text.proofs.Finding.{front_here, front_past, front_none, held_here}
 use Rattle.script.specs.Grammar.{OpRow, Field, field_at, ops}
 use Rattle.script.specs.declared.Call.{Call}
 use Rattle.script.specs.declared.Event.{Event}
 use Rattle.script.specs.declared.Holds.{Holds}
+use Rattle.script.specs.declared.Kind.{Kind}
 use Rattle.script.specs.declared.Progress.{Progress}
 use Rattle.script.specs.declared.Read.{Read}
-use Rattle.script.specs.declared.ReadKind.{ReadKind}
-use Rattle.script.specs.declared.ReadOp.{ReadOp}
-use Rattle.script.specs.declared.ReadValue.{ReadValue}
+use Rattle.styles.specs.declared.Value.{Value}
 use Rattle.text.specs.Signed.{signed32_of}
 use Rattle.script.specs.Reading.{number_of, byte_of, party_of, kind_named, value_of, op_from, op_named, after_name, bad_of, moved_of, with_op, with_number, with_counter, with_kind, with_value, held_line, line_of}
 use Rattle.script.specs.Lines.{line_front, has_end, grown_of, State, event_of, brings_of, after_of, turned_of}
@@ -101,58 +99,58 @@ inside_line x c (d ∷ ds) (suc k) r h b =
 abbrev begun_by_lem : Call → ℕ
 begun_by_lem c = c.row + c.place
 
-op_row : (i : ℕ) (rs : List OpRow) (t : List ℕ) (row : ℕ) → op_from (suc i) rs t ≡ ReadOp.Row row → 0 < row
+op_row : (i : ℕ) (rs : List OpRow) (t : List ℕ) (row : ℕ) → op_from (suc i) rs t ≡ Some row → 0 < row
 op_row i [] t row h = let z : ◌≡◌ {A = ℕ} 0 1 = cc in absurd (omega arith)
 op_row i (x ∷ xs) t row h = by (same_of t x.name) h (op_row (suc i) xs t row) where
-  by : (b : Bool) → cond b (ReadOp.Row (suc i)) (op_from (suc (suc i)) xs t) ≡ ReadOp.Row row → (op_from (suc (suc i)) xs t ≡ ReadOp.Row row → 0 < row) → 0 < row
+  by : (b : Bool) → cond b (Some (suc i)) (op_from (suc (suc i)) xs t) ≡ Some row → (op_from (suc (suc i)) xs t ≡ Some row → 0 < row) → 0 < row
   by true g rest = let z : suc i ≡ row = cc in omega arith
   by false g rest = rest g
 
-named_row : (t : List ℕ) (row : ℕ) → op_named t ≡ ReadOp.Row row → 0 < row
+named_row : (t : List ℕ) (row : ℕ) → op_named t ≡ Some row → 0 < row
 unfolding op_named
 named_row t row h = op_row 0 ops t row h
 
-after_row : (f : Field) (line : List ℕ) (row : ℕ) → after_name f ReadOp.Bad op_named line ≡ ReadOp.Row row → 0 < row
+after_row : (f : Field) (line : List ℕ) (row : ℕ) → after_name f None op_named line ≡ Some row → 0 < row
 after_row f line row h = by (starts_of line f.name) h where
-  by : (b : Bool) → cond b (op_named (drop (length f.name) line)) ReadOp.Bad ≡ ReadOp.Row row → 0 < row
+  by : (b : Bool) → cond b (op_named (drop (length f.name) line)) None ≡ Some row → 0 < row
   by true g = named_row (drop (length f.name) line) row g
   by false g = let z : ◌≡◌ {A = ℕ} 0 1 = cc in absurd (omega arith)
 
 module _ (c : Call) where
-  op_begun : (o : ReadOp) → ((row : ℕ) → o ≡ ReadOp.Row row → 0 < row) → (with_op c o).progress ≡ Progress.More → 0 < begun_by_lem (with_op c o).call
-  op_begun ReadOp.Bad k h = let z : ◌≡◌ {A = ℕ} 0 1 = cc in absurd (omega arith)
-  op_begun (ReadOp.Row row) k h = omega (arith, k row refl)
+  op_begun : (o : Option ℕ) → ((row : ℕ) → o ≡ Some row → 0 < row) → (with_op c o).progress ≡ Progress.More → 0 < begun_by_lem (with_op c o).call
+  op_begun None k h = let z : ◌≡◌ {A = ℕ} 0 1 = cc in absurd (omega arith)
+  op_begun (Some row) k h = omega (arith, k row refl)
 
-  number_begun : (p : Parsed) → (with_number c p).progress ≡ Progress.More → 0 < begun_by_lem (with_number c p).call
+  number_begun : (p : Option ℕ) → (with_number c p).progress ≡ Progress.More → 0 < begun_by_lem (with_number c p).call
   unfolding moved_of
-  number_begun Parsed.Bad h = let z : ◌≡◌ {A = ℕ} 0 1 = cc in absurd (omega arith)
-  number_begun (Parsed.Number n) h = omega arith
+  number_begun None h = let z : ◌≡◌ {A = ℕ} 0 1 = cc in absurd (omega arith)
+  number_begun (Some n) h = omega arith
 
-  counter_begun : (p : Signed32) → (with_counter c p).progress ≡ Progress.More → 0 < begun_by_lem (with_counter c p).call
+  counter_begun : (p : Option ℤ) → (with_counter c p).progress ≡ Progress.More → 0 < begun_by_lem (with_counter c p).call
   unfolding moved_of
-  counter_begun Signed32.Bad h = let z : ◌≡◌ {A = ℕ} 0 1 = cc in absurd (omega arith)
-  counter_begun (Signed32.Number n) h = omega arith
+  counter_begun None h = let z : ◌≡◌ {A = ℕ} 0 1 = cc in absurd (omega arith)
+  counter_begun (Some n) h = omega arith
 
-  kind_begun : (p : ReadKind) → (with_kind c p).progress ≡ Progress.More → 0 < begun_by_lem (with_kind c p).call
+  kind_begun : (p : Option Kind) → (with_kind c p).progress ≡ Progress.More → 0 < begun_by_lem (with_kind c p).call
   unfolding moved_of
-  kind_begun ReadKind.Bad h = let z : ◌≡◌ {A = ℕ} 0 1 = cc in absurd (omega arith)
-  kind_begun (ReadKind.Kind k) h = omega arith
+  kind_begun None h = let z : ◌≡◌ {A = ℕ} 0 1 = cc in absurd (omega arith)
+  kind_begun (Some k) h = omega arith
 
-  value_begun : (p : ReadValue) → (with_value c p).progress ≡ Progress.More → 0 < begun_by_lem (with_value c p).call
+  value_begun : (p : Option Value) → (with_value c p).progress ≡ Progress.More → 0 < begun_by_lem (with_value c p).call
   unfolding moved_of
-  value_begun ReadValue.Bad h = let z : ◌≡◌ {A = ℕ} 0 1 = cc in absurd (omega arith)
-  value_begun (ReadValue.Value v) h = omega arith
+  value_begun None h = let z : ◌≡◌ {A = ℕ} 0 1 = cc in absurd (omega arith)
+  value_begun (Some v) h = omega arith
 
   held_begun : (f : Field) (k : Holds) (line : List ℕ) → (held_line c f k line).progress ≡ Progress.More → 0 < begun_by_lem (held_line c f k line).call
   unfolding held_line
   held_begun f Holds.Nothing line h = let z : ◌≡◌ {A = ℕ} 0 1 = cc in absurd (omega arith)
-  held_begun f Holds.Op line h = op_begun (after_name f ReadOp.Bad op_named line) (after_row f line) h
+  held_begun f Holds.Op line h = op_begun (after_name f None op_named line) (after_row f line) h
   held_begun f (Holds.Number most) line h = number_begun (number_of f most line) h
-  held_begun f Holds.Counter line h = counter_begun (after_name f Signed32.Bad signed32_of line) h
-  held_begun f Holds.Kind line h = kind_begun (after_name f ReadKind.Bad kind_named line) h
-  held_begun f Holds.Value line h = value_begun (after_name f ReadValue.Bad (value_of c.kind) line) h
-  held_begun f Holds.Byte line h = number_begun (after_name f Parsed.Bad byte_of line) h
-  held_begun f Holds.Party line h = number_begun (after_name f Parsed.Bad party_of line) h
+  held_begun f Holds.Counter line h = counter_begun (after_name f None signed32_of line) h
+  held_begun f Holds.Kind line h = kind_begun (after_name f None kind_named line) h
+  held_begun f Holds.Value line h = value_begun (after_name f None (value_of c.kind) line) h
+  held_begun f Holds.Byte line h = number_begun (after_name f None byte_of line) h
+  held_begun f Holds.Party line h = number_begun (after_name f None party_of line) h
 
   line_begun : (line : List ℕ) → (line_of c line).progress ≡ Progress.More → 0 < begun_by_lem (line_of c line).call
   unfolding line_of

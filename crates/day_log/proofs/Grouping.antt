@@ -1,5 +1,6 @@
 -- A turn of the loop over the groups at the front of some bytes: one line. Behind a group's last line the log stands between two groups; at no
 -- other place of a line does it.
+use Rattle.std.specs.Prelude.{Some, None}
 use mathlib.Core.Path.{◌≡◌, refl, sym, ap, subst, ◌∙◌}
 use mathlib.Core.Bool.{true, false}
 use mathlib.Core.List.{List, ◌∷◌}
@@ -20,7 +21,6 @@ use Rattle.script.specs.declared.Fed.{Fed}
 use Rattle.script.specs.declared.Reader.{Reader}
 use Rattle.script.specs.Lines.{line_front, has_end, State, state_of, counted_of, Feeds}
 use Rattle.script.proofs.Unique.{fed_state}
-use Rattle.day_log.specs.declared.Step.{Step}
 use Rattle.day_log.specs.declared.Stop.{Stop}
 use Rattle.day_log.specs.declared.Took.{Took}
 use Rattle.day_log.specs.Log.{logged, call_of, Course, at_start, stopped, on_line, after_line, after_bytes, step_of, wrong_line}
@@ -118,7 +118,7 @@ module _ {bytes : List ℕ} {h : House} {s : Tanks} {r : Reader} {edits lines at
       ]
 
   -- a good line that is not its group's last
-  module _ (good : step_of f.event (logged f.call.op) ≡ Step.Good false) where
+  module _ (good : step_of f.event (logged f.call.op) ≡ Some false) where
     pub line_on : after_first h f.at bytes ≡ standing s f.reader edits
     line_on =
         let e = step_on f.event (logged f.call.op) good in
@@ -194,7 +194,7 @@ module _ {bytes : List ℕ} {h : House} {s : Tanks} {r : Reader} {edits lines at
     refused_same z = called.is ∙ after_refused (pool.meaning s) (call_of f.call).tank (call_of f.call).edit (omega (arith, called.number_is))
 
   -- a wrong line
-  pub wrong_at : (line : ℕ) → step_of f.event (logged f.call.op) ≡ Step.Wrong → line ≡ wrong_line f.event f.reader.newlines → after_first h f.at bytes ≡ stopped (standing s r edits) line 13
+  pub wrong_at : (line : ℕ) → step_of f.event (logged f.call.op) ≡ None → line ≡ wrong_line f.event f.reader.newlines → after_first h f.at bytes ≡ stopped (standing s r edits) line 13
   wrong_at line w e =
       after_line_lem ∙ step_wrong f.event (standing s r edits) (state_of f.reader) f.call w ∙ ap (λ (k : ℕ). stopped (standing s r edits) k 13) (sym e)
 

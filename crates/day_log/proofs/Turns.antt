@@ -1,4 +1,5 @@
 -- A turn of the loop over some bytes of a log: one line.
+use Rattle.std.specs.Prelude.{Some, None}
 use mathlib.Core.Path.{◌≡◌, refl, sym, ap, ap₂, subst, ◌∙◌}
 use mathlib.Core.Bool.{Bool, true, false, cond}
 use mathlib.Core.List.{List}
@@ -22,11 +23,9 @@ use Rattle.script.specs.declared.Reader.{Reader}
 use Rattle.script.specs.Lines.{line_front, has_end, State, state_of, event_of, read_of, brings_of, after_of, turned_of, grown_of, counted_of, Feeds}
 use Rattle.script.proofs.Unique.{fed_state}
 use Rattle.day_log.specs.declared.Log.{Log}
-use Rattle.day_log.specs.declared.Outcome.{Outcome}
-use Rattle.day_log.specs.declared.Step.{Step}
 use Rattle.day_log.specs.declared.Stop.{Stop}
 use Rattle.day_log.specs.declared.Taken.{Taken}
-use Rattle.day_log.specs.Log.{logged, call_of, Course, at_start, going, stopped, read_on, applied, on_line, after_line, after_bytes, step_of, wrong_line, outcome_of, stopped_log, course_of, log_at, Tidy, Sound, Takes}
+use Rattle.day_log.specs.Log.{logged, call_of, Course, at_start, going, stopped, read_on, applied, on_line, after_line, after_bytes, step_of, wrong_line, stopped_log, course_of, log_at, Tidy, Sound, Takes}
 use Rattle.day_log.proofs.Bytes.{behind_line, line_bytes, stopped_stays}
 use Rattle.day_log.proofs.Ends.{sound_stopped}
 use Rattle.day_log.proofs.Tidy.{log_of}
@@ -36,24 +35,24 @@ abbrev pub standing : Tanks → Reader → ℕ → Course
 standing s r edits = record { house = pool.meaning s; reader = state_of r; edits = edits; stop = Stop.Going }
 
 -- ---- what a step says of the event
-pub step_on : (e : Event) (known : Bool) → step_of e known ≡ Step.Good false → (e ≡ Event.Nothing) × (known ≡ true)
+pub step_on : (e : Event) (known : Bool) → step_of e known ≡ Some false → (e ≡ Event.Nothing) × (known ≡ true)
 step_on Event.Nothing true h = (refl, refl)
 step_on Event.Nothing false h = let z : ◌≡◌ {A = ℕ} 0 1 = cc in absurd (omega arith)
 step_on Event.Bad known h = let z : ◌≡◌ {A = ℕ} 0 1 = cc in absurd (omega arith)
 step_on Event.Call true h = let z : true ≡ false = cc in let y : ◌≡◌ {A = ℕ} 0 1 = cc in absurd (omega arith)
 step_on Event.Call false h = let z : ◌≡◌ {A = ℕ} 0 1 = cc in absurd (omega arith)
 
-pub step_whole : (e : Event) (known : Bool) → step_of e known ≡ Step.Good true → (e ≡ Event.Call) × (known ≡ true)
+pub step_whole : (e : Event) (known : Bool) → step_of e known ≡ Some true → (e ≡ Event.Call) × (known ≡ true)
 step_whole Event.Nothing true h = let z : false ≡ true = cc in let y : ◌≡◌ {A = ℕ} 0 1 = cc in absurd (omega arith)
 step_whole Event.Nothing false h = let z : ◌≡◌ {A = ℕ} 0 1 = cc in absurd (omega arith)
 step_whole Event.Bad known h = let z : ◌≡◌ {A = ℕ} 0 1 = cc in absurd (omega arith)
 step_whole Event.Call true h = (refl, refl)
 step_whole Event.Call false h = let z : ◌≡◌ {A = ℕ} 0 1 = cc in absurd (omega arith)
 
-pub step_wrong : (e : Event) (x : Course) (r : State) (c : Call) → step_of e (logged c.op) ≡ Step.Wrong → on_line e x r c ≡ stopped x (wrong_line e r.newlines) 13
+pub step_wrong : (e : Event) (x : Course) (r : State) (c : Call) → step_of e (logged c.op) ≡ None → on_line e x r c ≡ stopped x (wrong_line e r.newlines) 13
 unfolding on_line
 step_wrong Event.Nothing x r c h = by (logged c.op) h where
-  by : (b : Bool) → cond b (Step.Good false) Step.Wrong ≡ Step.Wrong → cond b (read_on x r) (stopped x r.newlines 13) ≡ stopped x r.newlines 13
+  by : (b : Bool) → cond b (Some false) None ≡ None → cond b (read_on x r) (stopped x r.newlines 13) ≡ stopped x r.newlines 13
   by true g = let z : ◌≡◌ {A = ℕ} 0 1 = cc in absurd (omega arith)
   by false g = refl
 step_wrong Event.Bad x r c h = refl
@@ -61,7 +60,7 @@ step_wrong Event.Call x r c h = by (logged c.op) h where
   done : Course
   done = applied x r (call_of c) (refusal_at x.house (call_of c).tank (call_of c).edit)
 
-  by : (b : Bool) → cond b (Step.Good true) Step.Wrong ≡ Step.Wrong → cond b done (stopped x r.newlines 13) ≡ stopped x r.newlines 13
+  by : (b : Bool) → cond b (Some true) None ≡ None → cond b done (stopped x r.newlines 13) ≡ stopped x r.newlines 13
   by true g = let z : ◌≡◌ {A = ℕ} 0 1 = cc in absurd (omega arith)
   by false g = refl
 
@@ -76,9 +75,6 @@ unfolding on_line
 on_call Event.Nothing x r c e k = let z : ◌≡◌ {A = ℕ} 0 1 = cc in absurd (omega arith)
 on_call Event.Bad x r c e k = let z : ◌≡◌ {A = ℕ} 0 1 = cc in absurd (omega arith)
 on_call Event.Call x r c e k = rw k
-
-outcome_count : (number edits k : ℕ) → number ≡ 0 → outcome_of number edits ≡ Outcome.Applied k → k ≡ counted_of edits
-outcome_count number edits k z e = let g : Outcome.Applied (counted_of edits) ≡ Outcome.Applied k = rw (eq-eqb number 0 z) at e in cc g
 
 -- after a whole group the next line names an op
 ready_idle : (n : ℕ) (p : Progress) (c : Call) → event_of p ≡ Event.Call → logged (turned_of n p c).call.op ≡ true
@@ -140,13 +136,13 @@ module _ (s : Tanks) (edits : ℕ) {r : Reader} {from : ℕ} {input : List ℕ} 
       ∙ ap₂ after_bytes line_is behind
 
   -- the line goes on, or is good and not its group's last
-  pub turn_on : step_of f.event (logged f.call.op) ≡ Step.Good false → after_bytes (standing s f.reader edits) (drop f.at input) ≡ after_bytes (standing s r edits) (drop from input)
+  pub turn_on : step_of f.event (logged f.call.op) ≡ Some false → after_bytes (standing s f.reader edits) (drop f.at input) ≡ after_bytes (standing s r edits) (drop from input)
   turn_on h =
       let e = step_on f.event (logged f.call.op) h in
       sym (turned ∙ ap (λ (y : Course). after_bytes y (drop f.at input)) (on_nothing f.event (standing s r edits) (state_of f.reader) f.call e.0 e.1))
 
   -- it is wrong
-  pub turn_wrong : (line : ℕ) → step_of f.event (logged f.call.op) ≡ Step.Wrong → line ≡ wrong_line f.event f.reader.newlines → stopped (standing s r edits) line 13 ≡ after_bytes (standing s r edits) (drop from input)
+  pub turn_wrong : (line : ℕ) → step_of f.event (logged f.call.op) ≡ None → line ≡ wrong_line f.event f.reader.newlines → stopped (standing s r edits) line 13 ≡ after_bytes (standing s r edits) (drop from input)
   turn_wrong line h e =
       sym (
       turned
@@ -177,7 +173,7 @@ module _ (s : Tanks) (edits : ℕ) {r : Reader} {from : ℕ} {input : List ℕ} 
         ∙ stopped_stays (stopped (standing s r edits) f.reader.newlines n) (drop f.at input) refl
         ∙ ap₂ (λ (h : House) (k : ℕ). record { house = h; reader = at_start; edits = edits; stop = Stop.Refused f.reader.newlines k }) (sym same) (sym called.number_is))
 
-  pub ready_on : step_of f.event (logged f.call.op) ≡ Step.Good false → logged f.reader.call.op ≡ true
+  pub ready_on : step_of f.event (logged f.call.op) ≡ Some false → logged f.reader.call.op ≡ true
   ready_on h =
       let e = step_on f.event (logged f.call.op) h in
       ap (λ (t : State). logged t.call.op) (fed_state fed)
@@ -186,21 +182,6 @@ module _ (s : Tanks) (edits : ℕ) {r : Reader} {from : ℕ} {input : List ℕ} 
 
   pub ready_call : f.event ≡ Event.Call → logged f.reader.call.op ≡ true
   ready_call e = ap (λ (t : State). logged t.call.op) (fed_state fed) ∙ call_idle (state_of r) (drop from input) (sym fed.event ∙ e)
-
--- ---- the edit's outcome
-pub outcome_applied : (number edits k : ℕ) → outcome_of number edits ≡ Outcome.Applied k → (number ≡ 0) × (k ≡ counted_of edits)
-outcome_applied number edits k e =
-    elim (ℕ_discrete number 0) [
-      | yes z ↦ (z, outcome_count number edits k z e)
-      | no z ↦ let g : Outcome.Refused ≡ Outcome.Applied k = rw (ne_eqb number 0 z) at e in let y : ◌≡◌ {A = ℕ} 0 1 = cc g in absurd (omega arith)
-    ]
-
-pub outcome_refused : (number edits : ℕ) → outcome_of number edits ≡ Outcome.Refused → 0 < number
-outcome_refused number edits e =
-    elim (ℕ_discrete number 0) [
-      | yes z ↦ let g : Outcome.Applied (counted_of edits) ≡ Outcome.Refused = rw (eq-eqb number 0 z) at e in let y : ◌≡◌ {A = ℕ} 0 1 = cc g in absurd (omega arith)
-      | no z ↦ omega arith
-    ]
 
 -- ---- the loop
 pub record Underway (bytes : List ℕ) (s₀ : Tanks) (r₀ : Reader) (edits₀ : ℕ) (s : Tanks) (r : Reader) (edits from : ℕ) : Type 0 where

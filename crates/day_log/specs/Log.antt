@@ -1,5 +1,5 @@
 -- The edge boxes' log, byte by byte: what it has made of the tanks so far, where its text stands, and where it stopped.
-use Rattle.std.specs.Prelude.{◌≡◌, Bool, true, false, cond, ℕ, ◌≤◌, eqb, length}
+use Rattle.std.specs.Prelude.{◌≡◌, Bool, true, false, cond, ℕ, ◌≤◌, eqb, length, Option, Some, None}
 use mathlib.Core.List.{List, [], ◌∷◌, ◌++◌, foldl}
 use Rattle.styles.specs.declared.Party.TheVariants.{Plant}
 use Rattle.tank.specs.Rules.{Edit, annotating, inserting, deleting}
@@ -16,8 +16,6 @@ use Rattle.script.specs.Args.{number_at, mark_of}
 use Rattle.script.specs.Reading.{fresh_of}
 use Rattle.script.specs.Lines.{held_of, empty_line, holding, State, reader_at, reader_in, state_of, counted_of, after_of, brings_of, read_of, ending_of}
 use Rattle.day_log.specs.declared.Log.{Log}
-use Rattle.day_log.specs.declared.Step.{Step}
-use Rattle.day_log.specs.declared.Outcome.{Outcome}
 use Rattle.day_log.specs.declared.Stop.{Stop}
 use Rattle.day_log.specs.declared.Taken.{Taken}
 
@@ -117,20 +115,16 @@ after_bytes = foldl after_byte
 
 -- ---- What the code hands back
 -- a line's step
-abbrev pub step_of : Event → Bool → Step
-step_of Event.Nothing known = cond known (Step.Good false) Step.Wrong
-step_of Event.Bad known = Step.Wrong
-step_of Event.Call known = cond known (Step.Good true) Step.Wrong
+abbrev pub step_of : Event → Bool → Option Bool
+step_of Event.Nothing known = cond known (Some false) None
+step_of Event.Bad known = None
+step_of Event.Call known = cond known (Some true) None
 
 -- the number of a wrong line, behind so many newlines
 abbrev pub wrong_line : Event → ℕ → ℕ
 wrong_line Event.Nothing n = n
 wrong_line Event.Bad n = counted_of n
 wrong_line Event.Call n = n
-
--- an edit's outcome
-abbrev pub outcome_of : ℕ → ℕ → Outcome
-outcome_of number edits = cond (eqb number 0) (Outcome.Applied (counted_of edits)) Outcome.Refused
 
 -- a log from its start
 abbrev pub fresh : Log

@@ -3,18 +3,18 @@ ghost use Rattle.std.specs.Prelude.{◌≡◌};
 ghost use Rattle.tanks.specs.Pool as pool;
 ghost use Rattle.day_log.specs.Groups.{TakesGroups};
 
-use super::{Outcome, Step, Stop, Took, counted, edit_in, line_step, wrong_line};
+use super::{Stop, Took, edit_in, line_step, one_more, wrong_line};
 use tanks::Tanks;
 
 fn took(tanks: Tanks, at: usize, lines: u64, edits: u64, stop: Stop) -> Took
     ensures { result ≡ record { tanks = tanks; at = at; lines = lines; edits = edits; stop = stop } }
 {
     Took {
-        tanks: tanks,
-        at: at,
-        lines: lines,
-        edits: edits,
-        stop: stop,
+        tanks,
+        at,
+        lines,
+        edits,
+        stop,
     }
 }
 
@@ -30,6 +30,7 @@ pub fn take_groups(s: Tanks, bytes: &[u8]) -> Took
     let mut lines: u64 = 0;
     let mut at = 0;
     let mut from = 0;
+    // A turn moves by a line: its length is not known before.
     while from < bytes.len() {
         let f = script::feed(reader, bytes, from);
         from = f.at;
@@ -37,7 +38,7 @@ pub fn take_groups(s: Tanks, bytes: &[u8]) -> Took
         let e = f.event;
         let call = f.call;
         let op = call.op;
-        let Step::Good(whole) = line_step(e, op) else {
+        let Some(whole) = line_step(e, op) else {
             return took(
                 tanks,
                 at,
@@ -48,28 +49,18 @@ pub fn take_groups(s: Tanks, bytes: &[u8]) -> Took
         };
         if whole {
             let n = call.numbers;
-            let t = tanks::place(n[0]);
-            let settings = tanks.settings;
-            let heads = tanks.heads;
-            let pool = tanks.pool;
-            let table = tanks.tables[t];
-            let done = tanks::edit_parts(settings, heads, pool, table, n[0], edit_in(call));
-            let next = done.pool;
-            tanks.pool = next;
-            let head = done.head;
-            tanks.heads[t] = head;
-            let marks = done.table;
-            tanks.tables[t] = marks;
-            let Outcome::Applied(more) = counted(done.number, edits) else {
-                return took(
-                    tanks,
-                    at,
-                    lines,
-                    edits,
-                    Stop::Refused(reader.newlines, done.number),
-                );
-            };
-            edits = more;
+            match tanks.apply(n[0], edit_in(call)) {
+                Ok(_) => edits = one_more(edits),
+                Err(refusal) => {
+                    return took(
+                        tanks,
+                        at,
+                        lines,
+                        edits,
+                        Stop::Refused(reader.newlines, refusal.number()),
+                    );
+                }
+            }
             lines = reader.newlines;
             at = from;
         }

@@ -7,9 +7,10 @@
 mod groups; // groups.rt: the whole groups at the front of some bytes
 
 ghost use Rattle.std.specs.Prelude.{true, ◌≡◌};
+ghost use Rattle.script.specs.Lines.{counted_of};
 ghost use Rattle.tanks.specs.Pool as pool;
 ghost use Rattle.tanks.specs.Promises.{edit_of};
-ghost use Rattle.day_log.specs.Log.{change_by, is_edit, logged, edit_by, step_of, wrong_line, outcome_of, fresh, stopped_log, at_end, Sound, Takes};
+ghost use Rattle.day_log.specs.Log.{change_by, is_edit, logged, edit_by, step_of, wrong_line, fresh, stopped_log, at_end, Sound, Takes};
 
 pub use groups::take_groups;
 use script::{Call, Change, Ending, Event, Op, Reader};
@@ -49,32 +50,11 @@ pub struct Took {
     pub stop: Stop,
 }
 
-// What a line's end brings: a good line, and whether it was its group's last; or a wrong one.
-#[derive(Clone, Copy)]
-enum Step {
-    Good(bool),
-    Wrong,
-}
-
-// Whether an edit was applied.
-#[derive(Clone, Copy)]
-enum Outcome {
-    Applied(u64),
-    Refused,
-}
-
 // Whether a log may name an op that changes the tanks.
 fn is_edit(e: Change) -> bool
     ensures { result ≡ is_edit e }
 {
-    match e {
-        Change::Open => false,
-        Change::Annotate => true,
-        Change::Insert => true,
-        Change::Delete => true,
-        Change::Remove => false,
-        Change::Age => false,
-    }
+    matches!(e, Change::Annotate | Change::Insert | Change::Delete)
 }
 
 // Whether a log may name an op; between two groups there is none.
@@ -84,11 +64,7 @@ fn is_logged(op: Op) -> bool
     match op {
         Op::Nothing => true,
         Op::Change(e) => is_edit(e),
-        Op::Question(_) => false,
-        Op::Listing(_) => false,
-        Op::Text(_) => false,
-        Op::Desk(_) => false,
-        Op::Both(_) => false,
+        Op::Question(_) | Op::Listing(_) | Op::Text(_) | Op::Desk(_) | Op::Both(_) => false,
     }
 }
 
@@ -98,12 +74,10 @@ fn change_in(e: Change, call: Call) -> Edit
 {
     let n = call.numbers;
     match e {
-        Change::Open => Edit::Delete(Party::Plant, 0, 0),
         Change::Annotate => Edit::Annotate(n[1], n[2], script::mark_of(Party::Plant, call)),
         Change::Insert => Edit::Insert(Party::Plant, n[1], n[2]),
         Change::Delete => Edit::Delete(Party::Plant, n[1], n[2]),
-        Change::Remove => Edit::Delete(Party::Plant, 0, 0),
-        Change::Age => Edit::Delete(Party::Plant, 0, 0),
+        Change::Open | Change::Remove | Change::Age => Edit::Delete(Party::Plant, 0, 0),
     }
 }
 
@@ -113,35 +87,30 @@ fn edit_in(call: Call) -> Edit
 {
     let op = call.op;
     match op {
-        Op::Nothing => Edit::Delete(Party::Plant, 0, 0),
         Op::Change(e) => change_in(e, call),
-        Op::Question(_) => Edit::Delete(Party::Plant, 0, 0),
-        Op::Listing(_) => Edit::Delete(Party::Plant, 0, 0),
-        Op::Text(_) => Edit::Delete(Party::Plant, 0, 0),
-        Op::Desk(_) => Edit::Delete(Party::Plant, 0, 0),
-        Op::Both(_) => Edit::Delete(Party::Plant, 0, 0),
+        _ => Edit::Delete(Party::Plant, 0, 0),
     }
 }
 
-// What a line's end brings where the op is one of a log's.
-fn known_step(e: Event) -> Step
+// What a line's end brings where the op is one of a log's: whether a good line was its group's last, and nothing of a wrong one.
+fn known_step(e: Event) -> Option<bool>
     ensures { result ≡ step_of e true }
 {
     match e {
-        Event::Bad => Step::Wrong,
-        Event::Call => Step::Good(true),
-        Event::Nothing => Step::Good(false),
+        Event::Bad => None,
+        Event::Call => Some(true),
+        Event::Nothing => Some(false),
     }
 }
 
 // What a line's end brings where the call that it leaves has this op: one of another kind is wrong as soon as it is named.
-fn line_step(e: Event, op: Op) -> Step
+fn line_step(e: Event, op: Op) -> Option<bool>
     ensures { result ≡ step_of e (logged op) }
 {
     if is_logged(op) {
         return known_step(e);
     }
-    Step::Wrong
+    None
 }
 
 // The number of a wrong line: a line that names an op of another kind was read, and counts already.
@@ -150,22 +119,15 @@ fn wrong_line(e: Event, r: Reader) -> u64
 {
     match e {
         Event::Bad => script::line_number(r),
-        Event::Call => r.newlines,
-        Event::Nothing => r.newlines,
+        Event::Call | Event::Nothing => r.newlines,
     }
 }
 
-// One edit more, as far as 64 bits count, where it was not refused.
-fn counted(number: u64, edits: u64) -> Outcome
-    ensures { result ≡ outcome_of number edits }
+// One edit more, as far as 64 bits count.
+fn one_more(edits: u64) -> u64
+    ensures { result ≡ counted_of edits }
 {
-    if 0 < number {
-        return Outcome::Refused;
-    }
-    if edits < 18446744073709551615 {
-        return Outcome::Applied(edits + 1);
-    }
-    Outcome::Applied(edits)
+    edits.saturating_add(1)
 }
 
 // A log from its start.
@@ -233,6 +195,7 @@ pub fn take(s: Tanks, log: Log, bytes: &[u8]) -> Taken
     let mut reader = log.reader;
     let mut edits = log.edits;
     let mut from = 0;
+    // A turn moves by a line: its length is not known before.
     while from < bytes.len() {
         let f = script::feed(reader, bytes, from);
         from = f.at;
@@ -240,27 +203,17 @@ pub fn take(s: Tanks, log: Log, bytes: &[u8]) -> Taken
         let e = f.event;
         let call = f.call;
         let op = call.op;
-        let Step::Good(whole) = line_step(e, op) else {
+        let Some(whole) = line_step(e, op) else {
             return stopped(tanks, edits, wrong_line(e, reader), 13);
         };
         if whole {
             let n = call.numbers;
-            let t = tanks::place(n[0]);
-            let settings = tanks.settings;
-            let heads = tanks.heads;
-            let pool = tanks.pool;
-            let table = tanks.tables[t];
-            let done = tanks::edit_parts(settings, heads, pool, table, n[0], edit_in(call));
-            let next = done.pool;
-            tanks.pool = next;
-            let head = done.head;
-            tanks.heads[t] = head;
-            let marks = done.table;
-            tanks.tables[t] = marks;
-            let Outcome::Applied(more) = counted(done.number, edits) else {
-                return stopped(tanks, edits, reader.newlines, done.number);
-            };
-            edits = more;
+            match tanks.apply(n[0], edit_in(call)) {
+                Ok(_) => edits = one_more(edits),
+                Err(refusal) => {
+                    return stopped(tanks, edits, reader.newlines, refusal.number());
+                }
+            }
         }
     }
     read_on(tanks, reader, edits)

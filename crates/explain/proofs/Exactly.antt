@@ -1,4 +1,5 @@
 -- What is told is told of the answer: of a refused call the words of the number that it was refused with, of a malformed line what came.
+use Rattle.std.specs.Prelude.{Some}
 use mathlib.Core.Path.{◌≡◌, refl, sym, ap, ◌∙◌}
 use mathlib.Core.Bool.{Bool, true, false, cond}
 use mathlib.Core.List.{List, [], ◌∷◌, ◌++◌}
@@ -9,7 +10,6 @@ use lib.Dec.{ltb}
 use lib.ListN.{length, take, drop, length-append}
 use borrow.Author.Tests.{lt-ltb, le-ltb, le-leb}
 use Rattle.io.specs.Digits.{hex_digit_ascii, last_digits}
-use Rattle.text.specs.declared.Parsed.{Parsed}
 use Rattle.text.specs.Bytes.{bytes, up_to, starts_of}
 use Rattle.text.specs.Number.{decimal_of, decimal_text, places_from, put}
 use Rattle.text.proofs.Finding.{front_here, front_past}
@@ -57,7 +57,7 @@ decimal_before : (n : ℕ) → up_to 10 (decimal_text n ++ 10 ∷ []) ≡ decima
 unfolding decimal_text
 decimal_before n = digits_before (places_from 19 n) n
 
-pub number_told : (n : ℕ) → n < 2 ^ 64 → told_number (field_text (bytes "refused=") n) ≡ Parsed.Number n
+pub number_told : (n : ℕ) → n < 2 ^ 64 → told_number (field_text (bytes "refused=") n) ≡ Some n
 number_told n h =
     sym (some_number (field_text (bytes "refused=") n) (omega (arith, length-append (bytes "refused=" ++ decimal_text n) (bytes "\n"), length-append (bytes "refused=") (decimal_text n))))
     ∙ ap decimal_of (decimal_before n)

@@ -1,4 +1,5 @@
 -- What is told of a line and its answer, from what the code's steps answer.
+use Rattle.std.specs.Prelude.{Option, None}
 use mathlib.Core.Path.{◌≡◌, sym, ap, ◌∙◌}
 use mathlib.Core.Bool.{Bool, true, false, cond}
 use mathlib.Core.List.{List, []}
@@ -6,7 +7,6 @@ use Prim.Native.Nat.{ℕ, ◌≤◌, ◌<◌}
 use lib.Dec.{ltb}
 use lib.ListN.{length, drop}
 use borrow.Author.Tests.{lt-ltb, le-ltb}
-use Rattle.text.specs.declared.Parsed.{Parsed}
 use Rattle.text.specs.Bytes.{bytes, up_to, starts_of}
 use Rattle.text.specs.Number.{decimal_of}
 use Rattle.script.specs.declared.Call.{Call}
@@ -21,20 +21,20 @@ use Rattle.explain.specs.declared.Came.{Came}
 use Rattle.explain.specs.Told.{told_number, refusal_by, refusal_told, came_of, end_of, came_at, bad_at, bad_told, told_of}
 
 -- ---- The number in an answer
-pub no_number : (answer : List ℕ) → length answer < 8 → Parsed.Bad ≡ told_number answer
+pub no_number : (answer : List ℕ) → length answer < 8 → None ≡ told_number answer
 unfolding told_number
-no_number answer h = sym (ap (λ (b : Bool). cond b Parsed.Bad (decimal_of (up_to 10 (drop 8 answer)))) (lt-ltb (length answer) 8 h))
+no_number answer h = sym (ap (λ (b : Bool). cond b None (decimal_of (up_to 10 (drop 8 answer)))) (lt-ltb (length answer) 8 h))
 
 pub some_number : (answer : List ℕ) → 8 ≤ length answer → decimal_of (up_to 10 (drop 8 answer)) ≡ told_number answer
 unfolding told_number
-some_number answer h = sym (ap (λ (b : Bool). cond b Parsed.Bad (decimal_of (up_to 10 (drop 8 answer)))) (le-ltb (length answer) 8 h))
+some_number answer h = sym (ap (λ (b : Bool). cond b None (decimal_of (up_to 10 (drop 8 answer)))) (le-ltb (length answer) 8 h))
 
 -- ---- The line as it came
 module _ (before : Reader) (input : List ℕ) {number : ℕ} {cut : Cut} (is_number : number ≡ counted_of before.newlines) (is_cut : cut ≡ cut_of input 0 before.line) where
   line_came : held_of cut.line ≡ grown_of (held_of before.line) input
   line_came = ap (λ (x : Cut). held_of x.line) is_cut ∙ held_holding before.line (grown_of (held_of before.line) input)
 
-  told_call : {read : Read} → (answer : List ℕ) {p : Parsed} → read ≡ line_of before.call (held_of cut.line) → p ≡ told_number answer → refusal_by number read.call p ≡ refusal_told (state_of before) input answer
+  told_call : {read : Read} → (answer : List ℕ) {p : Option ℕ} → read ≡ line_of before.call (held_of cut.line) → p ≡ told_number answer → refusal_by number read.call p ≡ refusal_told (state_of before) input answer
   unfolding refusal_told
   told_call {read} answer {p} r e =
       let call : Call = (line_of before.call (grown_of (held_of before.line) input)).call in
@@ -49,7 +49,7 @@ module _ (before : Reader) (input : List ℕ) {number : ℕ} {cut : Cut} (is_num
       ∙ ap (λ (b : Bool). bad_at (counted_of before.newlines) before.call b (held_of cut.line)) e
       ∙ ap (bad_at (counted_of before.newlines) before.call (ltb 0 (length input))) line_came
 
-pub refusal_told_lem : (before : Reader) (input answer : List ℕ) {number : ℕ} {cut : Cut} {read : Read} {p : Parsed} → number ≡ counted_of before.newlines → cut ≡ cut_of input 0 before.line → read ≡ line_of before.call (held_of cut.line) → p ≡ told_number answer
+pub refusal_told_lem : (before : Reader) (input answer : List ℕ) {number : ℕ} {cut : Cut} {read : Read} {p : Option ℕ} → number ≡ counted_of before.newlines → cut ≡ cut_of input 0 before.line → read ≡ line_of before.call (held_of cut.line) → p ≡ told_number answer
     → refusal_by number read.call p ≡ refusal_told (state_of before) input answer
 refusal_told_lem before input answer n c r e = told_call before input n c answer r e
 

@@ -1,6 +1,5 @@
 -- What is told of a line beside its answer: of a refused call the refusal in words, of a line at which the run ends what was expected and what came.
-use Rattle.std.specs.Prelude.{Bool, true, false, cond, ◌&&◌, List, [], ◌∷◌, ◌++◌, map, ℕ, ◌-◌, ltb, leb, eqb, length, get_or, drop}
-use Rattle.text.specs.declared.Parsed.{Parsed}
+use Rattle.std.specs.Prelude.{Bool, true, false, cond, ◌&&◌, List, [], ◌∷◌, ◌++◌, map, ℕ, ◌-◌, ltb, leb, eqb, length, get_or, drop, Option, Some, None}
 use Rattle.text.specs.Bytes.{bytes, up_to, starts_of, same_of}
 use Rattle.text.specs.Number.{decimal_of, decimal_text}
 use Rattle.script.specs.declared.Call.{Call}
@@ -122,13 +121,13 @@ bad_text number c came line = head_text number ++ expected_text c ++ bytes ", ca
 
 -- ---- By the answer: a reader stood somewhere, took bytes up to a line's end or the end of the input, and this was answered
 -- the number in the answer of a refused call
-unfoldable pub told_number : List ℕ → Parsed
-told_number answer = cond (ltb (length answer) 8) Parsed.Bad (decimal_of (up_to 10 (drop 8 answer)))
+unfoldable pub told_number : List ℕ → Option ℕ
+told_number answer = cond (ltb (length answer) 8) None (decimal_of (up_to 10 (drop 8 answer)))
 
 -- that refusal
-abbrev pub refusal_by : ℕ → Call → Parsed → List ℕ
-refusal_by line c Parsed.Bad = []
-refusal_by line c (Parsed.Number number) = refusal_text line c number
+abbrev pub refusal_by : ℕ → Call → Option ℕ → List ℕ
+refusal_by line c None = []
+refusal_by line c (Some number) = refusal_text line c number
 
 -- of a refused call, whose last line the bytes have ended
 unfoldable pub refusal_told : State → List ℕ → List ℕ → List ℕ

@@ -8,7 +8,7 @@ ghost use Rattle.explain.specs.Told.{value_hint, most_hint, hint_text, expected_
 
 use super::Came;
 use super::refused::put_head;
-use script::{Call, Holds, Kind, Start};
+use script::{Call, Holds, Kind};
 
 fn put_value_hint(out: &mut [u8], at: usize, kind: Kind) -> usize
     requires { at + 40 ≤ length out.old }
@@ -63,17 +63,7 @@ fn put_expected(out: &mut [u8], at: usize, call: Call) -> usize
 fn figures(t: &[u8]) -> bool
     ensures { result ≡ figures_of t.now }
 {
-    let mut i = 0;
-    while i < t.len() {
-        if t[i] < 48 {
-            return false;
-        }
-        if t[i] > 57 {
-            return false;
-        }
-        i += 1;
-    }
-    true
+    t.iter().all(|byte| byte.is_ascii_digit())
 }
 
 fn wrong_number(t: &[u8]) -> Came
@@ -100,8 +90,7 @@ fn wrong_text(h: Holds, t: &[u8]) -> Came
         Holds::Number(_) => wrong_number(t),
         Holds::Counter => Came::NoCounter,
         Holds::Kind => Came::NoKind,
-        Holds::Value => Came::NoValue,
-        Holds::Byte => Came::NoValue,
+        Holds::Value | Holds::Byte => Came::NoValue,
         Holds::Party => Came::NoParty,
     }
 }
@@ -109,10 +98,10 @@ fn wrong_text(h: Holds, t: &[u8]) -> Came
 fn wrong_line(f: u8, h: Holds, line: &[u8]) -> Came
     ensures { result ≡ after_name (field_of f) Came.Other (wrong_text h) line.now }
 {
-    let Start::At(k) = script::value_start(f, line) else {
+    let Some(value) = script::value_in(f, line) else {
         return Came::Other;
     };
-    wrong_text(h, &line[k..])
+    wrong_text(h, value)
 }
 
 // What came where a field was expected.
@@ -167,13 +156,10 @@ fn put_came(out: &mut [u8], at: usize, c: Came) -> usize
 fn byte_shown(b: u8) -> u8
     ensures { result ≡ byte_shown b }
 {
-    if b < 32 {
-        return 63;
+    match b {
+        32..=126 => b,
+        _ => b'?',
     }
-    if b > 126 {
-        return 63;
-    }
-    b
 }
 
 // Puts the bytes of a line as they are shown, and answers the place after them.
@@ -181,12 +167,10 @@ fn put_bytes(out: &mut [u8], at: usize, line: &[u8]) -> usize
     requires { at + length line.now ≤ length out.old }
     ensures { (result ≡ at + length (map byte_shown line.now)) × (out.new ≡ put out.old at (map byte_shown line.now)) }
 {
-    let mut i = 0;
-    while i < line.len() {
-        out[at + i] = byte_shown(line[i]);
-        i += 1;
+    for (i, byte) in line.iter().enumerate() {
+        out[at + i] = byte_shown(*byte);
     }
-    at + i
+    at + line.len()
 }
 
 fn put_shown(out: &mut [u8], at: usize, line: &[u8]) -> usize

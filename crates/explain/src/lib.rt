@@ -62,7 +62,7 @@ fn filled(input: Stdin, good: bool, buf: &mut [u8], from: usize, to: usize) -> R
     ensures { (result.from ≤ result.to) × (result.to ≤ length buf.new) }
 {
     if from < to {
-        return Rest { from: from, to: to };
+        return Rest { from, to };
     }
     let n = clerk::heard(input, good, buf);
     Rest { from: 0, to: n }
@@ -88,10 +88,7 @@ fn body_end(rest: Rest, left: usize) -> usize
     requires { rest.from ≤ rest.to }
     ensures { (rest.from ≤ result) × (result ≤ rest.to) }
 {
-    if left < rest.to - rest.from {
-        return rest.from + left;
-    }
-    rest.to
+    rest.from + left.min(rest.to - rest.from)
 }
 
 // The next line, or what is left of a body, as far as it has been read; none at the end of the input.
@@ -103,7 +100,7 @@ fn next_part(input: Stdin, good: bool, buf: &mut [u8], from: usize, to: usize, l
     let end = part_end(buf, rest, left);
     Spot {
         from: rest.from,
-        end: end,
+        end,
         to: rest.to,
     }
 }
@@ -112,14 +109,10 @@ fn next_part(input: Stdin, good: bool, buf: &mut [u8], from: usize, to: usize, l
 fn in_body(i: Inlet) -> Reader
     ensures { result ≡ record { line = empty_line; call = i.call; newlines = i.reader.newlines } }
 {
-    let line = script::empty_line();
-    let call = i.call;
-    let reader = i.reader;
-    let newlines = reader.newlines;
     Reader {
-        line: line,
-        call: call,
-        newlines: newlines,
+        line: script::empty_line(),
+        call: i.call,
+        newlines: i.reader.newlines,
     }
 }
 

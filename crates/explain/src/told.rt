@@ -10,22 +10,22 @@ use super::refused::put_refusal;
 use script::{Call, Line, Reader};
 
 // The number in the answer of a refused call.
-fn told_number(answer: &[u8]) -> text::Parsed
+fn told_number(answer: &[u8]) -> Option<u64>
     ensures { result ≡ told_number answer.now }
 {
     let from = 8;
     if answer.len() < from {
-        return text::Parsed::Bad;
+        return None;
     }
     let to = text::find(answer, from, b'\n');
     text::decimal(&answer[from..to])
 }
 
-fn refused_as(out: &mut [u8], line: u64, call: Call, p: text::Parsed) -> usize
+fn refused_as(out: &mut [u8], line: u64, call: Call, p: Option<u64>) -> usize
     requires { 256 ≤ length out.old }
     ensures { Puts out.old 0 (refusal_by line call p) 256 result out.new }
 {
-    let text::Parsed::Number(n) = p else {
+    let Some(n) = p else {
         return text::put(out, 0, b"");
     };
     put_refusal(out, 0, line, call, n)

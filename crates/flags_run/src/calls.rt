@@ -1,9 +1,7 @@
 // The calls, a line for each.
 ghost use Rattle.config.specs.Meaning.{Sound};
 
-use crate::print::{
-    say, say_flag, say_got, say_got_flag, say_named, say_number, say_type, say_yes,
-};
+use crate::print::{say, say_done, say_flag, say_got, say_got_flag, say_named, say_type, say_yes};
 use config::{StyleConfig, StyleConfigMap};
 use richtext::{AnchorType, ExpandType, TextStyleInfoFlag};
 
@@ -33,10 +31,8 @@ fn flag(byte: u8) {
 }
 
 pub(crate) fn flags() {
-    let mut n: u64 = 0;
-    while n < 256 {
-        flag((n % 256) as u8);
-        n += 1;
+    for byte in 0..=255 {
+        flag(byte);
     }
 }
 
@@ -98,8 +94,8 @@ pub(crate) fn words() {
 }
 
 // The three questions about a name.
-pub(crate) fn ask(map: StyleConfigMap, key: &[u8])
-    requires { Sound map }
+pub(crate) fn ask(map: &StyleConfigMap, key: &[u8])
+    requires { Sound map.now }
 {
     say(b"\"");
     say(key);
@@ -112,24 +108,22 @@ pub(crate) fn ask(map: StyleConfigMap, key: &[u8])
     say(b"\n");
 }
 
-// An insertion with its number, and the map after it.
-pub(crate) fn put(map: StyleConfigMap, key: &[u8], expand: ExpandType) -> StyleConfigMap
-    requires { Sound map }
-    ensures { Sound result }
+// An insertion, with its number.
+pub(crate) fn put(map: &mut StyleConfigMap, key: &[u8], expand: ExpandType)
+    requires { Sound map.old }
+    ensures { Sound map.new }
 {
     say(b"insert \"");
     say(key);
     say(b"\" ");
     say_type(expand);
-    let done = map.insert(key, StyleConfig::new().expand(expand));
     say(b" = ");
-    say_number(done.refusal);
+    say_done(map.insert(key, StyleConfig::new().expand(expand)));
     say(b"\n");
-    done.map
 }
 
-fn seven(map: StyleConfigMap)
-    requires { Sound map }
+fn seven(map: &StyleConfigMap)
+    requires { Sound map.now }
 {
     ask(map, b"bold");
     ask(map, b"italic");
@@ -140,8 +134,8 @@ fn seven(map: StyleConfigMap)
     ask(map, b"code");
 }
 
-fn not_entries(map: StyleConfigMap)
-    requires { Sound map }
+fn not_entries(map: &StyleConfigMap)
+    requires { Sound map.now }
 {
     ask(map, b"Bold");
     ask(map, b"bol");
@@ -151,48 +145,56 @@ fn not_entries(map: StyleConfigMap)
     ask(map, b"");
 }
 
-pub(crate) fn built_in(map: StyleConfigMap)
-    requires { Sound map }
+pub(crate) fn built_in(map: &StyleConfigMap)
+    requires { Sound map.now }
 {
     seven(map);
     not_entries(map);
 }
 
 // A name with a colon, and the empty name.
-fn odd_names(map: StyleConfigMap)
+fn odd_names(mut map: StyleConfigMap)
     requires { Sound map }
 {
-    let a = put(map, b"comment:17", ExpandType::Both);
-    let b = put(a, b"", ExpandType::Before);
-    ask(b, b"");
-    ask(b, b":x");
-    let c = put(b, b"comment", ExpandType::Before);
-    ask(c, b"comment:17");
+    put(&mut map, b"comment:17", ExpandType::Both);
+    put(&mut map, b"", ExpandType::Before);
+    ask(&map, b"");
+    ask(&map, b":x");
+    put(&mut map, b"comment", ExpandType::Before);
+    ask(&map, b"comment:17");
 }
 
 // 32 bytes and 33, before and after the cut.
-fn long_names(map: StyleConfigMap)
+fn long_names(mut map: StyleConfigMap)
     requires { Sound map }
 {
-    let a = put(map, b"xxxxxxxxxxxxxxxxxxxxxxxxxxxxxxxx", ExpandType::Both);
-    ask(a, b"xxxxxxxxxxxxxxxxxxxxxxxxxxxxxxxx");
-    let b = put(a, b"xxxxxxxxxxxxxxxxxxxxxxxxxxxxxxxxx", ExpandType::Both);
-    ask(b, b"xxxxxxxxxxxxxxxxxxxxxxxxxxxxxxxxx");
-    ask(b, b"comment:xxxxxxxxxxxxxxxxxxxxxxxx");
-    ask(b, b"comment:xxxxxxxxxxxxxxxxxxxxxxxxx");
+    put(
+        &mut map,
+        b"xxxxxxxxxxxxxxxxxxxxxxxxxxxxxxxx",
+        ExpandType::Both,
+    );
+    ask(&map, b"xxxxxxxxxxxxxxxxxxxxxxxxxxxxxxxx");
+    put(
+        &mut map,
+        b"xxxxxxxxxxxxxxxxxxxxxxxxxxxxxxxxx",
+        ExpandType::Both,
+    );
+    ask(&map, b"xxxxxxxxxxxxxxxxxxxxxxxxxxxxxxxxx");
+    ask(&map, b"comment:xxxxxxxxxxxxxxxxxxxxxxxx");
+    ask(&map, b"comment:xxxxxxxxxxxxxxxxxxxxxxxxx");
 }
 
 // A colon in front, at the back and alone: each is refused, and the table answers as before.
-fn colons(map: StyleConfigMap)
+fn colons(mut map: StyleConfigMap)
     requires { Sound map }
 {
-    let a = put(map, b":bold", ExpandType::Both);
-    let b = put(a, b"bold:", ExpandType::Both);
-    let c = put(b, b":", ExpandType::Both);
-    ask(c, b":bold");
-    ask(c, b"bold:");
-    ask(c, b":");
-    seven(c);
+    put(&mut map, b":bold", ExpandType::Both);
+    put(&mut map, b"bold:", ExpandType::Both);
+    put(&mut map, b":", ExpandType::Both);
+    ask(&map, b":bold");
+    ask(&map, b"bold:");
+    ask(&map, b":");
+    seven(&map);
 }
 
 pub(crate) fn names(map: StyleConfigMap)
@@ -203,86 +205,71 @@ pub(crate) fn names(map: StyleConfigMap)
     long_names(map);
 }
 
-pub(crate) fn with_default(map: StyleConfigMap, expand: ExpandType) -> StyleConfigMap
-    requires { Sound map }
-    ensures { Sound result }
+pub(crate) fn set_default(map: &mut StyleConfigMap, expand: ExpandType)
+    requires { Sound map.old }
+    ensures { Sound map.new }
 {
     say(b"default ");
     say_type(expand);
-    let done = map.set_default(StyleConfig::new().expand(expand));
     say(b" = ");
-    say_number(done.refusal);
+    say_done(map.set_default(StyleConfig::new().expand(expand)));
     say(b"\n");
-    done.map
 }
 
-pub(crate) fn without_default(map: StyleConfigMap) -> StyleConfigMap
-    requires { Sound map }
-    ensures { Sound result }
+pub(crate) fn clear_default(map: &mut StyleConfigMap)
+    requires { Sound map.old }
+    ensures { Sound map.new }
 {
     say(b"no default\n");
-    map.clear_default()
+    map.clear_default();
 }
 
-pub(crate) fn defaults(map: StyleConfigMap)
+pub(crate) fn defaults(mut map: StyleConfigMap)
     requires { Sound map }
 {
-    let a = with_default(map, ExpandType::Both);
-    ask(a, b"bold");
-    ask(a, b"comment:17");
-    ask(a, b"other");
-    let b = with_default(a, ExpandType::Before);
-    ask(b, b"other:1");
-    ask(b, b"xxxxxxxxxxxxxxxxxxxxxxxxxxxxxxxxx");
-    let c = without_default(b);
-    ask(c, b"other");
+    set_default(&mut map, ExpandType::Both);
+    ask(&map, b"bold");
+    ask(&map, b"comment:17");
+    ask(&map, b"other");
+    set_default(&mut map, ExpandType::Before);
+    ask(&map, b"other:1");
+    ask(&map, b"xxxxxxxxxxxxxxxxxxxxxxxxxxxxxxxxx");
+    clear_default(&mut map);
+    ask(&map, b"other");
 }
 
 // 25 names of a letter each, which with the seven built in make 32.
-fn fill(map: StyleConfigMap) -> StyleConfigMap
-    requires { Sound map }
-    ensures { Sound result }
+fn fill(map: &mut StyleConfigMap)
+    requires { Sound map.old }
+    ensures { Sound map.new }
 {
-    let mut full = map;
-    let mut i: u64 = 0;
-    while i < 25 {
-        let name = [97 + (i % 26) as u8];
-        full = put(full, &name, ExpandType::After);
-        i += 1;
+    for letter in b'a'..=b'y' {
+        put(map, &[letter], ExpandType::After);
     }
-    full
 }
 
 // The same 25 names, asked for.
-fn ask_letters(map: StyleConfigMap)
-    requires { Sound map }
+fn ask_letters(map: &StyleConfigMap)
+    requires { Sound map.now }
 {
-    let mut i: u64 = 0;
-    while i < 25 {
-        let name = [97 + (i % 26) as u8];
-        ask(map, &name);
-        i += 1;
+    for letter in b'a'..=b'y' {
+        ask(map, &[letter]);
     }
 }
 
 // A new name into 32 entries, after which all 32 answer as before, and known ones.
-fn into_full(map: StyleConfigMap)
+pub(crate) fn full(mut map: StyleConfigMap)
     requires { Sound map }
 {
-    let a = put(map, b"z", ExpandType::After);
-    ask(a, b"z");
-    seven(a);
-    ask_letters(a);
-    let b = put(a, b"bold", ExpandType::Both);
-    ask(b, b"bold");
-    let c = put(b, b"y", ExpandType::None);
-    ask(c, b"y");
-    let d = put(c, b"", ExpandType::None);
-    ask(d, b"");
-}
-
-pub(crate) fn full(map: StyleConfigMap)
-    requires { Sound map }
-{
-    into_full(fill(map));
+    fill(&mut map);
+    put(&mut map, b"z", ExpandType::After);
+    ask(&map, b"z");
+    seven(&map);
+    ask_letters(&map);
+    put(&mut map, b"bold", ExpandType::Both);
+    ask(&map, b"bold");
+    put(&mut map, b"y", ExpandType::None);
+    ask(&map, b"y");
+    put(&mut map, b"", ExpandType::None);
+    ask(&map, b"");
 }

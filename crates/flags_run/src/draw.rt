@@ -2,17 +2,10 @@
 ghost use Rattle.std.specs.Prelude.{◌≤◌};
 ghost use Rattle.config.specs.Meaning.{Sound};
 
-use crate::calls::{ask, put, with_default, without_default};
+use crate::calls::{ask, clear_default, put, set_default};
 use crate::print::say;
 use config::StyleConfigMap;
 use richtext::ExpandType;
-
-// A table, and where the sequence stands.
-#[derive(Clone, Copy)]
-struct Drawn {
-    map: StyleConfigMap,
-    seed: u64,
-}
 
 // The next of a sequence of numbers that repeats late.
 fn next(x: u64) -> u64 {
@@ -49,11 +42,9 @@ fn letters(seed: u64, of: u64, out: &mut [u8]) -> u64
     requires { 1 ≤ of }
 {
     let mut x = seed;
-    let mut i = 0;
-    while i < out.len() {
+    for byte in out.iter_mut() {
         x = next(x);
-        out[i] = letter(part(x, of));
-        i += 1;
+        *byte = letter(part(x, of));
     }
     x
 }
@@ -82,69 +73,65 @@ fn length_for(class: u64, x: u64) -> usize
 }
 
 // One call: four of ten insert, two set or clear the default, four ask.
-fn called(map: StyleConfigMap, what: u64, expand: ExpandType, key: &[u8]) -> StyleConfigMap
-    requires { Sound map }
-    ensures { Sound result }
+fn call(map: &mut StyleConfigMap, what: u64, expand: ExpandType, key: &[u8])
+    requires { Sound map.old }
+    ensures { Sound map.new }
 {
-    if what < 4 {
-        return put(map, key, expand);
+    match what {
+        0 | 1 | 2 | 3 => put(map, key, expand),
+        4 => set_default(map, expand),
+        5 => clear_default(map),
+        _ => ask(map, key),
     }
-    if what == 4 {
-        return with_default(map, expand);
-    }
-    if what == 5 {
-        return without_default(map);
-    }
-    ask(map, key);
-    map
 }
 
 // The call about a name that is built in, or one with such a name before its colon.
-fn about_built_in(map: StyleConfigMap, what: u64, expand: ExpandType, which: u64) -> StyleConfigMap
-    requires { Sound map }
-    ensures { Sound result }
+fn about_built_in(map: &mut StyleConfigMap, what: u64, expand: ExpandType, which: u64)
+    requires { Sound map.old }
+    ensures { Sound map.new }
 {
     match which {
-        0 => called(map, what, expand, b"bold"),
-        1 => called(map, what, expand, b"link"),
-        2 => called(map, what, expand, b"comment"),
-        3 => called(map, what, expand, b"comment:17"),
-        _ => called(map, what, expand, b"bold:"),
+        0 => call(map, what, expand, b"bold"),
+        1 => call(map, what, expand, b"link"),
+        2 => call(map, what, expand, b"comment"),
+        3 => call(map, what, expand, b"comment:17"),
+        _ => call(map, what, expand, b"bold:"),
     }
 }
 
 // The call about a name of letters, and where the sequence stands after them.
-fn about_letters(map: StyleConfigMap, what: u64, expand: ExpandType, class: u64, size: u64) -> Drawn
-    requires { Sound map }
-    ensures { Sound result.map }
+fn about_letters(
+    map: &mut StyleConfigMap,
+    what: u64,
+    expand: ExpandType,
+    class: u64,
+    size: u64,
+) -> u64
+    requires { Sound map.old }
+    ensures { Sound map.new }
 {
     let mut name = [0u8; 40];
     let seed = letters(size, letters_for(class), &mut name);
     let n = length_for(class, size);
-    let after = called(map, what, expand, &name[0..n]);
-    Drawn { map: after, seed }
+    call(map, what, expand, &name[0..n]);
+    seed
 }
 
-fn turn(d: Drawn) -> Drawn
-    requires { Sound d.map }
-    ensures { Sound result.map }
+// The next call, and where the sequence stands after it.
+fn turn(map: &mut StyleConfigMap, seed: u64) -> u64
+    requires { Sound map.old }
+    ensures { Sound map.new }
 {
-    let before = d.map;
-    let what = next(d.seed);
+    let what = next(seed);
     let expand = next(what);
     let class = next(expand);
     let size = next(class);
     if part(class, 8) == 7 {
-        let map = about_built_in(
-            before,
-            part(what, 10),
-            type_of(part(expand, 4)),
-            part(size, 5),
-        );
-        return Drawn { map, seed: size };
+        about_built_in(map, part(what, 10), type_of(part(expand, 4)), part(size, 5));
+        return size;
     }
     about_letters(
-        before,
+        map,
         part(what, 10),
         type_of(part(expand, 4)),
         part(class, 8),
@@ -153,36 +140,30 @@ fn turn(d: Drawn) -> Drawn
 }
 
 // 250 calls on one table.
-fn turns(d: Drawn) -> u64
-    requires { Sound d.map }
+fn turns(mut map: StyleConfigMap, seed: u64) -> u64
+    requires { Sound map }
 {
-    let mut now = d;
-    let mut i: u64 = 0;
-    while i < 250 {
-        now = turn(now);
-        i += 1;
+    let mut now = seed;
+    for _ in 0..250 {
+        now = turn(&mut map, now);
     }
-    now.seed
+    now
 }
 
 fn on_empty(seed: u64) -> u64 {
     say(b"empty table\n");
-    let map = StyleConfigMap::new();
-    turns(Drawn { map, seed })
+    turns(StyleConfigMap::new(), seed)
 }
 
 fn on_built_in(seed: u64) -> u64 {
     say(b"built-in table\n");
-    let map = StyleConfigMap::default_rich_text_config();
-    turns(Drawn { map, seed })
+    turns(StyleConfigMap::default_rich_text_config(), seed)
 }
 
 pub(crate) fn tables() {
     let mut seed: u64 = 1;
-    let mut i: u64 = 0;
-    while i < 4 {
+    for _ in 0..4 {
         seed = on_empty(seed);
         seed = on_built_in(seed);
-        i += 1;
     }
 }

@@ -9,7 +9,7 @@ fn main() {
     calls::flags();
     calls::words();
     let map = config::StyleConfigMap::default_rich_text_config();
-    calls::built_in(map);
+    calls::built_in(&map);
     calls::names(map);
     calls::defaults(map);
     calls::full(map);

@@ -1,6 +1,6 @@
 // The answers as text.
-use config::{Got, GotFlag};
-use richtext::{ExpandType, NamedType, TextStyleInfoFlag};
+use config::{ConfigRefusal, StyleConfig};
+use richtext::{ExpandType, TextStyleInfoFlag};
 
 pub(crate) fn say(text: &[u8]) {
     io::write_all(1, text);
@@ -36,31 +36,36 @@ pub(crate) fn say_type(expand: ExpandType) {
     }
 }
 
-pub(crate) fn say_named(named: NamedType) {
+pub(crate) fn say_named(named: Option<ExpandType>) {
     match named {
-        NamedType::Is(expand) => say_type(expand),
-        NamedType::NoneOfThese => say(b"none of these"),
+        Some(expand) => say_type(expand),
+        None => say(b"none of these"),
     }
 }
 
-pub(crate) fn say_got(got: Got) {
-    match got {
-        Got::Style(style) => {
-            let expand = style.expand;
-            say_type(expand);
-        }
-        Got::Nothing => say(b"nothing"),
-        Got::Refused => say(b"19"),
+// The number of a refusal, or 0.
+pub(crate) fn say_done(done: Result<(), ConfigRefusal>) {
+    match done {
+        Ok(()) => say_number(0),
+        Err(refusal) => say_number(refusal.number()),
     }
 }
 
-pub(crate) fn say_got_flag(got: GotFlag) {
+pub(crate) fn say_got(got: Result<Option<StyleConfig>, ConfigRefusal>) {
     match got {
-        GotFlag::Flag(flag) => {
+        Ok(Some(style)) => say_type(style.expand),
+        Ok(None) => say(b"nothing"),
+        Err(refusal) => say_number(refusal.number()),
+    }
+}
+
+pub(crate) fn say_got_flag(got: Result<Option<TextStyleInfoFlag>, ConfigRefusal>) {
+    match got {
+        Ok(Some(flag)) => {
             say(b"0x");
             say_flag(flag);
         }
-        GotFlag::Nothing => say(b"nothing"),
-        GotFlag::Refused => say(b"19"),
+        Ok(None) => say(b"nothing"),
+        Err(refusal) => say_number(refusal.number()),
     }
 }

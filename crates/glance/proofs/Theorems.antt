@@ -1,4 +1,5 @@
 -- What is promised of a glance: the table tells two states apart by every number that it shows, and no byte of it is lost.
+use Rattle.std.specs.Prelude.{Some}
 use Prim.Native.Nat.{ℕ, zero, suc, ◌+◌, ◌-◌, ◌/◌, ◌%◌, ◌^◌, ◌≤◌, ◌<◌}
 use mathlib.Core.Path.{◌≡◌, refl, sym, ap, ap₂, subst, ◌∙◌}
 use mathlib.Core.Bool.{Bool, true, false, cond}
@@ -10,7 +11,6 @@ use lib.Dec.{eqb}
 use lib.ListN.{length, get_or, take, replicate, length-append, length-replicate}
 use borrow.Author.Tests.{ne_eqb}
 use Rattle.io.specs.Digits.{hex_digit_ascii, last_digits}
-use Rattle.text.specs.declared.Parsed.{Parsed}
 use Rattle.text.specs.Number.{decimal_text, decimal_of}
 use Rattle.text.proofs.Steps.{glyph_low}
 use Rattle.text.proofs.Laws.{digits_front, decimal_text_lem, decimal_back}
@@ -75,7 +75,7 @@ column_tells w n m h g e =
     let t : decimal_text n ≡ decimal_text m =
     sym (unpad_decimal n h) ∙ sym (unpad_blanks (w - length (decimal_text n)) (decimal_text n)) ∙ ap unpadded e ∙ unpad_blanks (w - length (decimal_text m)) (decimal_text m) ∙ unpad_decimal m g
     in
-    let p : Parsed.Number n ≡ Parsed.Number m = sym (decimal_back n h) ∙ ap decimal_of t ∙ decimal_back m g in
+    let p : Some n ≡ Some m = sym (decimal_back n h) ∙ ap decimal_of t ∙ decimal_back m g in
     cc
 
 touched_length : (b : Bool) → length (right_text 10 (touched_word b)) ≡ 10

@@ -11,7 +11,7 @@ use Rattle.tanks.specs.House.{House, tank_at, held, shown_at}
 use Rattle.strip.specs.Strip.{strip}
 use Rattle.answers.specs.Waiting.{Pieces}
 use Rattle.key_names.specs.Names.{Named, key_text, key_named}
-use Rattle.key_legend.specs.declared.Whose.{Whose}
+use Rattle.std.specs.Prelude.{Some}
 use Rattle.key_legend.specs.Keys.{first_key, next_key, lowest_keys}
 use Rattle.key_legend.specs.Letters.{held_first, letters_of, strip_keys}
 use Rattle.pen.specs.Pen.{right_text, between_says}
@@ -151,7 +151,7 @@ legend_says names keys letters more =
 -- ---- All of it
 -- the eight lowest keys of the plant's marks
 abbrev pub plant_keys : House → List ℕ
-plant_keys h = lowest_keys (Whose.One Plant) h 8
+plant_keys h = lowest_keys (Some Plant) h 8
 
 -- those in the order in which they are drawn: `hold` first
 abbrev pub drawn_keys : House → List Named → List ℕ
@@ -159,7 +159,7 @@ drawn_keys h names = held_first (key_named names (bytes "hold")) (plant_keys h)
 
 -- the plant's marks have a higher key than this one
 abbrev pub more_behind : House → ℕ → Bool
-more_behind h last = ltb (first_key (Whose.One Plant) (next_key last) h) 65536
+more_behind h last = ltb (first_key (Some Plant) (next_key last) h) 65536
 
 -- the strips by these keys, and their legend
 abbrev pub bottom_says : House → List Named → List ℕ → Bool → Pieces

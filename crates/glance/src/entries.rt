@@ -59,10 +59,8 @@ fn entries(out: &mut [u8], from: usize, names: Names, keys: [u64; 8], letters: [
     ensures { Adds out.old from (of_eight (entry_says (names_of names) keys letters)) result out.new }
 {
     let mut at = from;
-    let mut i = 0;
-    while i < 8 {
+    for i in 0..8 {
         at = entry_at(out, at, names, keys, letters, i);
-        i += 1;
     }
     at
 }

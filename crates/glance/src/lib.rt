@@ -13,7 +13,6 @@ ghost use Rattle.answers.specs.Waiting.{Adds, piece_room};
 ghost use Rattle.key_names.specs.Names.{Formed, names_of};
 ghost use Rattle.glance.specs.Glance.{more_behind, bottom_says, glance_of};
 
-use key_legend::Whose;
 use key_legend::keys::{first_key, next, plant_keys};
 use key_legend::letters::{held_first, letters_of, strip_keys};
 use key_names::Names;
@@ -25,7 +24,7 @@ fn more_behind(s: Tanks, last: u64) -> bool
     requires { Sound s }
     ensures { result ≡ more_behind (meaning s) last }
 {
-    first_key(s, Whose::One(Party::Plant), next(last)) < 65536
+    first_key(s, Some(Party::Plant), next(last)) < 65536
 }
 
 // The strips by these keys, and their legend.

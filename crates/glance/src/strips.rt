@@ -89,10 +89,8 @@ pub fn strips(s: Tanks, keys: [u16; 8], letters: [u8; 8], out: &mut [u8], from: 
         from,
         b"\ntank   the plant's marks from position 0 to the end of the marked part, and how many positions a cell has\n",
     );
-    let mut t = 0;
-    while t < 8 {
+    for t in 0..8 {
         at = strip_of(s, t, keys, letters, out, at);
-        t += 1;
     }
     at
 }

@@ -7,7 +7,7 @@ ghost use Rattle.answers.specs.Waiting.{Adds, piece_room};
 ghost use Rattle.pen.specs.Pen.{right_text};
 ghost use Rattle.glance.specs.Glance.{left_in, top_says, touched_word, row_front, row_marks, row_end, row_says, row_at, table_says};
 
-use pen::{between, larger, say, say_number, say_right, say_word};
+use pen::{between, say, say_number, say_right, say_word};
 use styles::Party;
 use tank::Tank;
 use tanks::{Setting, Tanks};
@@ -18,10 +18,8 @@ fn left(s: Tanks) -> u64
     ensures { result ≡ left_in (meaning s) }
 {
     let mut rest = 512;
-    let mut u = 0;
-    while u < 8 {
-        rest -= larger(s.heads[u].runs as u64, s.settings[u].share);
-        u += 1;
+    for u in 0..8 {
+        rest -= (s.heads[u].runs as u64).max(s.settings[u].share);
     }
     rest
 }
@@ -121,10 +119,8 @@ pub fn table(s: Tanks, out: &mut [u8], from: usize) -> usize
         from,
         b"tank   share   limit    runs   plant marks   lab marks   touched                length\n",
     );
-    let mut t = 0;
-    while t < 8 {
+    for t in 0..8 {
         at = row_at(s, t, out, at);
-        t += 1;
     }
     at
 }

@@ -2,7 +2,7 @@
 ghost use Rattle.std.specs.Prelude.{◌≤◌};
 ghost use Rattle.io.specs.Counts.{IsPrefixLen};
 
-use super::words::{complain, complain_of};
+use super::words::{Complained, complain, complain_of};
 use commands::{Command, Options, Problem};
 use std::env::FillError;
 use std::rt::Env;
@@ -36,28 +36,18 @@ pub fn how_many(rt: HostRuntime) -> usize {
     usize::MAX
 }
 
-fn least(a: usize, b: usize) -> usize
-    ensures { result ≤ b }
-{
-    if a < b { a } else { b }
-}
-
 // One option more, at a place among the arguments.
 fn with(g: Given, word: &[u8], at: usize) -> Given {
     let before = g.options;
     let o = commands::with_option(before, word);
-    if o.unknown {
-        if !before.unknown {
-            return Given {
-                options: o,
-                odd: at,
-                next: g.next,
-            };
-        }
-    }
+    let odd = if o.unknown && !before.unknown {
+        at
+    } else {
+        g.odd
+    };
     Given {
         options: o,
-        odd: g.odd,
+        odd,
         next: g.next,
     }
 }
@@ -79,74 +69,63 @@ fn taken(rt: HostRuntime, g: Given, i: usize) -> Given {
 pub fn read(rt: HostRuntime) -> Given
     ensures { result.next ≤ 4096 }
 {
-    let count = least(how_many(rt), 4096);
+    let count = how_many(rt).min(4096);
     let mut g = Given {
         options: commands::no_options(),
         odd: 0,
         next: 2,
     };
-    let mut i = 2;
-    while i < count {
+    for i in 2..count {
         if !option_at(rt, i) {
             return g;
         }
         g = taken(rt, g, i);
-        i += 1;
-        g.next = i;
+        g.next = i + 1;
     }
     g
 }
 
 // How many files are named.
 pub fn files(rt: HostRuntime, g: Given) -> usize {
-    let n = how_many(rt);
-    if n < g.next {
-        return 0;
-    }
-    n - g.next
+    how_many(rt).saturating_sub(g.next)
 }
 
-fn complain_at(rt: HostRuntime, i: usize, text: &[u8]) {
+fn complain_at(rt: HostRuntime, i: usize, text: &[u8]) -> Complained {
     let mut word = io::buffer();
     let n = word_at(rt, i, &mut word);
-    complain_of(&word[..n], text);
+    complain_of(&word[..n], text)
 }
 
-// Which argument behind the first file is an option, and 0 where none is.
-fn late(rt: HostRuntime, g: Given) -> usize {
-    let count = least(how_many(rt), 4096);
-    let mut i = g.next;
-    while i < count {
+// Which argument behind the first file is an option.
+fn late(rt: HostRuntime, g: Given) -> Option<usize> {
+    let count = how_many(rt).min(4096);
+    for i in g.next..count {
         if option_at(rt, i) {
-            return i;
+            return Some(i);
         }
-        i += 1;
     }
-    0
+    None
 }
 
-// Whether the options stand in front of the files.
-fn in_front(rt: HostRuntime, g: Given) -> bool {
-    let i = late(rt, g);
-    if i == 0 {
-        return true;
+// The options stand in front of the files.
+fn in_front(rt: HostRuntime, g: Given) -> Result<(), Complained> {
+    match late(rt, g) {
+        None => Ok(()),
+        Some(i) => Err(complain_at(
+            rt,
+            i,
+            b": options stand behind the command, in front of the files",
+        )),
     }
-    complain_at(
-        rt,
-        i,
-        b": options stand behind the command, in front of the files",
-    );
-    false
 }
 
-// Whether the command can be carried out; where it can't, what is wrong is said.
-pub fn fine(rt: HostRuntime, c: Command, g: Given) -> bool {
+// The command can be carried out; where it can't, what is wrong is said.
+pub fn fine(rt: HostRuntime, c: Command, g: Given) -> Result<(), Complained> {
     let options = g.options;
-    let p = commands::wrong_with(c, options, files(rt, g));
-    match p {
-        Problem::None => {
-            return in_front(rt, g);
-        }
+    let Some(problem) = commands::wrong_with(c, options, files(rt, g)) else {
+        return in_front(rt, g);
+    };
+    let said = match problem {
         Problem::NoCommand => complain_at(
             rt,
             1,
@@ -161,10 +140,9 @@ pub fn fine(rt: HostRuntime, c: Command, g: Given) -> bool {
         Problem::FromStartElsewhere => complain(b"--from-start is an option of feed"),
         Problem::TooFew => complain(b"too few files are named (keeper --help says more)"),
         Problem::TooMany => {
-            if in_front(rt, g) {
-                complain(b"too many files are named (keeper --help says more)");
-            }
+            in_front(rt, g)?;
+            complain(b"too many files are named (keeper --help says more)")
         }
-    }
-    false
+    };
+    Err(said)
 }

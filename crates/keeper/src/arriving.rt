@@ -1,64 +1,35 @@
 // A log as it arrives on standard input: what is not a whole group yet is held until more comes.
-ghost use Rattle.std.specs.Prelude.{◌≡◌, true, false, ◌-◌, ◌≤◌, min, length};
+ghost use Rattle.std.specs.Prelude.{◌≡◌, ◌-◌, ◌≤◌, min, length, IfSome, IfOk};
 ghost use Rattle.tanks.specs.Pool.{Sound};
 ghost use Rattle.keeper_file.specs.Holding.{moved_to_front, HeldOf};
 
-use super::feeding::{Arrived, endless, less, note_read, plus};
-use super::files::within;
-use super::kept::{Feeding, Kept, fed, from_place, load, say_overtaken};
+use super::feeding::{endless, note_read};
+use super::files::{Unreplaced, within};
+use super::kept::{Feeding, Kept, fed, from_place, load, say_why};
 use super::refusing::stopped;
-use super::words::{failed, note, tell, tell_number, wrong};
+use super::words::{Complained, failed, note, tell, tell_number, wrong};
 use day_log::Stop;
 use std::io::Read;
 
-fn gone() -> Arrived
-    ensures held_bound { result.held ≤ 65536 }
-    ensures over_value { result.over ≡ true }
-{
-    left(false)
-}
-
-// What has arrived is not taken: it can be taken again, where another keeper was quicker.
-fn left(again: bool) -> Arrived
-    ensures held_bound { result.held ≤ 65536 }
-    ensures over_value { result.over ≡ true }
-{
-    Arrived {
-        over: true,
-        again: again,
-        lines: 0,
-        held: 0,
-    }
-}
-
-fn least(a: usize, b: usize) -> usize
-    ensures upper_bound { result ≤ b }
-    ensures value { result ≡ min a b }
-{
-    if a < b {
-        return a;
-    }
-    b
+// Where reading goes on: how many lines were taken so far, and how many bytes are held.
+#[derive(Clone, Copy)]
+struct Held {
+    lines: u64,
+    bytes: usize,
 }
 
 // What is behind the last whole group is held: where reading goes on, it stands in front, whole and in order.
-fn holding(bytes: &mut [u8], at: usize, end: usize, lines: u64) -> Arrived
+fn holding(bytes: &mut [u8], at: usize, end: usize, lines: u64) -> Option<Held>
     requires { (at ≤ end) × (end ≤ length bytes.old) }
-    ensures held_bound { result.held ≤ 65536 }
-    ensures held_value { result.over ≡ false → (result.held ≡ end - at) × (bytes.new ≡ moved_to_front at end bytes.old) }
+    ensures held_bound { IfSome result (λ h. h.bytes ≤ 65536) }
+    ensures held_value { IfSome result (λ h. (h.bytes ≡ end - at) × (bytes.new ≡ moved_to_front at end bytes.old)) }
 {
-    let held = end - at;
-    if held > 65536 {
+    if end - at > 65536 {
         endless(b"standard input", lines, &bytes[at..end]);
-        return gone();
+        return None;
     }
     let n = keeper_file::hold(bytes, at, end);
-    Arrived {
-        over: false,
-        again: false,
-        lines: lines,
-        held: n,
-    }
+    Some(Held { lines, bytes: n })
 }
 
 // What is said of a read that has been kept; what it did not take is held.
@@ -69,10 +40,10 @@ fn told(
     end: usize,
     lines: u64,
     f: Feeding,
-) -> Arrived
+) -> Option<Held>
     requires { end ≤ length bytes.old }
-    ensures held_bound { result.held ≤ 65536 }
-    ensures held_value { result.over ≡ false → (result.held ≡ end - min f.at end) × (bytes.new ≡ moved_to_front (min f.at end) end bytes.old) }
+    ensures held_bound { IfSome result (λ h. h.bytes ≤ 65536) }
+    ensures held_value { IfSome result (λ h. (h.bytes ≡ end - min f.at end) × (bytes.new ≡ moved_to_front (min f.at end) end bytes.old)) }
 {
     if f.edits > 0 {
         note_read(f.edits, f.place);
@@ -80,20 +51,20 @@ fn told(
     }
     let stop = f.stop;
     match stop {
-        Stop::Going => holding(bytes, least(f.at, end), end, plus(lines, f.lines)),
+        Stop::Going => holding(bytes, f.at.min(end), end, lines.saturating_add(f.lines)),
         Stop::Refused(line, number) => {
-            let at = within(least(f.at, end), bytes);
-            let n = less(line, f.lines);
+            let at = within(f.at.min(end), bytes);
+            let n = line.saturating_sub(f.lines);
             stopped(
                 rt,
                 state,
                 b"standard input",
-                plus(lines, line),
+                lines.saturating_add(line),
                 number,
                 &bytes[at..],
                 n,
             );
-            gone()
+            None
         }
     }
 }
@@ -108,17 +79,14 @@ fn taken(
     end: usize,
     lines: u64,
     sync: bool,
-) -> Arrived
+) -> Result<Option<Held>, Unreplaced>
     requires { (Sound k.tanks) × (131072 ≤ length text.old) × (end ≤ length bytes.old) }
-    ensures held_bound { result.held ≤ 65536 }
-    ensures held_of { result.over ≡ false → HeldOf end bytes.old result.held bytes.new }
+    ensures held_bound { IfOk result (λ o. IfSome o (λ h. h.bytes ≤ 65536)) }
+    ensures held_of { IfOk result (λ o. IfSome o (λ h. HeldOf end bytes.old h.bytes bytes.new)) }
 {
     let n = within(end, bytes);
-    let f = fed(rt, state, k, &bytes[..n], text, sync);
-    if f.good {
-        return told(rt, state, bytes, end, lines, f);
-    }
-    left(f.other)
+    let f = fed(rt, state, k, &bytes[..n], text, sync)?;
+    Ok(told(rt, state, bytes, end, lines, f))
 }
 
 fn more(
@@ -129,18 +97,15 @@ fn more(
     lines: u64,
     afresh: bool,
     sync: bool,
-) -> Arrived
+) -> Result<Option<Held>, Unreplaced>
     requires { end ≤ length bytes.old }
-    ensures held_bound { result.held ≤ 65536 }
-    ensures held_of { result.over ≡ false → HeldOf end bytes.old result.held bytes.new }
+    ensures held_bound { IfOk result (λ o. IfSome o (λ h. h.bytes ≤ 65536)) }
+    ensures held_of { IfOk result (λ o. IfSome o (λ h. HeldOf end bytes.old h.bytes bytes.new)) }
 {
     let mut text = clerk::body_room();
-    let k = load(rt, state, &mut text);
-    if k.good {
-        let from = from_place(k, afresh);
-        return taken(rt, state, from, &mut text, bytes, end, lines, sync);
-    }
-    gone()
+    let k = load(rt, state, &mut text)?;
+    let from = from_place(k, afresh);
+    taken(rt, state, from, &mut text, bytes, end, lines, sync)
 }
 
 // What has come is kept. Where another keeper was quicker, nothing of it was: it is taken again, on what STATE says now, since nothing can be
@@ -153,21 +118,23 @@ fn insist(
     lines: u64,
     afresh: bool,
     sync: bool,
-) -> Arrived
+) -> Option<Held>
     requires { end ≤ length bytes.old }
-    ensures { result.held ≤ 65536 }
+    ensures { IfSome result (λ h. h.bytes ≤ 65536) }
 {
-    let mut tries: u64 = 100;
-    while tries > 0 {
-        let a = more(rt, state, bytes, end, lines, afresh, sync);
-        if a.again {
-            tries -= 1;
-        } else {
-            return a;
+    for _ in 0..100 {
+        match more(rt, state, bytes, end, lines, afresh, sync) {
+            Ok(held) => {
+                return held;
+            }
+            Err(Unreplaced::Failed) => {
+                return None;
+            }
+            Err(Unreplaced::Overtaken) => {}
         }
     }
-    say_overtaken(state, true);
-    gone()
+    say_why(state, Unreplaced::Overtaken);
+    None
 }
 
 // The end of the input. What is held is lost with it: nothing can be read twice.
@@ -186,28 +153,27 @@ fn arrive(
     rt: HostRuntime,
     state: &[u8],
     bytes: &mut [u8],
-    held: usize,
-    lines: u64,
+    before: Held,
     afresh: bool,
     sync: bool,
-) -> Arrived
-    requires { (131072 ≤ length bytes.old) × (held ≤ 65536) }
-    ensures { result.held ≤ 65536 }
+) -> Option<Held>
+    requires { (131072 ≤ length bytes.old) × (before.bytes ≤ 65536) }
+    ensures { IfSome result (λ h. h.bytes ≤ 65536) }
 {
     let mut buf = io::large_buffer();
     let mut from = rt.stdin();
     match from.read(&mut buf) {
         Ok(n) => {
             if n == 0 {
-                ended(held);
-                return gone();
+                ended(before.bytes);
+                return None;
             }
-            let end = text::put(bytes, held, &buf[..n]);
-            insist(rt, state, bytes, end, lines, afresh, sync)
+            let end = text::put(bytes, before.bytes, &buf[..n]);
+            insist(rt, state, bytes, end, before.lines, afresh, sync)
         }
         Err(e) => {
             failed(b"standard input", b" can't be read", e);
-            gone()
+            None
         }
     }
 }
@@ -216,33 +182,31 @@ fn arrive(
 fn arrivals(rt: HostRuntime, state: &[u8], bytes: &mut [u8], afresh: bool, sync: bool)
     requires { 131072 ≤ length bytes.old }
 {
-    let mut first = afresh;
-    let mut held = 0;
-    let mut lines: u64 = 0;
-    let mut turns: u64 = 18446744073709551615;
-    while turns > 0 {
-        let a = arrive(rt, state, bytes, held, lines, first, sync);
-        held = a.held;
-        lines = a.lines;
-        first = false;
-        if a.over {
+    let mut held = Held { lines: 0, bytes: 0 };
+    for turn in 0..u64::MAX {
+        let Some(next) = arrive(rt, state, bytes, held, afresh && turn == 0, sync) else {
             return;
-        }
-        turns -= 1;
+        };
+        held = next;
     }
 }
 
 // STATE is there and whole.
-fn readable(rt: HostRuntime, state: &[u8]) -> bool {
+fn readable(rt: HostRuntime, state: &[u8]) -> Result<(), Complained> {
     let mut text = clerk::body_room();
-    let k = load(rt, state, &mut text);
-    k.good
+    load(rt, state, &mut text)?;
+    Ok(())
 }
 
 // Takes standard input as what follows of the log, or as a new one from its start, which is kept with what the first read brings.
-pub fn feed_input(rt: HostRuntime, state: &[u8], afresh: bool, sync: bool) {
-    if readable(rt, state) {
-        let mut bytes = clerk::body_room();
-        arrivals(rt, state, &mut bytes, afresh, sync);
-    }
+pub fn feed_input(
+    rt: HostRuntime,
+    state: &[u8],
+    afresh: bool,
+    sync: bool,
+) -> Result<(), Complained> {
+    readable(rt, state)?;
+    let mut bytes = clerk::body_room();
+    arrivals(rt, state, &mut bytes, afresh, sync);
+    Ok(())
 }

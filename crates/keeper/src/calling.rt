@@ -1,24 +1,23 @@
 // A script of calls on the kept tanks: what a call changed is on disk before its answer is written.
-ghost use Rattle.std.specs.Prelude.{◌≡◌, true, false, ◌≤◌, ◌<◌, length};
+ghost use Rattle.std.specs.Prelude.{◌≡◌, ◌≤◌, length, IfSome};
 ghost use Rattle.tanks.specs.Pool.{Sound, meaning};
 ghost use Rattle.script.specs.Grammar.{most_body};
 ghost use Rattle.script.specs.Bodies.{Fits};
 ghost use Rattle.answers.specs.Waiting.{piece_room};
 ghost use Rattle.clerk.specs.Desk.{Settled};
 ghost use Rattle.keeper_file.specs.Keeping.{Holds};
-ghost use Rattle.keeper.specs.Steps.{InStep, Saves};
+ghost use Rattle.keeper.specs.Steps.{InStep};
 
 use super::files::within;
-use super::kept::{Kept, Saving, blank, keeping, load, save, sized};
-use super::words::{complain, failed};
+use super::kept::{Kept, blank, keeping, load, save, sized};
+use super::words::{Complained, complain, failed};
 use clerk::Stand;
 use std::io::Read;
 
-// Where a script stands after a line: whether it is over, STATE as it is kept, and where the clerk stands.
+// Where a script stands after a line: STATE as it is kept, where the script goes on, and where the clerk stands.
 #[derive(Clone, Copy)]
 struct Lined {
-    over: bool,
-    kept: Kept,
+    kept: Option<Kept>,
     stand: Stand,
 }
 
@@ -45,7 +44,7 @@ fn handed(rt: HostRuntime, out: &[u8], at: usize, over: bool) -> bool {
 }
 
 // The answers of a line, where there are any: they are written when what it changed is kept. A line without one has changed nothing, so that
-// what is kept says the tanks in hand either way.
+// what is kept says the tanks in hand either way. Where the script goes on, how long the text is that is kept.
 fn answers(
     rt: HostRuntime,
     state: &[u8],
@@ -55,28 +54,26 @@ fn answers(
     text: &mut [u8],
     out: &[u8],
     sync: bool,
-) -> Saving
+) -> Option<usize>
     requires { (Sound k.tanks) × (131072 ≤ length text.old) }
-    ensures { (at ≡ 0 → Holds k.place (meaning k.tanks) k.size text.old) → Saves k.place (meaning k.tanks) result text.new }
+    ensures { (at ≡ 0 → Holds k.place (meaning k.tanks) k.size text.old) → IfSome result (λ size. Holds k.place (meaning k.tanks) size text.new) }
 {
     if at == 0 {
-        return Saving {
-            good: !over,
-            other: false,
-            size: k.size,
-        };
+        return if over { None } else { Some(k.size) };
     }
-    let s = k.tanks;
-    let w = save(rt, state, s, k.place, text, k.size, sync);
-    if w.good {
-        return Saving {
-            good: handed(rt, out, at, over),
-            other: false,
-            size: w.size,
-        };
+    match save(rt, state, k.tanks, k.place, text, k.size, sync) {
+        Ok(size) => {
+            if handed(rt, out, at, over) {
+                Some(size)
+            } else {
+                None
+            }
+        }
+        Err(_) => {
+            complain(b"the last call is not kept, and its answer is not written");
+            None
+        }
     }
-    complain(b"the last call is not kept, and its answer is not written");
-    w
 }
 
 // One line of a script: afterwards what is kept is in step, or the script is over.
@@ -93,7 +90,7 @@ fn line(
 ) -> Lined
     requires in_step { (InStep k text.old) × Settled stand.side × Fits stand.inlet body.old }
     requires most_body_in_bounds { (most_body ≤ length body.old) × (piece_room ≤ length out.old) × (131072 ≤ length text.old) }
-    ensures { (result.over ≡ false → InStep result.kept text.new) × Settled result.stand.side × Fits result.stand.inlet body.new }
+    ensures { IfSome result.kept (λ k. InStep k text.new) × Settled result.stand.side × Fits result.stand.inlet body.new }
 {
     let inlet = stand.inlet;
     let side = stand.side;
@@ -102,11 +99,15 @@ fn line(
     let next = e.stand;
     let tanks = e.tanks;
     let kept = keeping(k, tanks);
-    let w = answers(rt, state, kept, next.at, next.over, text, out, sync);
-    Lined {
-        over: !w.good,
-        kept: sized(kept, w.size),
-        stand: next,
+    match answers(rt, state, kept, next.at, next.over, text, out, sync) {
+        Some(size) => Lined {
+            kept: Some(sized(kept, size)),
+            stand: next,
+        },
+        None => Lined {
+            kept: None,
+            stand: next,
+        },
     }
 }
 
@@ -128,19 +129,13 @@ fn lines(
 {
     let mut k = kept;
     let mut stand = begun;
-    let mut from = 0;
-    while from < bytes.len() {
-        let end = line_end(bytes, from);
-        let part = &bytes[from..end];
+    for part in bytes.split_inclusive(|b| *b == b'\n') {
         let l = line(rt, state, k, part, stand, text, body, out, sync);
-        from = end;
-        let next = l.kept;
-        k = next;
-        let there = l.stand;
-        stand = there;
-        if l.over {
+        stand = l.stand;
+        let Some(next) = l.kept else {
             return halted(stand);
-        }
+        };
+        k = next;
     }
     stand
 }
@@ -156,18 +151,6 @@ fn halted(stand: Stand) -> Stand
         at: 0,
         over: true,
     }
-}
-
-// The place behind the line that starts at a place.
-fn line_end(bytes: &[u8], from: usize) -> usize
-    requires { from < length bytes.now }
-    ensures { (from < result) × (result ≤ length bytes.now) }
-{
-    let e = text::find(bytes, from, b'\n');
-    if e < bytes.len() {
-        return e + 1;
-    }
-    bytes.len()
 }
 
 // The end of the input: a script that is cut there says so.
@@ -200,11 +183,10 @@ fn heard(
     ensures { Settled result.side × Fits result.inlet body.new }
 {
     let mut text = clerk::body_room();
-    let k = load(rt, state, &mut text);
-    if k.good {
-        return lines(rt, state, bytes, k, stand, &mut text, body, out, sync);
+    match load(rt, state, &mut text) {
+        Ok(k) => lines(rt, state, bytes, k, stand, &mut text, body, out, sync),
+        Err(_) => halted(stand),
     }
-    halted(stand)
 }
 
 // One read of standard input.
@@ -241,24 +223,20 @@ fn all(rt: HostRuntime, state: &[u8], body: &mut [u8], out: &mut [u8], sync: boo
     requires { (most_body ≤ length body.old) × (piece_room ≤ length out.old) }
 {
     let mut stand = clerk::fresh(script::begin_inlet(), clerk::empty());
-    let mut turns: u64 = 18446744073709551615;
-    while turns > 0 {
-        let next = turn(rt, state, stand, body, out, sync);
-        if next.over {
+    for _ in 0..u64::MAX {
+        stand = turn(rt, state, stand, body, out, sync);
+        if stand.over {
             return;
         }
-        stand = next;
-        turns -= 1;
     }
 }
 
 // Answers a script of calls on the tanks that STATE keeps.
-pub fn call(rt: HostRuntime, state: &[u8], sync: bool) {
+pub fn call(rt: HostRuntime, state: &[u8], sync: bool) -> Result<(), Complained> {
     let mut body = clerk::body_room();
     let mut out = io::large_buffer();
     let mut text = clerk::body_room();
-    let k = load(rt, state, &mut text);
-    if k.good {
-        all(rt, state, &mut body, &mut out, sync);
-    }
+    load(rt, state, &mut text)?;
+    all(rt, state, &mut body, &mut out, sync);
+    Ok(())
 }

@@ -1,34 +1,35 @@
 // Files: read whole, and replaced whole.
-ghost use Rattle.std.specs.Prelude.{◌≤◌, min, ◌≡◌, length};
+ghost use Rattle.std.specs.Prelude.{◌≤◌, min, ◌≡◌, length, IfOk};
 ghost use Rattle.io.specs.Counts.{IsPrefixLen};
+ghost use Rattle.keeper.specs.declared.files.Unreplaced.TheVariants.{Failed};
 
-use super::words::{complain_of, failed};
+use super::words::{Complained, complain_of, failed};
 use std::fs;
 use std::fs::{File, OpenOptions};
-use std::io::{Error, ErrorKind, Read, Result, Write};
+use std::io::{Error, ErrorKind, Read, Write};
 use std::mem::drop;
 use std::os::fd::AsRawFd;
 use std::random::RandomSource;
 use std::str::from_utf8;
 
-// Whether a file was read whole, and how many bytes of the room it fills.
-#[derive(Clone, Copy)]
-pub struct Whole {
-    pub good: bool,
-    pub size: usize,
-}
-
-// What came of replacing a file: it is the new one; or it could not be replaced; or it was no longer what had been read of it, and is left so.
-#[derive(Clone, Copy)]
-pub enum Replacing {
-    Done,
+// Why a file is not the new one: it could not be replaced, and why has been said; or it was no longer what had been read of it, and is left so,
+// which is still to be said.
+#[derive(Clone, Copy, PartialEq, Eq, Debug)]
+pub enum Unreplaced {
     Failed,
     Overtaken,
 }
 
-// What came of filling a file: it holds the text; or it could not be written, or not be synced.
-enum Filling {
-    Done,
+impl From<Complained> for Unreplaced {
+    ghost from_gives = { λ _ r. r ≡ Failed };
+
+    fn from(_said: Complained) -> Unreplaced {
+        Unreplaced::Failed
+    }
+}
+
+// Why a file does not hold its text: it could not be written, or not be synced.
+enum Unfilled {
     Unwritten(Error),
     Unsynced(Error),
 }
@@ -45,10 +46,7 @@ pub fn within(n: usize, bytes: &[u8]) -> usize
     ensures prefix_len { IsPrefixLen result bytes.now }
     ensures value { result ≡ min n (length bytes.now) }
 {
-    if n < bytes.len() {
-        return n;
-    }
-    bytes.len()
+    n.min(bytes.len())
 }
 
 // A path and a word behind it; nothing where the path is longer than any.
@@ -67,18 +65,14 @@ pub fn put_path(out: &mut [u8], path: &[u8], word: &[u8]) -> usize
 pub fn folder(path: &[u8]) -> usize
     ensures { IsPrefixLen result path.now }
 {
-    let mut i = path.len();
-    while i > 0 {
-        if path[i - 1] == b'/' {
-            return i;
-        }
-        i -= 1;
+    match path.iter().rposition(|b| *b == b'/') {
+        Some(i) => i + 1,
+        None => 0,
     }
-    0
 }
 
 // A path as the system's calls take it here. One that is no UTF-8 can't be named to them: the error is the system's for such bytes.
-fn named(path: &[u8]) -> Result<&str> {
+fn named(path: &[u8]) -> Result<&str, Error> {
     match from_utf8(path) {
         Ok(name) => Ok(name),
         Err(_) => Err(Error::from_raw_os_error(84)),
@@ -86,22 +80,17 @@ fn named(path: &[u8]) -> Result<&str> {
 }
 
 // Opens a file, or a folder, for reading.
-pub fn opened(rt: HostRuntime, path: &[u8]) -> Result<File> {
-    match named(path) {
-        Ok(name) => File::open(&rt, name),
-        Err(e) => Err(e),
-    }
+pub fn opened(rt: HostRuntime, path: &[u8]) -> Result<File, Error> {
+    File::open(&rt, named(path)?)
 }
 
 // Makes a file, where nothing has its name, and opens it for writing.
-pub fn made(rt: HostRuntime, path: &[u8]) -> Result<File> {
-    match named(path) {
-        Ok(name) => OpenOptions::new()
-            .write(true)
-            .create_new(true)
-            .open(&rt, name),
-        Err(e) => Err(e),
-    }
+pub fn made(rt: HostRuntime, path: &[u8]) -> Result<File, Error> {
+    let name = named(path)?;
+    OpenOptions::new()
+        .write(true)
+        .create_new(true)
+        .open(&rt, name)
 }
 
 // Removes a file; where it can't be removed it stays, and nothing is said.
@@ -111,56 +100,36 @@ pub fn removed(rt: HostRuntime, path: &[u8]) {
     }
 }
 
-fn moved(rt: HostRuntime, from: &[u8], to: &[u8]) -> Result<()> {
-    match (named(from), named(to)) {
-        (Ok(old), Ok(new)) => fs::rename(&rt, old, new),
-        (Err(e), _) => Err(e),
-        (_, Err(e)) => Err(e),
-    }
+fn moved(rt: HostRuntime, from: &[u8], to: &[u8]) -> Result<(), Error> {
+    fs::rename(&rt, named(from)?, named(to)?)
 }
 
-// Whether the input ends where the room was not filled: a read that failed looks the same until it is tried again.
-fn ended(file: &File, path: &[u8], full: bool) -> bool {
+// The input ends where the room was not filled: a read that failed looks the same until it is tried again.
+fn ended(file: &File, path: &[u8], full: bool) -> Result<(), Complained> {
     let mut one = [0u8; 1];
     let mut from = file;
     match from.read(&mut one) {
         Ok(n) => {
-            if full {
-                return true;
+            if n > 0 && !full {
+                return Err(complain_of(path, b" changed while it was read"));
             }
-            if n > 0 {
-                complain_of(path, b" changed while it was read");
-                return false;
-            }
-            true
+            Ok(())
         }
-        Err(e) => {
-            failed(path, b" can't be read", e);
-            false
-        }
+        Err(e) => Err(failed(path, b" can't be read", e)),
     }
 }
 
-// Reads a file whole. Of one that is longer than the room so much is read as there is room for.
-pub fn read_whole(rt: HostRuntime, path: &[u8], room: &mut [u8]) -> Whole
-    ensures { result.size ≤ length room.new }
+// Reads a file whole, and answers how many bytes of the room it fills. Of one that is longer than the room so much is read as there is room for.
+pub fn read_whole(rt: HostRuntime, path: &[u8], room: &mut [u8]) -> Result<usize, Complained>
+    ensures { IfOk result (λ n. IsPrefixLen n room.new) }
 {
     match opened(rt, path) {
         Ok(file) => {
             let n = io::read_full(file.as_raw_fd(), room);
-            let good = ended(&file, path, n == room.len());
-            Whole {
-                good: good,
-                size: n,
-            }
+            ended(&file, path, n == room.len())?;
+            Ok(n)
         }
-        Err(e) => {
-            failed(path, b" can't be opened", e);
-            Whole {
-                good: false,
-                size: 0,
-            }
-        }
+        Err(e) => Err(failed(path, b" can't be opened", e)),
     }
 }
 
@@ -173,7 +142,7 @@ pub fn missing(rt: HostRuntime, path: &[u8]) -> bool {
 }
 
 // The folder of a file, open so that it can be synced.
-fn open_folder(rt: HostRuntime, path: &[u8]) -> Result<File> {
+fn open_folder(rt: HostRuntime, path: &[u8]) -> Result<File, Error> {
     let k = folder(path);
     if k == 0 {
         return opened(rt, b".");
@@ -195,71 +164,64 @@ fn sync_folder(folder: File, path: &[u8]) {
 }
 
 // Fills a file that was made, and closes it.
-fn fill(file: File, text: &[u8], sync: bool) -> Filling {
+fn fill(file: File, text: &[u8], sync: bool) -> Result<(), Unfilled> {
     let mut to = file;
     if let Err(e) = to.write_all(text) {
-        return Filling::Unwritten(e);
+        return Err(Unfilled::Unwritten(e));
     }
     if sync {
         if let Err(e) = to.sync_all() {
-            return Filling::Unsynced(e);
+            return Err(Unfilled::Unsynced(e));
         }
     }
-    Filling::Done
+    Ok(())
 }
 
 // The same, and what is wrong is said when it is closed.
-fn filled(file: File, name: &[u8], text: &[u8], sync: bool) -> bool {
+fn filled(file: File, name: &[u8], text: &[u8], sync: bool) -> Result<(), Complained> {
     match fill(file, text, sync) {
-        Filling::Done => true,
-        Filling::Unwritten(e) => {
-            failed(name, b" can't be written", e);
-            false
-        }
-        Filling::Unsynced(e) => {
-            failed(name, b" can't be synced", e);
-            false
-        }
+        Ok(()) => Ok(()),
+        Err(Unfilled::Unwritten(e)) => Err(failed(name, b" can't be written", e)),
+        Err(Unfilled::Unsynced(e)) => Err(failed(name, b" can't be synced", e)),
     }
 }
 
-fn not_replaced(rt: HostRuntime, name: &[u8], path: &[u8], e: Error) {
-    failed(path, b" can't be replaced", e);
+fn not_replaced(rt: HostRuntime, name: &[u8], path: &[u8], e: Error) -> Complained {
+    let said = failed(path, b" can't be replaced", e);
     removed(rt, name);
+    said
 }
 
 // Gives a file its name, and lets the folder reach its device, which is opened before: where that fails the old file is as it was.
-fn renamed_synced(rt: HostRuntime, name: &[u8], path: &[u8]) -> bool {
+fn renamed_synced(rt: HostRuntime, name: &[u8], path: &[u8]) -> Result<(), Complained> {
     match open_folder(rt, path) {
         Ok(folder) => {
             if let Err(e) = moved(rt, name, path) {
-                not_replaced(rt, name, path, e);
-                return false;
+                return Err(not_replaced(rt, name, path, e));
             }
             sync_folder(folder, path);
-            true
+            Ok(())
         }
         Err(e) => {
-            failed(
+            let said = failed(
                 path,
                 b": its folder can't be opened, so that it could be synced",
                 e,
             );
             removed(rt, name);
-            false
+            Err(said)
         }
     }
 }
 
-fn renamed(rt: HostRuntime, name: &[u8], path: &[u8], sync: bool) -> bool {
+fn renamed(rt: HostRuntime, name: &[u8], path: &[u8], sync: bool) -> Result<(), Complained> {
     if sync {
         return renamed_synced(rt, name, path);
     }
-    if let Err(e) = moved(rt, name, path) {
-        not_replaced(rt, name, path, e);
-        return false;
+    match moved(rt, name, path) {
+        Ok(()) => Ok(()),
+        Err(e) => Err(not_replaced(rt, name, path, e)),
     }
-    true
 }
 
 // A new file that was made beside is filled, and takes its name; where that fails it goes.
@@ -270,34 +232,38 @@ pub fn finished(
     path: &[u8],
     text: &[u8],
     sync: bool,
-) -> bool {
-    if filled(file, name, text, sync) {
-        return renamed(rt, name, path, sync);
+) -> Result<(), Complained> {
+    let full = filled(file, name, text, sync);
+    if full.is_err() {
+        removed(rt, name);
+        return full;
     }
-    removed(rt, name);
-    false
+    renamed(rt, name, path, sync)
 }
 
-// Whether a file still has the bytes that were read of it, so that it can be replaced: another keeper may have done so since.
-fn still(rt: HostRuntime, path: &[u8], old: &[u8]) -> Replacing {
+// A file still has the bytes that were read of it, so that it can be replaced: another keeper may have done so since.
+fn still(rt: HostRuntime, path: &[u8], old: &[u8]) -> Result<(), Unreplaced> {
     let mut room = clerk::body_room();
-    let w = read_whole(rt, path, &mut room);
-    let n = within(w.size, &room);
-    if w.good {
-        if text::same(&room[..n], old) {
-            return Replacing::Done;
-        }
-        return Replacing::Overtaken;
+    let n = read_whole(rt, path, &mut room)?;
+    if &room[..n] == old {
+        Ok(())
+    } else {
+        Err(Unreplaced::Overtaken)
     }
-    Replacing::Failed
 }
 
-// A file that is filled takes the place of the old one.
-fn renamed_as(rt: HostRuntime, name: &[u8], path: &[u8], sync: bool) -> Replacing {
-    if renamed(rt, name, path, sync) {
-        return Replacing::Done;
-    }
-    Replacing::Failed
+// A file that was made beside is filled, and the old one is still the one that was read.
+fn ready(
+    rt: HostRuntime,
+    file: File,
+    name: &[u8],
+    path: &[u8],
+    old: &[u8],
+    text: &[u8],
+    sync: bool,
+) -> Result<(), Unreplaced> {
+    filled(file, name, text, sync)?;
+    still(rt, path, old)
 }
 
 // A file that was made beside takes the place of the old one, where that is still the one that was read; else it goes.
@@ -309,17 +275,14 @@ fn exchanged(
     old: &[u8],
     text: &[u8],
     sync: bool,
-) -> Replacing {
-    if filled(file, name, text, sync) {
-        let now = still(rt, path, old);
-        let Replacing::Done = now else {
-            removed(rt, name);
-            return now;
-        };
-        return renamed_as(rt, name, path, sync);
+) -> Result<(), Unreplaced> {
+    let ready = ready(rt, file, name, path, old, text, sync);
+    if ready.is_err() {
+        removed(rt, name);
+        return ready;
     }
-    removed(rt, name);
-    Replacing::Failed
+    renamed(rt, name, path, sync)?;
+    Ok(())
 }
 
 // One of sixteen letters.
@@ -328,27 +291,31 @@ fn letter(b: u8) -> u8 {
 }
 
 // Sixteen letters by chance, behind the first five of a word. No two runs have the same, so neither writes the file that the other has made.
-fn draw(rt: HostRuntime, word: &mut [u8]) -> Result<()>
+fn draw(rt: HostRuntime, word: &mut [u8]) -> Result<(), Error>
     requires { length word.old ≡ 21 }
 {
     let mut chance = [0u8; 16];
-    let drawn = rt.fill_bytes(&mut chance);
-    let mut i = 0;
-    while i < 16 {
-        word[5 + i] = letter(chance[i]);
-        i += 1;
+    rt.fill_bytes(&mut chance)?;
+    for (i, b) in chance.iter().enumerate() {
+        word[5 + i] = letter(*b);
     }
-    drawn
+    Ok(())
 }
 
 // Replaces a file whole, if it still is what was read of it: the next one is written beside, under a name of its own, and takes the old one's
 // place when it has reached its device.
-pub fn replaced(rt: HostRuntime, path: &[u8], old: &[u8], text: &[u8], sync: bool) -> Replacing {
+pub fn replaced(
+    rt: HostRuntime,
+    path: &[u8],
+    old: &[u8],
+    text: &[u8],
+    sync: bool,
+) -> Result<(), Unreplaced> {
     let mut word = [0u8; 21];
     text::put(&mut word, 0, b".new-");
     if let Err(e) = draw(rt, &mut word) {
         failed(path, b": no name can be drawn for the file beside it", e);
-        return Replacing::Failed;
+        return Err(Unreplaced::Failed);
     }
     let mut name = path_room();
     let k = put_path(&mut name, path, &word);
@@ -356,7 +323,7 @@ pub fn replaced(rt: HostRuntime, path: &[u8], old: &[u8], text: &[u8], sync: boo
         Ok(file) => exchanged(rt, file, &name[..k], path, old, text, sync),
         Err(e) => {
             failed(&name[..k], b" can't be made", e);
-            Replacing::Failed
+            Err(Unreplaced::Failed)
         }
     }
 }

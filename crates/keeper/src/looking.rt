@@ -5,7 +5,7 @@ ghost use Rattle.key_names.specs.Names.{Formed};
 
 use super::files::{folder, missing, path_room, put_path, read_whole, within};
 use super::kept::load;
-use super::words::{failed, tell, tell_number, wrong};
+use super::words::{Complained, failed, tell, tell_number, wrong};
 use key_names::Names;
 
 fn wrong_name(path: &[u8], line: u64) {
@@ -35,12 +35,10 @@ fn names_at(rt: HostRuntime, path: &[u8]) -> Names
         return key_names::none();
     }
     let mut text = clerk::body_room();
-    let w = read_whole(rt, path, &mut text);
-    let n = within(w.size, &text);
-    if w.good {
-        return names_in(path, &text[..n]);
+    match read_whole(rt, path, &mut text) {
+        Ok(n) => names_in(path, &text[..n]),
+        Err(_) => key_names::none(),
     }
-    key_names::none()
 }
 
 // The names beside STATE; none where there is no such file, or where it is wrong.
@@ -54,33 +52,28 @@ pub fn names_beside(rt: HostRuntime, state: &[u8]) -> Names
 }
 
 // What waits at the end is written; whether it could be says whether all could, for a device that is full stays full.
-fn written(rt: HostRuntime, out: &[u8], n: usize) {
+fn written(rt: HostRuntime, out: &[u8], n: usize) -> Result<(), Complained> {
     let k = within(n, out);
-    if let Err(e) = rt.write_all(&out[..k]) {
-        failed(b"standard output", b" can't be written", e);
+    match rt.write_all(&out[..k]) {
+        Ok(()) => Ok(()),
+        Err(e) => Err(failed(b"standard output", b" can't be written", e)),
     }
 }
 
 // The eight tanks at a glance.
-pub fn show(rt: HostRuntime, state: &[u8]) {
+pub fn show(rt: HostRuntime, state: &[u8]) -> Result<(), Complained> {
     let mut text = clerk::body_room();
-    let k = load(rt, state, &mut text);
-    if k.good {
-        let mut out = io::large_buffer();
-        let s = k.tanks;
-        let n = glance::show(s, k.place, names_beside(rt, state), &mut out, 0);
-        written(rt, &out, n);
-    }
+    let k = load(rt, state, &mut text)?;
+    let mut out = io::large_buffer();
+    let n = glance::show(k.tanks, k.place, names_beside(rt, state), &mut out, 0);
+    written(rt, &out, n)
 }
 
 // The eight tanks as a picture.
-pub fn picture(rt: HostRuntime, state: &[u8]) {
+pub fn picture(rt: HostRuntime, state: &[u8]) -> Result<(), Complained> {
     let mut text = clerk::body_room();
-    let k = load(rt, state, &mut text);
-    if k.good {
-        let mut out = io::large_buffer();
-        let s = k.tanks;
-        let n = picture::picture(s, names_beside(rt, state), &mut out, 0);
-        written(rt, &out, n);
-    }
+    let k = load(rt, state, &mut text)?;
+    let mut out = io::large_buffer();
+    let n = picture::picture(k.tanks, names_beside(rt, state), &mut out, 0);
+    written(rt, &out, n)
 }

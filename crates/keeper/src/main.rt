@@ -20,10 +20,10 @@ ghost use Rattle.std.specs.Prelude.{◌≤◌};
 use arguments::Given;
 use commands::Command;
 use std::rt::Env;
-use words::{complain, not_taken};
+use words::{Complained, complain, not_taken};
 
 // A command on STATE alone, or on logs whose names are taken one after another.
-fn on_state(rt: HostRuntime, c: Command, state: &[u8], g: Given)
+fn on_state(rt: HostRuntime, c: Command, state: &[u8], g: Given) -> Result<(), Complained>
     requires { g.next ≤ 4096 }
 {
     let o = g.options;
@@ -35,12 +35,21 @@ fn on_state(rt: HostRuntime, c: Command, state: &[u8], g: Given)
         Command::Call => calling::call(rt, state, o.sync),
         Command::Merge => merging::merge(rt, state, g.next + 1, o.trying, o.sync),
         Command::Feed => arriving::feed_input(rt, state, o.afresh, o.sync),
-        _ => page::page(),
+        _ => {
+            page::page();
+            Ok(())
+        }
     }
 }
 
 // One on STATE and another file.
-fn with_file(rt: HostRuntime, c: Command, state: &[u8], file: &[u8], g: Given)
+fn with_file(
+    rt: HostRuntime,
+    c: Command,
+    state: &[u8],
+    file: &[u8],
+    g: Given,
+) -> Result<(), Complained>
     requires { g.next ≤ 4096 }
 {
     let o = g.options;
@@ -53,39 +62,37 @@ fn with_file(rt: HostRuntime, c: Command, state: &[u8], file: &[u8], g: Given)
 }
 
 // The second file is named, where there is one: whoever takes logs takes their names itself.
-fn with_state(rt: HostRuntime, c: Command, state: &[u8], g: Given)
+fn with_state(rt: HostRuntime, c: Command, state: &[u8], g: Given) -> Result<(), Complained>
     requires { g.next ≤ 4096 }
 {
     if arguments::files(rt, g) < 2 {
-        on_state(rt, c, state, g);
-        return;
+        return on_state(rt, c, state, g);
     }
     let mut file = io::buffer();
     match rt.arg(g.next + 1, &mut file) {
         Ok(n) => with_file(rt, c, state, &file[..n], g),
-        Err(e) => not_taken(b"the name of the second file", e),
+        Err(e) => Err(not_taken(b"the name of the second file", e)),
     }
 }
 
-fn carry_out(rt: HostRuntime, c: Command, g: Given)
+fn carry_out(rt: HostRuntime, c: Command, g: Given) -> Result<(), Complained>
     requires { g.next ≤ 4096 }
 {
     let mut state = io::buffer();
     match rt.arg(g.next, &mut state) {
         Ok(n) => with_state(rt, c, &state[..n], g),
-        Err(e) => not_taken(b"the name of STATE", e),
+        Err(e) => Err(not_taken(b"the name of STATE", e)),
     }
 }
 
-fn run(rt: HostRuntime, c: Command) {
-    let Command::Help = c else {
-        let g = arguments::read(rt);
-        if arguments::fine(rt, c, g) {
-            carry_out(rt, c, g);
-        }
-        return;
-    };
-    page::page();
+fn run(rt: HostRuntime, c: Command) -> Result<(), Complained> {
+    if let Command::Help = c {
+        page::page();
+        return Ok(());
+    }
+    let g = arguments::read(rt);
+    arguments::fine(rt, c, g)?;
+    carry_out(rt, c, g)
 }
 
 fn main(rt: HostRuntime) {
@@ -95,5 +102,6 @@ fn main(rt: HostRuntime) {
         complain(b"no command is named (keeper --help lists them)");
         return;
     }
-    run(rt, commands::command_of(&word[..n]));
+    // Whatever went wrong has been said by now.
+    let _ = run(rt, commands::command_of(&word[..n]));
 }

@@ -6,11 +6,10 @@ use super::files::within;
 use super::looking::names_beside;
 use super::words::{refusal_begun, refused_at, tell, tell_number, wrong};
 use key_names::Names;
-use text::Parsed;
 
 fn tell_tank(group: &[u8], lines: u64) {
     let tank = keeper_file::field(group, 0, lines, b"tank=");
-    let Parsed::Number(t) = tank else {
+    let Some(t) = tank else {
         return;
     };
     tell(b": tank ");
@@ -21,7 +20,7 @@ fn tell_key(names: Names, group: &[u8], lines: u64)
     requires { Formed names }
 {
     let key = keeper_file::field(group, 0, lines, b"key=");
-    let Parsed::Number(k) = key else {
+    let Some(k) = key else {
         return;
     };
     if k < 65536 {

@@ -7,6 +7,10 @@ use std::env::FillError;
 use std::fmt::InlineText;
 use std::io::Error;
 
+// What went wrong has been said, and whoever started the keeper is told of it.
+#[derive(Clone, Copy, PartialEq, Eq, Debug)]
+pub struct Complained;
+
 // What can't be written is lost, and whoever started the keeper is told by its status.
 pub fn note(text: &[u8]) {
     if io::write_all(1, text) {
@@ -34,34 +38,32 @@ pub fn wrong() {
 }
 
 // One line of what is wrong.
-pub fn complain(text: &[u8]) {
+pub fn complain(text: &[u8]) -> Complained {
     tell(b"keeper: ");
     tell(text);
     tell(b"\n");
     wrong();
+    Complained
 }
 
 // The same of a file.
-pub fn complain_of(path: &[u8], text: &[u8]) {
+pub fn complain_of(path: &[u8], text: &[u8]) -> Complained {
     tell(b"keeper: ");
     tell(path);
     tell(text);
     tell(b"\n");
     wrong();
+    Complained
 }
 
 // How many bytes of an error's text are the system's words: behind them stands its number, as in " (os error 2)".
 fn before_number(text: &[u8]) -> usize
     ensures { IsPrefixLen result text.now }
 {
-    let mut i = text.len();
-    while i > 1 {
-        i -= 1;
-        if text[i] == b'(' {
-            return i - 1;
-        }
+    match text.iter().rposition(|b| *b == b'(') {
+        Some(i) if i > 0 => i - 1,
+        _ => text.len(),
     }
-    text.len()
 }
 
 // What the system says of an error.
@@ -72,7 +74,7 @@ fn tell_error(e: Error) {
 }
 
 // A call of the system that failed on a file, and why.
-pub fn failed(path: &[u8], what: &[u8], e: Error) {
+pub fn failed(path: &[u8], what: &[u8], e: Error) -> Complained {
     tell(b"keeper: ");
     tell(path);
     tell(what);
@@ -80,15 +82,16 @@ pub fn failed(path: &[u8], what: &[u8], e: Error) {
     tell_error(e);
     tell(b"\n");
     wrong();
+    Complained
 }
 
 // An argument that can't be taken: it is longer than any name of a file, or there is none; the numbers are the system's for these.
-pub fn not_taken(name: &[u8], e: FillError) {
+pub fn not_taken(name: &[u8], e: FillError) -> Complained {
     let why = match e {
         FillError::TooLong => Error::from_raw_os_error(36),
         FillError::NotPresent => Error::from_raw_os_error(22),
     };
-    failed(name, b" can't be taken", why);
+    failed(name, b" can't be taken", why)
 }
 
 fn tell_words(number: u64) {
@@ -117,18 +120,20 @@ pub fn refusal_begun(path: &[u8], line: u64, number: u64) {
 }
 
 // A refusal at a line of a file.
-pub fn refused_at(path: &[u8], line: u64, number: u64) {
+pub fn refused_at(path: &[u8], line: u64, number: u64) -> Complained {
     refusal_begun(path, line, number);
     tell(b"\n");
     wrong();
+    Complained
 }
 
 // A refusal of all of a file.
-pub fn refused(path: &[u8], number: u64) {
+pub fn refused(path: &[u8], number: u64) -> Complained {
     tell(b"keeper: ");
     tell(path);
     tell(b": ");
     tell_refusal(number);
     tell(b"\n");
     wrong();
+    Complained
 }

@@ -1,17 +1,17 @@
 -- Lines of a group one by one.
+use Rattle.std.specs.Prelude.{None}
 use mathlib.Core.Path.{◌≡◌, refl, ap}
 use mathlib.Core.Bool.{true, false}
 use mathlib.Core.List.{List, [], ◌∷◌}
 use Prim.Native.Nat.{ℕ, zero, suc, ◌-◌, ◌<◌}
 use native.Mathlib.Omega.{arith}
 use lib.ListN.{length, drop}
-use Rattle.text.specs.declared.Parsed.{Parsed}
 use Rattle.text.specs.Bytes.{up_to, starts_of}
 use Rattle.text.specs.Number.{decimal_of}
 use Rattle.keeper_file.specs.Group.{newline, number_behind, field_in}
 
 -- a text of no lines says nothing
-pub field_none : (n : ℕ) (name : List ℕ) → field_in n name [] ≡ Parsed.Bad
+pub field_none : (n : ℕ) (name : List ℕ) → field_in n name [] ≡ None
 unfolding field_in starts_of up_to decimal_of
 field_none zero name = refl
 field_none (suc n) [] = refl

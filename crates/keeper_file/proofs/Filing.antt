@@ -1,4 +1,5 @@
 -- The file as it is written and as it is read back, by lists alone.
+use Rattle.std.specs.Prelude.{Option, Some, None}
 use mathlib.Core.Path.{◌≡◌, refl, sym, ap, ap₂, subst, ◌∙◌}
 use mathlib.Core.Bool.{false}
 use mathlib.Core.List.{List, [], ◌++◌}
@@ -10,7 +11,6 @@ use borrow.Author.Tests.{lt-ltb, le-ltb}
 use Rattle.text.specs.Bytes.{holds}
 use Rattle.text.specs.Number.{put}
 use Rattle.text.proofs.Putting.{take_put, put_put}
-use Rattle.text_lines.specs.declared.Taken.{Taken}
 use Rattle.text_lines.specs.Lines.{Got, bad, got, then, decimal_from, taken_by, got_by}
 use Rattle.text_lines.proofs.Laws.{taken_is, number_back}
 use Rattle.script.specs.Lines.{counted_of}
@@ -72,10 +72,10 @@ filed_again place h p s =
     }
 
 -- ---- Reading back
-abbrev first_line : List ℕ → Taken
+abbrev first_line : List ℕ → Option (ℕ × ℕ)
 first_line text = taken_by place_name (decimal_from 0 (2 ^ 64 - 1)) text 0
 
-first_is : (text : List ℕ) (t : Taken) → t ≡ first_line text → file_says text ≡ then (got_by text 0 t) λ place n rest. in_file place (saying newest rest)
+first_is : (text : List ℕ) (t : Option (ℕ × ℕ)) → t ≡ first_line text → file_says text ≡ then (got_by text 0 t) λ place n rest. in_file place (saying newest rest)
 unfolding file_says
 first_is text t e = ap (λ (g : Got ℕ). then g λ place n rest. in_file place (saying newest rest)) (sym (ap (got_by text 0) e ∙ taken_is place_name (decimal_from 0 (2 ^ 64 - 1)) text 0 0))
 
@@ -86,12 +86,12 @@ module _ (s : Tanks) (text : List ℕ) where
       record { number_is = a ∙ ap back_number (sym e); line_is = b ∙ ap back_line (sym e); place_is = c ∙ ap back_place (sym e); is = d ∙ ap (back_house (meaning s)) (sym e); sound = h }
 
   -- no place in the first line
-  pub back_none : (r : Back) → Sound s → Taken.Bad ≡ first_line text → r ≡ record { number = 13; line = 1; place = 0; tanks = s } → ReadsBack s text r
-  back_none r h e k = subst (ReadsBack s text) (sym k) (by_saying (bad 1) (record { number = 13; line = 1; place = 0; tanks = s }) (first_is text Taken.Bad e) refl refl refl refl h)
+  pub back_none : (r : Back) → Sound s → None ≡ first_line text → r ≡ record { number = 13; line = 1; place = 0; tanks = s } → ReadsBack s text r
+  back_none r h e k = subst (ReadsBack s text) (sym k) (by_saying (bad 1) (record { number = 13; line = 1; place = 0; tanks = s }) (first_is text None e) refl refl refl refl h)
 
-  module _ (place start : ℕ) (first : Taken.Number place start ≡ first_line text) (q : Restored) (rest : List ℕ) (behind : rest ≡ drop start text) (back : Restores s rest q) where
+  module _ (place start : ℕ) (first : Some (place, start) ≡ first_line text) (q : Restored) (rest : List ℕ) (behind : rest ≡ drop start text) (back : Restores s rest q) where
     says : file_says text ≡ in_file place (saying newest rest)
-    says = first_is text (Taken.Number place start) first ∙ ap (λ (t : List ℕ). in_file place (saying newest t)) (sym behind)
+    says = first_is text (Some (place, start)) first ∙ ap (λ (t : List ℕ). in_file place (saying newest t)) (sym behind)
 
     -- the saved text behind it is refused
     pub back_wrong : (r : Back) (n : ℕ) → 0 < q.number → n ≡ counted_of q.line → r ≡ record { number = 13; line = n; place = 0; tanks = q.tanks } → ReadsBack s text r

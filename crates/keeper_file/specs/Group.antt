@@ -1,6 +1,5 @@
 -- What a group of a log says of itself, as a message about it names it.
-use Rattle.std.specs.Prelude.{cond, List, ℕ, zero, suc, length, drop}
-use Rattle.text.specs.declared.Parsed.{Parsed}
+use Rattle.std.specs.Prelude.{cond, List, ℕ, zero, suc, length, drop, Option, None}
 use Rattle.text.specs.Bytes.{up_to, starts_of}
 use Rattle.text.specs.Number.{decimal_of}
 
@@ -9,12 +8,12 @@ abbrev pub newline : ℕ
 newline = 10
 
 -- the number that a line says behind a name
-abbrev pub number_behind : List ℕ → List ℕ → Parsed
+abbrev pub number_behind : List ℕ → List ℕ → Option ℕ
 number_behind name line = decimal_of (drop (length name) line)
 
 -- of the first n lines of a text, what the first says that begins with a name; none where none does
-unfoldable pub field_in : ℕ → List ℕ → List ℕ → Parsed
-field_in zero name text = Parsed.Bad
+unfoldable pub field_in : ℕ → List ℕ → List ℕ → Option ℕ
+field_in zero name text = None
 field_in (suc n) name text =
     cond
     (starts_of (up_to newline text) name)

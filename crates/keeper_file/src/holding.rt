@@ -9,10 +9,8 @@ pub fn hold(bytes: &mut [u8], at: usize, end: usize) -> usize
     ensures bytes_after { bytes.new ≡ moved_to_front at end bytes.old }
 {
     let n = end - at;
-    let mut i = 0;
-    while i < n {
+    for i in 0..n {
         bytes[i] = bytes[at + i];
-        i += 1;
     }
     n
 }

@@ -18,7 +18,6 @@ pub use holding::hold;
 use lists::Listed;
 pub use merging::{begin_merge, next_log, pour, settle};
 use tanks::Tanks;
-use text_lines::Taken as Line;
 
 // No file is longer: 26 bytes of its first line, and the longest saved text.
 pub const MOST: usize = 117956;
@@ -110,9 +109,9 @@ fn not_read(line: u64, tanks: Tanks) -> Back
 {
     Back {
         number: 13,
-        line: line,
+        line,
         place: 0,
-        tanks: tanks,
+        tanks,
     }
 }
 
@@ -120,10 +119,7 @@ fn not_read(line: u64, tanks: Tanks) -> Back
 fn counted(line: u64) -> u64
     ensures { result ≡ counted_of line }
 {
-    if line < 18446744073709551615 {
-        return line + 1;
-    }
-    line
+    line.saturating_add(1)
 }
 
 // The place and the tanks that a file says, or 13, its first wrong line and the tanks as they were.
@@ -131,7 +127,7 @@ pub fn read_back(s: Tanks, bytes: &[u8]) -> Back
     requires { Sound s }
     ensures { ReadsBack s bytes.now result }
 {
-    let Line::Number(place, start) = text_lines::number(bytes, 0, b"read=", 0, 18446744073709551615)
+    let Some((place, start)) = text_lines::number(bytes, 0, b"read=", 0, 18446744073709551615)
     else {
         return not_read(1, s);
     };
@@ -143,8 +139,8 @@ pub fn read_back(s: Tanks, bytes: &[u8]) -> Back
     Back {
         number: 0,
         line: 0,
-        place: place,
-        tanks: tanks,
+        place,
+        tanks,
     }
 }
 
@@ -152,21 +148,14 @@ pub fn read_back(s: Tanks, bytes: &[u8]) -> Back
 fn further(place: u64, more: usize) -> u64
     ensures { result ≡ further_by place more }
 {
-    let n = text::wide(more);
-    if n < 18446744073709551615 - place {
-        return place + n;
-    }
-    18446744073709551615
+    place.saturating_add(text::wide(more))
 }
 
 // Whether the file is to be written: where its text is another than the one that is kept.
 fn changed(kept: &[u8], next: &[u8]) -> bool
     ensures { result ≡ differs kept.now next.now }
 {
-    if text::same(kept, next) {
-        return false;
-    }
-    true
+    !text::same(kept, next)
 }
 
 // The file of a place and some tanks in the front of `next`, and whether it is to be written, since it is another than the one that is kept.
@@ -195,6 +184,6 @@ pub fn after_read(s: Tanks, place: u64, bytes: &[u8], kept: &[u8], next: &mut [u
     Fed {
         took: t,
         place: to,
-        file: file,
+        file,
     }
 }

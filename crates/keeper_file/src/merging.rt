@@ -13,10 +13,7 @@ use tanks::Tanks;
 fn sum(a: u64, b: u64) -> u64
     ensures { result ≡ further_by a b }
 {
-    if a < 18446744073709551615 - b {
-        return a + b;
-    }
-    18446744073709551615
+    a.saturating_add(b)
 }
 
 // A merge of no logs yet.

@@ -1,6 +1,6 @@
 -- A key moved to the front, place by place; the letter of a key, and of all.
 use mathlib.Core.Path.{◌≡◌, refl, sym, ap, ap₂, ◌∙◌}
-use mathlib.Core.Bool.{Bool, true, false, cond, ◌&&◌, not, false≢true}
+use mathlib.Core.Bool.{Bool, true, false, cond, ◌&&◌, ◌||◌, not, false≢true}
 use mathlib.Core.List.{List, [], ◌∷◌, ◌++◌, append_assoc, append-nil, map}
 use Prim.Native.Nat.{ℕ, zero, suc, ◌+◌, ◌%◌, ◌^◌, ◌≤◌, ◌<◌}
 use native.Mathlib.Decide.{ℕ_discrete}
@@ -8,27 +8,20 @@ use native.Mathlib.Nat.{mod-eq_of_lt}
 use native.Mathlib.Numerals.{add-one}
 use native.Mathlib.Omega.{arith}
 use lib.Dec.{eqb}
+use Rattle.std.specs.List.{list_any}
 use lib.ListN.{length, get_or, take, drop, set, length-set, drop_of_length-le, replicate}
 use lib.Seq.{drop-cons, drop-set-lt, take_all, take-suc-set, set_split}
 use borrow.Author.Tests.{le-leb, lt-leb, lt-ltb, le-ltb, eq-eqb, ne_eqb}
-use Rattle.text.specs.Bytes.{holds, up_to}
+use Rattle.text.specs.Bytes.{holds}
 use Rattle.text.specs.Number.{put}
-use Rattle.text.proofs.Finding.{held_here, held_past, held_by_length}
 use Rattle.key_names.specs.Names.{Named, is_named}
 use Rattle.key_legend.specs.Letters.{without, held_first, is_letter, initial_of, letter_of, letters_from, letters_of, strip_key, strip_keys}
 
--- ---- a key looked for
-module _ (keys : List ℕ) (key i : ℕ) (inv : holds key (drop i keys) ≡ holds key keys) where
-  module _ (h : i < length keys) where
-    pub among_here : get_or keys i 0 ≡ key → true ≡ holds key keys
-    among_here e = sym (held_here key (get_or keys i 0) (drop (suc i) keys) e) ∙ ap (holds key) (sym (drop-cons keys i 0 h)) ∙ inv
-
-    pub among_on : (get_or keys i 0 ≡ key → ⊥) → holds key (drop (i + 1) keys) ≡ holds key keys
-    among_on e = rw (add-one i) (sym (held_past key (get_or keys i 0) (drop (suc i) keys) e) ∙ ap (holds key) (sym (drop-cons keys i 0 h)) ∙ inv)
-
-  pub among_none : length keys ≤ i → false ≡ holds key keys
-  unfolding holds
-  among_none h = ap (holds key) (sym (drop_of_length-le keys h)) ∙ inv
+-- ---- a number looked for
+pub any_holds : (b : ℕ) (xs : List ℕ) → list_any (λ (x : ℕ). eqb x b) xs ≡ holds b xs
+unfolding holds
+any_holds b [] = refl
+any_holds b (x ∷ xs) = ap (λ (r : Bool). eqb x b || r) (any_holds b xs)
 
 -- ---- a key moved to the front: each key up to it moves one place on
 unfoldable pub shifted : ℕ → ℕ → List ℕ → List ℕ
@@ -88,68 +81,16 @@ module _ (hold : ℕ) (keys : List ℕ) where
   unfolding held_first
   first_none h e = rw (le-leb hold 65535 h) (rw e)
 
--- ---- a key as a strip takes it
-pub strip_some : (key k : ℕ) → key < 65536 → k ≡ key % 2 ^ 16 → k ≡ strip_key key
-strip_some key k h e = e ∙ mod-eq_of_lt (omega arith) ∙ rw (lt-ltb key 65536 h)
-
-pub strip_none : (key : ℕ) → 65536 ≤ key → 65535 ≡ strip_key key
-strip_none key h = rw (le-ltb key 65536 h)
-
-map_take : (keys : List ℕ) (i : ℕ) → i < length keys → map strip_key (take (suc i) keys) ≡ map strip_key (take i keys) ++ (strip_key (get_or keys i 0) ∷ [])
-map_take [] i h = absurd (omega arith)
-map_take (k ∷ ks) zero h = refl
-map_take (k ∷ ks) (suc i) h = ap (λ (l : List ℕ). strip_key k ∷ l) (map_take ks i (omega arith))
-
--- the first i stand
-pub strips_on : (keys all : List ℕ) (i k : ℕ) → i < length keys → length all ≡ length keys → take i all ≡ map strip_key (take i keys) → k ≡ strip_key (get_or keys i 0)
-    → (length (set all i k) ≡ length keys) × (take (i + 1) (set all i k) ≡ map strip_key (take (i + 1) keys))
-strips_on keys all i k h l e f = (
-  length-set all i k ∙ l,
-  rw (add-one i) (take-suc-set all i k (omega arith) ∙ ap₂ (λ (xs : List ℕ) (x : ℕ). xs ++ (x ∷ [])) e f ∙ sym (map_take keys i h)),
-)
-
-pub strips_all : (keys all : List ℕ) (i : ℕ) → length keys ≤ i → length all ≡ length keys → take i all ≡ map strip_key (take i keys) → all ≡ strip_keys keys
-strips_all keys all i h l e = sym (take_all i all (omega arith)) ∙ e ∙ ap (map strip_key) (take_all i keys h)
-
--- ---- the first byte of a text put at the front of blanks
-pub first_put : (s : List ℕ) (n : ℕ) → get_or (put (replicate n 0) 0 s) 0 0 ≡ get_or s 0 0
-first_put [] zero = refl
-first_put [] (suc n) = refl
-first_put (c ∷ s) n = refl
-
 -- ---- a letter
 module _ (c : ℕ) (before : List ℕ) (i : ℕ) where
-  pub letter_low : c < 97 → 49 + i ≡ cond (is_letter c && not (holds c before)) c (49 + i)
-  letter_low h = rw (lt-leb 97 c h)
+  pub letter_free : is_letter c ≡ true → holds c before ≡ false → c ≡ cond (is_letter c && not (holds c before)) c (49 + i)
+  letter_free e f = rw e (rw f)
 
-  pub letter_high : 97 ≤ c → 122 < c → 49 + i ≡ cond (is_letter c && not (holds c before)) c (49 + i)
-  letter_high l h = rw (le-leb 97 c l) (rw (lt-leb c 122 h))
+  pub letter_not : is_letter c ≡ false → 49 + i ≡ cond (is_letter c && not (holds c before)) c (49 + i)
+  letter_not e = rw e
 
-  module _ (l : 97 ≤ c) (m : c ≤ 122) (found : ℕ) (e : found ≡ 0 + length (up_to c (drop 0 before))) where
-    pub letter_taken : found < length before → 49 + i ≡ cond (is_letter c && not (holds c before)) c (49 + i)
-    letter_taken h =
-        rw (le-leb 97 c l) (rw (le-leb c 122 m) (rw (held_by_length c before ∙ lt-ltb (length (up_to c before)) (length before) (omega (arith, e)))))
-
-    pub letter_free : length before ≤ found → c ≡ cond (is_letter c && not (holds c before)) c (49 + i)
-    letter_free h =
-        rw (le-leb 97 c l) (rw (le-leb c 122 m) (rw (held_by_length c before ∙ le-ltb (length (up_to c before)) (length before) (omega (arith, e)))))
-
-module _ (names : List Named) (before : List ℕ) (i key : ℕ) where
-  pub letter_none : 65535 < key → 46 ≡ letter_of names before i key
-  letter_none h = rw (lt-ltb 65535 key h)
-
-  module _ (h : key ≤ 65535) (k : ℕ) (e : k ≡ key % 2 ^ 16) where
-    same : k ≡ key
-    same = e ∙ mod-eq_of_lt (omega arith)
-
-    pub letter_named : is_named names k ≡ true → (c r : ℕ) → c ≡ initial_of names k → r ≡ cond (is_letter c && not (holds c before)) c (49 + i) → r ≡ letter_of names before i key
-    letter_named f c r g q =
-        let at : c ≡ initial_of names key = g ∙ ap (initial_of names) same in
-        rw (le-ltb 65535 key h)
-        (rw (ap (is_named names) (sym same) ∙ f) (q ∙ ap (λ (x : ℕ). cond (is_letter x && not (holds x before)) x (49 + i)) at))
-
-    pub letter_unnamed : is_named names k ≡ false → 49 + i ≡ letter_of names before i key
-    letter_unnamed f = rw (le-ltb 65535 key h) (rw (ap (is_named names) (sym same) ∙ f))
+  pub letter_taken : is_letter c ≡ true → holds c before ≡ true → 49 + i ≡ cond (is_letter c && not (holds c before)) c (49 + i)
+  letter_taken e f = rw e (rw f)
 
 -- ---- letter after letter
 -- the first i letters stand, and the others are to come

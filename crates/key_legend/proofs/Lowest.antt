@@ -15,22 +15,17 @@ use Rattle.tank.specs.Rules.{View}
 use Rattle.tank.specs.State as state
 use Rattle.tank.proofs.Unique.{marks_carried}
 use Rattle.tanks.specs.House.{House, tank_at}
-use Rattle.key_legend.specs.declared.Whose.{Whose}
+use Rattle.styles.specs.declared.Party.{Party}
+use Rattle.std.specs.Prelude.{Option}
 use Rattle.key_legend.specs.Keys.{no_key, is_for, key_from, lowest_of, first_in, first_below, first_key, next_key, keys_from, lowest_keys}
 
 -- ---- one mark
-module _ (whose : Whose) (least : ℕ) (m : Mark) where
+module _ (whose : Option Party) (least : ℕ) (m : Mark) where
   pub key_taken : is_for whose m ≡ true → least ≤ m.key → m.key ≡ key_from whose least m
   key_taken e h = rw e (rw (le-leb least m.key h))
 
-  pub key_low : is_for whose m ≡ true → m.key < least → no_key ≡ key_from whose least m
-  key_low e h = rw e (rw (lt-leb least m.key h))
-
-  pub key_other : is_for whose m ≡ false → no_key ≡ key_from whose least m
-  key_other e = rw e
-
 -- ---- marks one after another
-module _ (whose : Whose) (least : ℕ) where
+module _ (whose : Option Party) (least : ℕ) where
   min_over : (a b c : ℕ) → min a (min b c) ≡ min (min a b) c
   min_over a b c = omega arith
 
@@ -60,7 +55,7 @@ module _ (whose : Whose) (least : ℕ) where
   lowest_all t s first e = e ∙ ap (lowest_of whose least) (sym (marks_carried s.formed))
 
 -- ---- tank by tank
-module _ (whose : Whose) (least : ℕ) (h : House) where
+module _ (whose : Option Party) (least : ℕ) (h : House) where
   pub tanks_none : no_key ≡ first_below whose least h 0
   unfolding first_below
   tanks_none = refl
@@ -75,15 +70,12 @@ module _ (whose : Whose) (least : ℕ) (h : House) where
 
 -- ---- key after key
 -- the first i of n keys stand, and those from `least` on are to come
-pub record Underway (whose : Whose) (h : House) (n : ℕ) (keys : List ℕ) (least i : ℕ) : Type 0 where
+pub record Underway (whose : Option Party) (h : House) (n : ℕ) (keys : List ℕ) (least i : ℕ) : Type 0 where
   pub long : length keys ≡ n
   pub within : i ≤ n
   pub is : take i keys ++ keys_from whose least h (n - i) ≡ lowest_keys whose h n
 
-module _ (whose : Whose) (h : House) where
-  pub keys_none : (n : ℕ) (keys : List ℕ) → length keys ≡ n → Underway whose h n keys 0 0
-  keys_none n keys l = let e : n - 0 ≡ n = omega arith in record { long = l; within = omega arith; is = ap (keys_from whose 0 h) e }
-
+module _ (whose : Option Party) (h : House) where
   pub keys_on : (n : ℕ) (keys : List ℕ) (least i key next : ℕ) → Underway whose h n keys least i → i < n → key ≡ first_key whose least h → next ≡ next_key key
       → Underway whose h n (set keys i key) next (i + 1)
   unfolding keys_from

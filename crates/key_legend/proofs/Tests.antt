@@ -9,7 +9,7 @@ use Rattle.styles.specs.declared.Party.TheVariants.{Plant, Lab}
 use Rattle.styles.specs.declared.Value.TheVariants.{Null}
 use Rattle.text.specs.Bytes.{bytes, holds}
 use Rattle.key_names.specs.Names.{Named, key_text, is_named}
-use Rattle.key_legend.specs.declared.Whose.{Whose}
+use Rattle.std.specs.Prelude.{None, Some}
 use Rattle.key_legend.specs.Keys.{no_key, lowest_of}
 use Rattle.key_legend.specs.Letters.{without, held_first, letters_from, letters_of}
 
@@ -19,19 +19,19 @@ mark who k = record { key = k; flags = 128; party = who; lamport = 1; cnt = pos 
 three : List Mark
 three = mark Plant 3 ∷ mark Plant 7 ∷ mark Lab 5 ∷ []
 
-plant_first : lowest_of (Whose.One Plant) 0 three ≡ 3
+plant_first : lowest_of (Some Plant) 0 three ≡ 3
 unfolding three mark lowest_of
 plant_first = refl
 
-plant_second : lowest_of (Whose.One Plant) 4 three ≡ 7
+plant_second : lowest_of (Some Plant) 4 three ≡ 7
 unfolding three mark lowest_of
 plant_second = refl
 
-either_second : lowest_of Whose.Either 4 three ≡ 5
+either_second : lowest_of None 4 three ≡ 5
 unfolding three mark lowest_of
 either_second = refl
 
-lab_none : lowest_of (Whose.One Lab) 6 three ≡ no_key
+lab_none : lowest_of (Some Lab) 6 three ≡ no_key
 unfolding three mark lowest_of
 lab_none = refl
 

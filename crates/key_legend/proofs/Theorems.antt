@@ -16,7 +16,8 @@ use Rattle.tanks.specs.House.{House, tank_at}
 use Rattle.text.specs.Bytes.{holds}
 use Rattle.text.proofs.Finding.{held_here, held_past}
 use Rattle.key_names.specs.Names.{Named, is_named}
-use Rattle.key_legend.specs.declared.Whose.{Whose}
+use Rattle.styles.specs.declared.Party.{Party}
+use Rattle.std.specs.Prelude.{Option}
 use Rattle.key_legend.specs.Keys.{no_key, is_for, key_from, lowest_of, first_in, first_below, first_key, next_key, keys_from}
 use Rattle.key_legend.specs.Letters.{is_letter, initial_of, is_free, letter_of, letters_from, letters_of}
 use Rattle.key_legend.proofs.Lowest.{key_taken}
@@ -86,7 +87,7 @@ letters_differ names keys j k few h m p q e = differ names keys [] 0 j k (omega 
 
 -- ---- keys
 -- a mark that is asked for has this key, in one of the eight tanks
-pub record Occurs (whose : Whose) (h : House) (k : ℕ) : Type 0 where
+pub record Occurs (whose : Option Party) (h : House) (k : ℕ) : Type 0 where
   pub tank : ℕ
   pub place : ℕ
   pub among_tanks : tank < 8
@@ -95,27 +96,27 @@ pub record Occurs (whose : Whose) (h : House) (k : ℕ) : Type 0 where
   pub key_is_lem : (get_or (carried (tank_at h tank)) place blank).key ≡ k
 
 -- no mark has a lower key
-lowest_least : (whose : Whose) (least : ℕ) (ms : List Mark) (i : ℕ) → i < length ms → is_for whose (get_or ms i blank) ≡ true → least ≤ (get_or ms i blank).key → lowest_of whose least ms ≤ (get_or ms i blank).key
+lowest_least : (whose : Option Party) (least : ℕ) (ms : List Mark) (i : ℕ) → i < length ms → is_for whose (get_or ms i blank) ≡ true → least ≤ (get_or ms i blank).key → lowest_of whose least ms ≤ (get_or ms i blank).key
 unfolding lowest_of
 lowest_least whose least [] i h a b = absurd (omega arith)
 lowest_least whose least (m ∷ ms) zero h a b = omega (arith, key_taken whose least m a b)
 lowest_least whose least (m ∷ ms) (suc i) h a b = omega (arith, lowest_least whose least ms i (omega arith) a b)
 
 -- and the lowest is that of a mark
-record Found (whose : Whose) (least : ℕ) (ms : List Mark) (k : ℕ) : Type 0 where
+record Found (whose : Option Party) (least : ℕ) (ms : List Mark) (k : ℕ) : Type 0 where
   place : ℕ
   inside : place < length ms
   asked : is_for whose (get_or ms place blank) ≡ true
   key_is_lem : (get_or ms place blank).key ≡ k
   low : least ≤ k
 
-found_first : (whose : Whose) (least : ℕ) (m : Mark) (ms : List Mark) (b : Bool) → (is_for whose m && leb least m.key) ≡ b → cond b m.key no_key < no_key → Found whose least (m ∷ ms) (cond b m.key no_key)
+found_first : (whose : Option Party) (least : ℕ) (m : Mark) (ms : List Mark) (b : Bool) → (is_for whose m && leb least m.key) ≡ b → cond b m.key no_key < no_key → Found whose least (m ∷ ms) (cond b m.key no_key)
 found_first whose least m ms true e h =
     let a = (and-eq-true_iff (is_for whose m) (leb least m.key)).0 e in
     record { place = 0; inside = omega arith; asked = a.0; key_is_lem = refl; low = leb-true least m.key a.1 }
 found_first whose least m ms false e h = absurd (omega arith)
 
-lowest_there : (whose : Whose) (least : ℕ) (ms : List Mark) → lowest_of whose least ms < no_key → Found whose least ms (lowest_of whose least ms)
+lowest_there : (whose : Option Party) (least : ℕ) (ms : List Mark) → lowest_of whose least ms < no_key → Found whose least ms (lowest_of whose least ms)
 unfolding lowest_of
 lowest_there whose least [] h = absurd (omega arith)
 lowest_there whose least (m ∷ ms) h =
@@ -141,7 +142,7 @@ apart a b e h = omega arith
 next_low : (k a : ℕ) → k + 1 ≤ a → next_key k ≤ a
 next_low k a h = omega arith
 
-module _ (whose : Whose) (h : House) where
+module _ (whose : Option Party) (h : House) where
   below_least : (least n t : ℕ) → t < n → first_below whose least h n ≤ first_in whose least (tank_at h t)
   unfolding first_below
   below_least least zero t l = absurd (omega arith)

@@ -5,20 +5,7 @@ ghost use Rattle.key_names.specs.Names.{names_of, Formed};
 ghost use Rattle.key_legend.specs.Letters.{held_first, is_letter, initial_of, letter_of, letters_of, strip_key, strip_keys, without};
 
 use key_names::Names;
-
-// Is the key one of these?
-fn among(keys: &[u64], key: u64) -> bool
-    ensures { result ≡ holds key keys.now }
-{
-    let mut i = 0;
-    while i < keys.len() {
-        if keys[i] == key {
-            return true;
-        }
-        i += 1;
-    }
-    false
-}
+use std::mem;
 
 // Moves one of the keys to the front; the others keep their order.
 fn move_first(keys: &mut [u64], key: u64)
@@ -26,15 +13,11 @@ fn move_first(keys: &mut [u64], key: u64)
     ensures { keys.new ≡ key ∷ without key keys.old }
 {
     let mut carried = key;
-    let mut i = 0;
-    while i < keys.len() {
-        let here = keys[i];
-        keys[i] = carried;
-        if here == key {
+    for place in keys.iter_mut() {
+        mem::swap(place, &mut carried);
+        if carried == key {
             return;
         }
-        carried = here;
-        i += 1;
     }
 }
 
@@ -42,10 +25,7 @@ fn move_first(keys: &mut [u64], key: u64)
 fn put_first(keys: &mut [u64], hold: u64)
     ensures { keys.new ≡ held_first hold keys.old }
 {
-    if 65535 < hold {
-        return;
-    }
-    if among(keys, hold) {
+    if hold <= 65535 && keys.contains(&hold) {
         move_first(keys, hold);
     }
 }
@@ -63,10 +43,7 @@ pub fn held_first(keys: [u64; 8], hold: u64) -> [u64; 8]
 fn strip_key(key: u64) -> u16
     ensures { result ≡ strip_key key }
 {
-    if key < 65536 {
-        return script::key_of(key);
-    }
-    65535
+    u16::try_from(key).unwrap_or(65535)
 }
 
 // The keys as the strip takes them.
@@ -74,10 +51,8 @@ pub fn strip_keys(keys: [u64; 8]) -> [u16; 8]
     ensures { result ≡ strip_keys keys }
 {
     let mut all = [65535u16; 8];
-    let mut i = 0;
-    while i < 8 {
-        all[i] = strip_key(keys[i]);
-        i += 1;
+    for (i, key) in keys.iter().enumerate() {
+        all[i] = strip_key(*key);
     }
     all
 }
@@ -97,7 +72,7 @@ fn digit(i: usize) -> u8
     requires { i < 8 }
     ensures { result ≡ 49 + i }
 {
-    49 + i as u8
+    b'1' + i as u8
 }
 
 // A letter of the alphabet that no key before has, else the place's digit.
@@ -105,16 +80,11 @@ fn letter_or(c: u8, before: &[u8], i: usize) -> u8
     requires { i < 8 }
     ensures { result ≡ cond (is_letter c && not (holds c before.now)) c (49 + i) }
 {
-    if c < b'a' {
-        return digit(i);
+    if c.is_ascii_lowercase() && !before.contains(&c) {
+        c
+    } else {
+        digit(i)
     }
-    if b'z' < c {
-        return digit(i);
-    }
-    if text::find(before, 0, c) < before.len() {
-        return digit(i);
-    }
-    c
 }
 
 // The letter of the key at a place, behind those of the keys before it.
@@ -137,11 +107,8 @@ fn put_letters(names: Names, keys: &[u64], letters: &mut [u8])
     requires { Formed names × (length keys.now ≡ length letters.old) × (length keys.now ≤ 8) }
     ensures { letters.new ≡ letters_of (names_of names) keys.now }
 {
-    let mut i = 0;
-    while i < keys.len() {
-        let c = letter_for(names, &letters[..i], i, keys[i]);
-        letters[i] = c;
-        i += 1;
+    for (i, key) in keys.iter().enumerate() {
+        letters[i] = letter_for(names, &letters[..i], i, *key);
     }
 }
 

@@ -3,12 +3,3 @@
 
 pub mod keys; // keys.rt: which keys occur
 pub mod letters; // letters.rt: the keys of the strips, and their letters
-
-use styles::Party;
-
-// Whose marks: either party's, or one's.
-#[derive(Clone, Copy)]
-pub enum Whose {
-    Either,
-    One(Party),
-}

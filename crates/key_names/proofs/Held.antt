@@ -1,4 +1,5 @@
 -- Names that are held: one more put behind the others, and a key or a word looked for among them.
+use Rattle.std.specs.Prelude.{Option, Some, None, MatchOption, is_some}
 use mathlib.Core.Path.{◌≡◌, refl, sym, ap, ap₂, ◌∙◌}
 use mathlib.Core.Bool.{Bool, true, false, cond}
 use mathlib.Core.List.{List, [], ◌∷◌, ◌++◌, append_assoc}
@@ -8,12 +9,11 @@ use native.Mathlib.Numerals.{add-one}
 use native.Mathlib.Omega.{arith}
 use lib.Dec.{ltb, eqb}
 use lib.ListN.{length, get_or, take, drop, set, length-append, length-drop, length-set, take-append-drop, replicate}
-use lib.Seq.{take-append-le, drop-append-le, take_at, drop_at, length-take-le, get_or-set_same, get_or-set_other, get_or-drop, paste, paste-suc}
-use borrow.Author.Tests.{eq-eqb, ne_eqb, lt-ltb}
+use lib.Seq.{take-append-le, drop-append-le, take_at, drop_at, length-take-le, get_or-set_same, get_or-set_other}
+use borrow.Author.Tests.{eq-eqb, ne_eqb, lt-ltb, le-ltb}
 use Rattle.text.specs.Bytes.{same_of}
 use Rattle.text.specs.Number.{put}
 use Rattle.laws.proofs.Lists.{get_d_blank}
-use Rattle.script.specs.Writing.{Puts}
 use Rattle.key_names.specs.declared.Names.{Names}
 use Rattle.key_names.specs.Names.{Named, is_name, key_text, is_named, key_named, listed, held_in, names_of, with_name, Good, AllGood, Formed, place_of}
 use Rattle.key_names.proofs.Spelled.{Sized, name_sized}
@@ -139,28 +139,6 @@ unfolding names_of AllGood
 none_held =
     (refl, refl, record { few = omega arith; keys_64 = refl; lens_64 = refl; texts_1536 = refl; short = λ i. omega (arith, get_d_blank {A = ℕ} 0 64 i); good = tt })
 
--- ---- a name put, byte by byte
-pub name_turn : (out out₀ texts : List ℕ) (at from n k : ℕ) → at + 24 ≤ length out₀ → n ≤ 24 → from + n ≤ length texts → k < n → length out ≡ length out₀ → out ≡ paste out₀ at (drop from texts) k
-    → (length (set out (at + k) (get_or texts (from + k) 0)) ≡ length out₀) × (k + 1 ≤ n) × (set out (at + k) (get_or texts (from + k) 0) ≡ paste out₀ at (drop from texts) (k + 1))
-name_turn out out₀ texts at from n k room few inside h l e = (
-  simp length-set l,
-  omega arith,
-  ap₂ (λ (d : List ℕ) (x : ℕ). set d (at + k) x) e (sym (get_or-drop from texts k 0))
-      ∙ paste-suc out₀ at (drop from texts) k 0 (omega arith) (omega (arith, length-drop from texts))
-      ∙ ap (paste out₀ at (drop from texts)) (sym (add-one k)),
-)
-
-pub name_put : (out out₀ texts : List ℕ) (at from n k : ℕ) → n ≤ 24 → from + n ≤ length texts → n ≤ k → k ≤ n → out ≡ paste out₀ at (drop from texts) k → (m : ℕ) → n ≡ m
-    → Puts out₀ at (take m (drop from texts)) 24 (at + k) out
-name_put out out₀ texts at from n k few inside h l e m f =
-    let same : k ≡ m = omega arith in
-    let long : length (take m (drop from texts)) ≡ m = length-take-le m (drop from texts) (omega (arith, length-drop from texts)) in
-    record {
-      place = omega (arith, long);
-      few = omega arith;
-      text = e ∙ ap (paste out₀ at (drop from texts)) same ∙ ap (λ (j : ℕ). take at out₀ ++ take m (drop from texts) ++ drop (at + j) out₀) (sym long);
-    }
-
 -- ---- a key looked for
 pub key_start : (f : ℕ → Named) (n key : ℕ) → place_of (listed f 0 n) key ≡ 0 + place_of (listed f 0 (n - 0)) key
 key_start f n key = let e : n - 0 ≡ n = omega arith in rw e (omega arith)
@@ -229,6 +207,11 @@ module _ (ns : Names) (key place : ℕ) (at : place ≡ place_of (names_of ns) k
 
   pub named_place : ltb place ns.count ≡ is_named (names_of ns) key
   named_place = ap₂ ltb at (sym length_names) ∙ sym (named_by (names_of ns) key)
+
+-- a key has a name where it has a place among them
+pub named_where : (ns : Names) (key : ℕ) (r : Option ℕ) → MatchOption r (place_of (names_of ns) key ≡ ns.count) (λ i. (i ≡ place_of (names_of ns) key) × (i < ns.count)) → is_some r ≡ is_named (names_of ns) key
+named_where ns key None e = sym (le-ltb (place_of (names_of ns) key) ns.count (omega arith)) ∙ named_place ns key (place_of (names_of ns) key) refl
+named_where ns key (Some i) e = sym (lt-ltb i ns.count e.1) ∙ named_place ns key i e.0
 
 -- ---- a word looked for
 pub word_start : (f : ℕ → Named) (n : ℕ) (word : List ℕ) → key_named (listed f 0 (n - 0)) word ≡ key_named (listed f 0 n) word

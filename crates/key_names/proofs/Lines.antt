@@ -1,46 +1,21 @@
 -- Lines of names as the code reads them: one line, the next line of a text, and all of them.
+use Rattle.std.specs.Prelude.{Option, Some, None}
 use mathlib.Core.Path.{◌≡◌, refl, sym, ap, ◌∙◌}
 use mathlib.Core.Bool.{Bool, true, false, cond}
 use mathlib.Core.List.{List, [], ◌∷◌, ◌++◌, append_assoc, append-nil}
-use mathlib.Core.Option.{Option, none, some}
-use Prim.Native.Nat.{ℕ, zero, suc, ◌+◌, ◌-◌, ◌%◌, ◌^◌, ◌≤◌, ◌<◌}
-use native.Mathlib.Nat.{mod-eq_of_lt}
+use Prim.Native.Nat.{ℕ, zero, suc, ◌+◌, ◌-◌, ◌≤◌, ◌<◌}
 use native.Mathlib.Omega.{arith}
 use lib.ListN.{length, take, drop, length-drop, drop_of_length-le}
 use lib.Seq.{take-take, drop-drop}
-use borrow.Author.Tests.{le-leb, lt-leb, lt-ltb, le-ltb, ne_eqb}
-use Rattle.text.specs.declared.Parsed.{Parsed}
+use borrow.Author.Tests.{lt-ltb, le-ltb, ne_eqb}
 use Rattle.text.specs.Bytes.{up_to, holds, starts_of}
-use Rattle.text.specs.Number.{decimal_of}
 use Rattle.text.proofs.Finding.{front_take, front_length, front_part, held_by_length}
 use Rattle.text.proofs.Prefix.{rest_part}
 use Rattle.text_lines.specs.Lines.{Got, bad, got, then, behind, named, line, decimal_from}
 use Rattle.text_lines.proofs.Ends.{held_inside}
 use Rattle.key_names.specs.declared.Names.{Names}
 use Rattle.key_names.specs.declared.NamesRead.{NamesRead}
-use Rattle.key_names.specs.declared.NameLine.{NameLine}
 use Rattle.key_names.specs.Names.{Named, is_name, keyed, name_line, ahead, name_lines, names_in, names_said, wrong_line, placed, line_from, names_of, with_name, Formed, ReadsNames, said_next, NextLine}
-
--- ---- a name and a number
-module _ (name number : List ℕ) (next : ℕ) where
-  pub no_number : decimal_of number ≡ Parsed.Bad → NameLine.Bad ≡ placed next (keyed name (decimal_from 0 65535 number))
-  no_number e = rw e
-
-  module _ (key : ℕ) (e : decimal_of number ≡ Parsed.Number key) where
-    pub key_over : 65535 < key → NameLine.Bad ≡ placed next (keyed name (decimal_from 0 65535 number))
-    key_over h = rw e (rw (le-leb 0 key (omega arith)) (rw (lt-leb key 65535 h)))
-
-    module _ (h : key ≤ 65535) where
-      good_number : decimal_from 0 65535 number ≡ some key
-      good_number = rw e (rw (le-leb 0 key (omega arith)) (rw (le-leb key 65535 h)))
-
-      pub no_name : is_name name ≡ false → NameLine.Bad ≡ placed next (keyed name (decimal_from 0 65535 number))
-      no_name f = rw good_number (rw f)
-
-      pub good_line : (k : ℕ) → k ≡ key % 2 ^ 16 → is_name name ≡ true → NameLine.Line k (length name) next ≡ placed next (keyed name (decimal_from 0 65535 number))
-      good_line k m f =
-          let same : k ≡ key = m ∙ mod-eq_of_lt (omega arith) in
-          rw good_number (rw f (ap (λ (j : ℕ). NameLine.Line j (length name) next) same))
 
 -- ---- a line without its newline
 module _ (l : List ℕ) (next equals : ℕ) (e : equals ≡ 0 + length (up_to 61 (drop 0 l))) where
@@ -55,7 +30,7 @@ module _ (l : List ℕ) (next equals : ℕ) (e : equals ≡ 0 + length (up_to 61
       (rw (front_part 61 l 0 equals e)
       (ap (λ (k : ℕ). placed next (keyed (up_to 61 l) (decimal_from 0 65535 (drop (k + 1) l)))) place)))
 
-  pub said_none : length l ≤ equals → NameLine.Bad ≡ placed next (name_line l)
+  pub said_none : length l ≤ equals → None ≡ placed next (name_line l)
   unfolding name_line
   said_none h = rw (held_by_length 61 l ∙ le-ltb (length (up_to 61 l)) (length l) (omega (arith, place)))
 
@@ -67,7 +42,7 @@ module _ (text : List ℕ) (from newline : ℕ) (e : newline ≡ from + length (
       rw (held_by_length 10 (drop from text) ∙ lt-ltb (length (up_to 10 (drop from text))) (length (drop from text)) (omega (arith, length-drop from text)))
       (rw (front_part 10 text from newline e) (ap (λ (k : ℕ). placed (k + 1) (name_line (up_to 10 (drop from text)))) e))
 
-  pub line_none : length text ≤ newline → NameLine.Bad ≡ line_from text from
+  pub line_none : length text ≤ newline → None ≡ line_from text from
   unfolding line_from
   line_none h =
       rw (held_by_length 10 (drop from text) ∙ le-ltb (length (up_to 10 (drop from text))) (length (drop from text)) (omega (arith, length-drop from text)))
@@ -77,21 +52,21 @@ pub record Line (l : List ℕ) (a : Named) : Type 0 where
   pub equals : holds 61 l ≡ true
   pub name_is : a.name ≡ up_to 61 l
   pub good : is_name a.name ≡ true
-  pub number : decimal_from 0 65535 (drop (length (up_to 61 l) + 1) l) ≡ some a.key
+  pub number : decimal_from 0 65535 (drop (length (up_to 61 l) + 1) l) ≡ Some a.key
 
-keyed_some : (name : List ℕ) (o : Option ℕ) (a : Named) → keyed name o ≡ some a → (a.name ≡ name) × (is_name a.name ≡ true) × (o ≡ some a.key)
-keyed_some name none a e = let z : ◌≡◌ {A = ℕ} 0 1 = cc in absurd (omega arith)
-keyed_some name (some k) a e = by (is_name name) refl e where
-  by : (b : Bool) → is_name name ≡ b → cond b (some (record { key = k; name = name })) none ≡ some a → (a.name ≡ name) × (is_name a.name ≡ true) × (some k ≡ some a.key)
+keyed_some : (name : List ℕ) (o : Option ℕ) (a : Named) → keyed name o ≡ Some a → (a.name ≡ name) × (is_name a.name ≡ true) × (o ≡ Some a.key)
+keyed_some name None a e = let z : ◌≡◌ {A = ℕ} 0 1 = cc in absurd (omega arith)
+keyed_some name (Some k) a e = by (is_name name) refl e where
+  by : (b : Bool) → is_name name ≡ b → cond b (Some (record { key = k; name = name })) None ≡ Some a → (a.name ≡ name) × (is_name a.name ≡ true) × (Some k ≡ Some a.key)
   by true f g =
       let w : record { key = k; name = name } ≡ a = cc in
       rw (← w) (refl, f, refl)
   by false f g = let z : ◌≡◌ {A = ℕ} 0 1 = cc in absurd (omega arith)
 
-pub line_good : (l : List ℕ) (a : Named) → name_line l ≡ some a → Line l a
+pub line_good : (l : List ℕ) (a : Named) → name_line l ≡ Some a → Line l a
 unfolding name_line
 line_good l a e = by (holds 61 l) refl e where
-  by : (b : Bool) → holds 61 l ≡ b → cond b (keyed (up_to 61 l) (decimal_from 0 65535 (drop (length (up_to 61 l) + 1) l))) none ≡ some a → Line l a
+  by : (b : Bool) → holds 61 l ≡ b → cond b (keyed (up_to 61 l) (decimal_from 0 65535 (drop (length (up_to 61 l) + 1) l))) None ≡ Some a → Line l a
   by true f g =
       let k = keyed_some (up_to 61 l) (decimal_from 0 65535 (drop (length (up_to 61 l) + 1) l)) a g in
       record { equals = f; name_is = k.0; good = k.1; number = k.2 }
@@ -142,12 +117,12 @@ module _ (text : List ℕ) (from count : ℕ) (inside : from < length text) wher
 
     found : (o : Option Named) → name_line (up_to 10 (drop from text)) ≡ o → holds 10 (drop from text) ≡ true → NextLine text from count (placed (from + length (up_to 10 (drop from text)) + 1) o)
     unfolding line after
-    found none e h =
+    found None e h =
         record {
           is = first ∙ rw h (rw (unnamed (up_to 10 (drop from text))) (rw e));
           fits = tt;
         }
-    found (some a) e h =
+    found (Some a) e h =
         let w = line_good (up_to 10 (drop from text)) a e in
         let d : drop (from + length (up_to 10 (drop from text)) + 1) text ≡ behind (drop from text) =
         ap (λ (k : ℕ). drop k text) place_next ∙ sym (drop-drop (length (up_to 10 (drop from text)) + 1) from text) in
@@ -168,11 +143,11 @@ module _ (text : List ℕ) (from count : ℕ) (inside : from < length text) wher
     unfolding line_from line after
     next_here = by (holds 10 (drop from text)) refl where
       by : (b : Bool) → holds 10 (drop from text) ≡ b
-          → NextLine text from count (cond b (placed (from + length (up_to 10 (drop from text)) + 1) (name_line (up_to 10 (drop from text)))) NameLine.Bad)
+          → NextLine text from count (cond b (placed (from + length (up_to 10 (drop from text)) + 1) (name_line (up_to 10 (drop from text)))) None)
       by true h = found (name_line (up_to 10 (drop from text))) refl h
       by false h = record { is = first ∙ rw h; fits = tt }
 
-  pub next_over : count ≤ 64 → 64 ≤ count → NextLine text from count NameLine.Bad
+  pub next_over : count ≤ 64 → 64 ≤ count → NextLine text from count None
   next_over h l =
       let k : 64 - count ≡ 0 = omega arith in
       record { is = rw k (lines_over count (drop from text) (omega (arith, length-drop from text))); fits = tt }
@@ -202,21 +177,21 @@ underway_none text ns e =
     }
 
 module _ (text : List ℕ) (ns : Names) (from : ℕ) (u : Underway text ns from) where
-  reads : (l : NameLine) → NextLine text from ns.count l → names_in text ≡ ahead (names_of ns) (said_next text from ns.count l)
+  reads : (l : Option (ℕ × ℕ × ℕ)) → NextLine text from ns.count l → names_in text ≡ ahead (names_of ns) (said_next text from ns.count l)
   reads l e = u.is ∙ ap (ahead (names_of ns)) e.is
 
-  pub wrong_read : NextLine text from ns.count NameLine.Bad → (r : NamesRead) → (r.line ≡ ns.count + 1) × (names_of r.names ≡ []) × Formed r.names → ReadsNames text r
+  pub wrong_read : NextLine text from ns.count None → (r : NamesRead) → (r.line ≡ ns.count + 1) × (names_of r.names ≡ []) × Formed r.names → ReadsNames text r
   wrong_read e r w =
-      let b = reads NameLine.Bad e in
+      let b = reads None e in
       record { formed = w.2; line = w.0 ∙ sym (ap wrong_line b); names = w.1 ∙ sym (ap names_said b) }
 
-  pub name_read : (key len next : ℕ) → NextLine text from ns.count (NameLine.Line key len next) → (more : Names)
+  pub name_read : (key len next : ℕ) → NextLine text from ns.count (Some (key, len, next)) → (more : Names)
       → Formed more × (more.count ≡ ns.count + 1) × (names_of more ≡ with_name (names_of ns) key (take len (drop from text))) → Underway text more next
   name_read key len next e more w =
       record {
         formed = w.0;
         inside = e.fits.within;
-        is = reads (NameLine.Line key len next) e
+        is = reads (Some (key, len, next)) e
             ∙ ahead_ahead (names_of ns) (record { key = key; name = take len (drop from text) } ∷ []) (name_lines (64 - (ns.count + 1)) (ns.count + 1) (drop next text))
             ∙ rw w.2 (rw w.1);
       }

@@ -1,43 +1,15 @@
--- A byte that a name may have, by the tests of the code; and a name byte by byte.
+-- A name byte by byte.
 use mathlib.Core.Path.{◌≡◌, refl, sym, ap, ◌∙◌}
 use mathlib.Core.Bool.{Bool, true, false, ◌&&◌, and-eq-true_iff}
 use mathlib.Core.List.{List}
 use Prim.Native.Nat.{ℕ, suc, ◌+◌, ◌≤◌, ◌<◌}
-use native.Mathlib.Decide.{dec_lt}
 use native.Mathlib.Numerals.{add-one}
 use native.Mathlib.Omega.{arith}
-use lib.Dec.{ltb, leb}
+use lib.Dec.{leb}
 use lib.ListN.{length, get_or, drop, drop_of_length-le}
 use lib.Seq.{drop-cons}
-use borrow.Author.Tests.{leb-true, le-leb, lt-leb, lt-ltb, le-ltb, ne_eqb}
+use borrow.Author.Tests.{leb-true, le-leb, lt-leb}
 use Rattle.key_names.specs.Names.{in_name, all_in_name, is_name}
-
-module _ (c : ℕ) where
-  pub in_under : c ≡ 95 → true ≡ in_name c
-  in_under e = rw e
-
-  pub in_dash : c ≡ 45 → true ≡ in_name c
-  in_dash e = rw e
-
-  module _ (u : c ≡ 95 → ⊥) (d : c ≡ 45 → ⊥) where
-    pub in_low : c < 48 → false ≡ in_name c
-    in_low h = rw (lt-leb 97 c (omega arith)) (rw (lt-leb 48 c (omega arith)) (rw (ne_eqb c 95 u) (rw (ne_eqb c 45 d))))
-
-    pub in_digit : 48 ≤ c → c < 58 → true ≡ in_name c
-    in_digit h l = rw (lt-leb 97 c (omega arith)) (rw (le-leb 48 c h) (rw (le-leb c 57 (omega arith))))
-
-    pub in_between : 58 ≤ c → c < 97 → false ≡ in_name c
-    in_between h l =
-        rw (lt-leb 97 c (omega arith)) (rw (le-leb 48 c (omega arith)) (rw (lt-leb c 57 (omega arith)) (rw (ne_eqb c 95 u) (rw (ne_eqb c 45 d)))))
-
-    pub in_letter : 97 ≤ c → ltb c 123 ≡ in_name c
-    in_letter h =
-        elim (dec_lt c 123) [
-          | yes l ↦ lt-ltb c 123 l ∙ rw (le-leb 97 c h) (rw (le-leb c 122 (omega arith)))
-          | no l ↦
-              le-ltb c 123 (omega arith)
-              ∙ rw (le-leb 97 c h) (rw (lt-leb c 122 (omega arith)) (rw (le-leb 48 c (omega arith)) (rw (lt-leb c 57 (omega arith)) (rw (ne_eqb c 95 u) (rw (ne_eqb c 45 d))))))
-        ]
 
 -- ---- a name
 and_false : (b : Bool) → false ≡ (b && false)

@@ -1,9 +1,9 @@
 -- What is accepted is exactly the lines of the names that it says; the lines of any at most 64 good names are accepted; and the line that is
 -- told is the first wrong one, of which there is one.
+use Rattle.std.specs.Prelude.{Option, Some, None}
 use mathlib.Core.Path.{◌≡◌, refl, sym, ap, ap₂, ◌∙◌}
 use mathlib.Core.Bool.{Bool, true, false, cond, ◌&&◌, and-eq-true_iff}
 use mathlib.Core.List.{List, [], ◌∷◌, ◌++◌, append_assoc, append-nil}
-use mathlib.Core.Option.{Option, none, some}
 use Prim.Native.Nat.{ℕ, zero, suc, ◌+◌, ◌-◌, ◌≤◌, ◌<◌}
 use native.Mathlib.Decide.{ℕ_discrete}
 use native.Mathlib.Omega.{arith}
@@ -11,7 +11,6 @@ use lib.Dec.{leb}
 use lib.ListN.{length, drop, length-append}
 use lib.Seq.{append_snoc, drop-append-add}
 use borrow.Author.Tests.{leb-true, le-leb}
-use Rattle.text.specs.declared.Parsed.{Parsed}
 use Rattle.text.specs.Bytes.{bytes, up_to, holds}
 use Rattle.text.specs.Number.{decimal_of, decimal_text}
 use Rattle.text.proofs.Finding.{held_past}
@@ -30,17 +29,17 @@ use Rattle.key_names.proofs.Splits.{front_text, held_text, held_split, name_lack
 abbrev word_of : Named → List ℕ
 word_of a = a.name ++ bytes "=" ++ decimal_text a.key
 
-within_some : (p : Parsed) (v : ℕ) → within 0 65535 p ≡ some v → (p ≡ Parsed.Number v) × (v ≤ 65535)
-within_some Parsed.Bad v e = let z : ◌≡◌ {A = ℕ} 0 1 = cc in absurd (omega arith)
-within_some (Parsed.Number w) v e = by (leb 0 w && leb w 65535) refl e where
-  by : (b : Bool) → (leb 0 w && leb w 65535) ≡ b → cond b (some w) none ≡ some v → (Parsed.Number w ≡ Parsed.Number v) × (v ≤ 65535)
+within_some : (p : Option ℕ) (v : ℕ) → within 0 65535 p ≡ Some v → (p ≡ Some v) × (v ≤ 65535)
+within_some None v e = let z : ◌≡◌ {A = ℕ} 0 1 = cc in absurd (omega arith)
+within_some (Some w) v e = by (leb 0 w && leb w 65535) refl e where
+  by : (b : Bool) → (leb 0 w && leb w 65535) ≡ b → cond b (Some w) None ≡ Some v → (Some w ≡ Some v) × (v ≤ 65535)
   by true h f =
       let q : w ≡ v = cc in
-      (ap Parsed.Number q, omega (arith, q, leb-true w 65535 ((and-eq-true_iff (leb 0 w) (leb w 65535)).0 h).1))
+      (ap Some q, omega (arith, q, leb-true w 65535 ((and-eq-true_iff (leb 0 w) (leb w 65535)).0 h).1))
   by false h f = let z : ◌≡◌ {A = ℕ} 0 1 = cc in absurd (omega arith)
 
 -- a good line is that of the name that it says
-word_only : (l : List ℕ) (a : Named) → name_line l ≡ some a → (l ≡ word_of a) × Good a
+word_only : (l : List ℕ) (a : Named) → name_line l ≡ Some a → (l ≡ word_of a) × Good a
 word_only l a e =
     let w = line_good l a e in
     let rest : List ℕ = drop (length (up_to 61 l) + 1) l in
@@ -52,14 +51,14 @@ word_only l a e =
     )
 
 -- and the line of a good name says it
-word_back : (a : Named) → Good a → name_line (word_of a) ≡ some a
+word_back : (a : Named) → Good a → name_line (word_of a) ≡ Some a
 unfolding name_line
 word_back a g =
     let s = name_sized a.name g.good_name in
     let free : holds 61 a.name ≡ false = name_lacks 61 refl a.name s.all in
     let digits : List ℕ = decimal_text a.key in
     let low = g.key_most in
-    let number : decimal_from 0 65535 digits ≡ some a.key = rw (decimal_back a.key (omega arith)) (rw (le-leb 0 a.key (omega arith)) (rw (le-leb a.key 65535 low))) in
+    let number : decimal_from 0 65535 digits ≡ Some a.key = rw (decimal_back a.key (omega arith)) (rw (le-leb 0 a.key (omega arith)) (rw (le-leb a.key 65535 low))) in
     rw (append_snoc a.name 61 digits)
     (rw (held_text 61 a.name digits free)
     (rw (front_text 61 a.name digits free)
@@ -224,8 +223,8 @@ line_bad : (n : ℕ) (text : List ℕ) (m : ℕ) → line [] name_line n text �
 unfolding line
 line_bad n text m e = by (holds 10 text) (named [] name_line (up_to 10 text)) e where
   by : (b : Bool) (o : Option Named) → cond b (said n (behind text) o) (bad (n + 1)) ≡ bad m → m ≡ n + 1
-  by true none f = cc
-  by true (some v) f = let z : ◌≡◌ {A = ℕ} 0 1 = cc in absurd (omega arith)
+  by true None f = cc
+  by true (Some v) f = let z : ◌≡◌ {A = ℕ} 0 1 = cc in absurd (omega arith)
   by false o f = cc
 
 first_bad : (k n : ℕ) (text : List ℕ) (m : ℕ) → 0 < length text → line [] name_line n text ≡ bad m → FirstWrong k n text m

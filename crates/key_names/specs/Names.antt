@@ -1,12 +1,10 @@
 -- Names of keys, as a text of lines `name=key`: what a name is, what a text says, how names are held, and what a key is called.
-use Rattle.std.specs.Prelude.{◌≡◌, Bool, true, false, cond, ◌&&◌, ◌||◌, List, [], ◌∷◌, ◌++◌, ℕ, zero, suc, ◌+◌, ◌-◌, ◌*◌, ◌≤◌, ◌<◌, leb, eqb, length, get_or, take, drop}
-use Rattle.std.proofs.Math.Option.{Option, none, some}
+use Rattle.std.specs.Prelude.{◌≡◌, Bool, true, false, cond, ◌&&◌, ◌||◌, List, [], ◌∷◌, ◌++◌, ℕ, zero, suc, ◌+◌, ◌-◌, ◌*◌, ◌≤◌, ◌<◌, leb, eqb, length, get_or, take, drop, Option, Some, None}
 use Rattle.text.specs.Bytes.{bytes, up_to, holds, same_of}
 use Rattle.text.specs.Number.{decimal_text}
 use Rattle.text_lines.specs.Lines.{Got, bad, got, then, ended, line, decimal_from, word_text}
 use Rattle.key_names.specs.declared.Names.{Names}
 use Rattle.key_names.specs.declared.NamesRead.{NamesRead}
-use Rattle.key_names.specs.declared.NameLine.{NameLine}
 
 -- a key and a name of it
 pub record Named : Type 0 where
@@ -30,12 +28,12 @@ is_name s = (leb 1 (length s) && leb (length s) 24) && all_in_name s
 -- ---- What a text says
 -- a name and a number, where both are good: a key is at most 65535
 abbrev pub keyed : List ℕ → Option ℕ → Option Named
-keyed name none = none
-keyed name (some k) = cond (is_name name) (some (record { key = k; name = name })) none
+keyed name None = None
+keyed name (Some k) = cond (is_name name) (Some (record { key = k; name = name })) None
 
 -- what a line says, without its newline: a name, `=`, and a decimal without leading zeros
 unfoldable pub name_line : List ℕ → Option Named
-name_line l = cond (holds 61 l) (keyed (up_to 61 l) (decimal_from 0 65535 (drop (length (up_to 61 l) + 1) l))) none
+name_line l = cond (holds 61 l) (keyed (up_to 61 l) (decimal_from 0 65535 (drop (length (up_to 61 l) + 1) l))) None
 
 -- names in front of those that were read
 abbrev pub ahead : List Named → Got (List Named) → Got (List Named)
@@ -133,14 +131,14 @@ names_text (a ∷ bs) = name_text a ++ names_text bs
 
 -- ---- What the code hands back of a line
 -- a key, how long its name is, and the place behind its line
-abbrev pub placed : ℕ → Option Named → NameLine
-placed next none = NameLine.Bad
-placed next (some a) = NameLine.Line a.key (length a.name) next
+abbrev pub placed : ℕ → Option Named → Option (ℕ × ℕ × ℕ)
+placed next None = None
+placed next (Some a) = Some (a.key, length a.name, next)
 
 -- the line from a place of a text on
-unfoldable pub line_from : List ℕ → ℕ → NameLine
+unfoldable pub line_from : List ℕ → ℕ → Option (ℕ × ℕ × ℕ)
 line_from text from =
-    cond (holds 10 (drop from text)) (placed (from + length (up_to 10 (drop from text)) + 1) (name_line (up_to 10 (drop from text)))) NameLine.Bad
+    cond (holds 10 (drop from text)) (placed (from + length (up_to 10 (drop from text)) + 1) (name_line (up_to 10 (drop from text)))) None
 
 -- the place of a key among names: their number where it has none
 unfoldable pub place_of : List Named → ℕ → ℕ
@@ -149,9 +147,9 @@ place_of (a ∷ bs) key = cond (eqb a.key key) 0 (suc (place_of bs key))
 
 -- ---- What the loop over lines is told of the next one, with so many names read
 -- what the lines from there on say
-abbrev pub said_next : List ℕ → ℕ → ℕ → NameLine → Got (List Named)
-said_next text from count NameLine.Bad = bad (count + 1)
-said_next text from count (NameLine.Line key len next) =
+abbrev pub said_next : List ℕ → ℕ → ℕ → Option (ℕ × ℕ × ℕ) → Got (List Named)
+said_next text from count None = bad (count + 1)
+said_next text from count (Some (key, len, next)) =
     ahead (record { key = key; name = take len (drop from text) } ∷ []) (name_lines (64 - (count + 1)) (count + 1) (drop next text))
 
 -- a name that was read, and the place behind its line
@@ -163,11 +161,11 @@ pub record LineFits (text : List ℕ) (from count len next : ℕ) : Type 0 where
   pub within : next ≤ length text
 
 -- of a line that is wrong nothing is known
-abbrev pub FitsNext : List ℕ → ℕ → ℕ → NameLine → Type 0
-FitsNext text from count NameLine.Bad = Unit {0}
-FitsNext text from count (NameLine.Line key len next) = LineFits text from count len next
+abbrev pub FitsNext : List ℕ → ℕ → ℕ → Option (ℕ × ℕ × ℕ) → Type 0
+FitsNext text from count None = Unit {0}
+FitsNext text from count (Some (key, len, next)) = LineFits text from count len next
 
 -- the next line: what the text says from there on, and that its name is good and stands inside
-pub record NextLine (text : List ℕ) (from count : ℕ) (r : NameLine) : Type 0 where
+pub record NextLine (text : List ℕ) (from count : ℕ) (r : Option (ℕ × ℕ × ℕ)) : Type 0 where
   pub is : name_lines (64 - count) count (drop from text) ≡ said_next text from count r
   pub fits : FitsNext text from count r

@@ -1,13 +1,11 @@
 // Names of keys, from a text of lines such as `hold=7`.
 #![tactic(auto)]
 
-ghost use Rattle.std.specs.Prelude.{◌≡◌, true, [], ℕ, ◌+◌, ◌*◌, ◌≤◌, ◌<◌, length, get_or, take, drop};
+ghost use Rattle.std.specs.Prelude.{◌≡◌, true, [], ℕ, ◌+◌, ◌*◌, ◌≤◌, ◌<◌, MatchOption, length, get_or, take, drop};
 ghost use Rattle.script.specs.Writing.{Puts};
 ghost use Rattle.text.specs.Bytes.{same_of};
 ghost use Rattle.text_lines.specs.Lines.{decimal_from};
 ghost use Rattle.key_names.specs.Names.{in_name, is_name, keyed, name_line, placed, line_from, key_text, is_named, key_named, place_of, listed, held_in, names_of, with_name, Formed, ReadsNames, NextLine};
-
-use text::Parsed;
 
 // So many names: the key, the length and the 24 bytes of each at its place. Of a key that is named twice the first name holds, and of a
 // name that stands twice the first key.
@@ -26,13 +24,6 @@ pub struct NamesRead {
     pub names: Names,
 }
 
-// A line that names a key: the key, the length of its name and where the next line begins; or that it is wrong.
-#[derive(Clone, Copy)]
-enum NameLine {
-    Bad,
-    Line(u16, usize, usize),
-}
-
 // No names.
 pub fn none() -> Names
     ensures { (names_of result ≡ []) × (result.count ≡ 0) × Formed result }
@@ -49,22 +40,7 @@ pub fn none() -> Names
 fn in_name(c: u8) -> bool
     ensures { result ≡ in_name c }
 {
-    if c == b'_' {
-        return true;
-    }
-    if c == b'-' {
-        return true;
-    }
-    if c < 48 {
-        return false;
-    }
-    if c < 58 {
-        return true;
-    }
-    if c < 97 {
-        return false;
-    }
-    c < 123
+    matches!(c, b'a'..=b'z' | b'0'..=b'9' | b'_' | b'-')
 }
 
 // Is it a name, of 1 to 24 bytes?
@@ -77,11 +53,8 @@ fn is_name(s: &[u8]) -> bool
     if 24 < s.len() {
         return false;
     }
-    let mut i = 0;
-    while i < s.len() {
-        if in_name(s[i]) {
-            i += 1;
-        } else {
+    for c in s {
+        if !in_name(*c) {
             return false;
         }
     }
@@ -89,23 +62,18 @@ fn is_name(s: &[u8]) -> bool
 }
 
 // A line of a name and a number, where they are good.
-fn line_of(name: &[u8], number: &[u8], next: usize) -> NameLine
+fn line_of(name: &[u8], number: &[u8], next: usize) -> Option<(u16, usize, usize)>
     ensures { result ≡ placed next (keyed name.now (decimal_from 0 65535 number.now)) }
 {
-    let Parsed::Number(key) = text::decimal(number) else {
-        return NameLine::Bad;
-    };
-    if 65535 < key {
-        return NameLine::Bad;
-    }
+    let key = u16::try_from(text::decimal(number)?).ok()?;
     if is_name(name) {
-        return NameLine::Line(script::key_of(key), name.len(), next);
+        return Some((key, name.len(), next));
     }
-    NameLine::Bad
+    None
 }
 
 // What a line says, without its newline.
-fn line_said(line: &[u8], next: usize) -> NameLine
+fn line_said(line: &[u8], next: usize) -> Option<(u16, usize, usize)>
     ensures { result ≡ placed next (name_line line.now) }
 {
     let from = 0;
@@ -114,11 +82,11 @@ fn line_said(line: &[u8], next: usize) -> NameLine
         let number = equals + 1;
         return line_of(&line[from..equals], &line[number..], next);
     }
-    NameLine::Bad
+    None
 }
 
 // The line that begins at a place: it ends in a newline.
-fn line_at(bytes: &[u8], from: usize) -> NameLine
+fn line_at(bytes: &[u8], from: usize) -> Option<(u16, usize, usize)>
     requires { from ≤ length bytes.now }
     ensures { result ≡ line_from bytes.now from }
 {
@@ -126,7 +94,7 @@ fn line_at(bytes: &[u8], from: usize) -> NameLine
     if newline < bytes.len() {
         return line_said(&bytes[from..newline], newline + 1);
     }
-    NameLine::Bad
+    None
 }
 
 // One name more.
@@ -143,9 +111,9 @@ fn with(names: Names, key: u16, name: &[u8]) -> Names
     text::put(&mut texts, i * 24, name);
     Names {
         count: i + 1,
-        keys: keys,
-        lens: lens,
-        texts: texts,
+        keys,
+        lens,
+        texts,
     }
 }
 
@@ -159,14 +127,14 @@ fn with_part(names: Names, key: u16, bytes: &[u8], from: usize, len: usize) -> N
 }
 
 // The line that begins at a place, behind so many names; a line more than 64 is wrong.
-fn next_line(bytes: &[u8], from: usize, count: usize) -> NameLine
+fn next_line(bytes: &[u8], from: usize, count: usize) -> Option<(u16, usize, usize)>
     requires { (count ≤ 64) × (from < length bytes.now) }
     ensures { NextLine bytes.now from count result }
 {
     if count < 64 {
         return line_at(bytes, from);
     }
-    NameLine::Bad
+    None
 }
 
 // The line behind so many good ones is wrong.
@@ -186,18 +154,14 @@ pub fn read(bytes: &[u8]) -> NamesRead
 {
     let mut names = none();
     let mut from = 0;
+    // A turn moves by a line: its length is not known before.
     while from < bytes.len() {
         let count = names.count;
-        let l = next_line(bytes, from, count);
-        match l {
-            NameLine::Bad => {
-                return wrong(count);
-            }
-            NameLine::Line(key, len, next) => {
-                names = with_part(names, key, bytes, from, len);
-                from = next;
-            }
-        }
+        let Some((key, len, next)) = next_line(bytes, from, count) else {
+            return wrong(count);
+        };
+        names = with_part(names, key, bytes, from, len);
+        from = next;
     }
     NamesRead {
         line: 0,
@@ -205,20 +169,17 @@ pub fn read(bytes: &[u8]) -> NamesRead
     }
 }
 
-// The place of a key among the names, and how many there are where it has none.
-fn place_of(names: Names, key: u16) -> usize
+// The place of a key among the names, where it has one.
+fn place_of(names: Names, key: u16) -> Option<usize>
     requires { Formed names }
-    ensures { (result ≡ place_of (names_of names) key) × (result ≤ names.count) }
+    ensures { MatchOption result (place_of (names_of names) key ≡ names.count) (λ i. (i ≡ place_of (names_of names) key) × (i < names.count)) }
 {
-    let n = names.count;
-    let mut i = 0;
-    while i < n {
+    for i in 0..names.count {
         if names.keys[i] == key {
-            return i;
+            return Some(i);
         }
-        i += 1;
     }
-    i
+    None
 }
 
 // Puts the name at a place of all.
@@ -227,13 +188,8 @@ fn put_name(out: &mut [u8], at: usize, names: Names, i: usize) -> usize
     ensures { Puts out.old at (held_in names.keys names.lens names.texts i).name 24 result out.new }
 {
     let from = i * 24;
-    let n = text::wide8(names.lens[i]) as usize;
-    let mut k = 0;
-    while k < n {
-        out[at + k] = names.texts[from + k];
-        k += 1;
-    }
-    at + k
+    let len = usize::from(names.lens[i]);
+    text::put(out, at, &names.texts[from..from + len])
 }
 
 // Puts `key` and the number of a key.
@@ -250,11 +206,10 @@ pub fn put_key(out: &mut [u8], at: usize, names: Names, key: u16) -> usize
     requires { Formed names × (at + 24 ≤ length out.old) }
     ensures { Puts out.old at (key_text (names_of names) key) 24 result out.new }
 {
-    let i = place_of(names, key);
-    if i < names.count {
-        return put_name(out, at, names, i);
+    match place_of(names, key) {
+        Some(i) => put_name(out, at, names, i),
+        None => put_number(out, at, key),
     }
-    put_number(out, at, key)
 }
 
 // Has the key a name?
@@ -262,7 +217,7 @@ pub fn is_named(names: Names, key: u16) -> bool
     requires { Formed names }
     ensures { result ≡ is_named (names_of names) key }
 {
-    place_of(names, key) < names.count
+    place_of(names, key).is_some()
 }
 
 // Is a part of a text this word?
@@ -279,13 +234,10 @@ fn key_among(keys: &[u16], lens: &[u8], texts: &[u8], n: usize, word: &[u8]) -> 
     requires { (n ≤ length keys.now) × (n ≤ length lens.now) × (n * 24 ≤ length texts.now) × ((i : ℕ) → get_or lens.now i 0 ≤ 24) }
     ensures { result ≡ key_named (listed (held_in keys.now lens.now texts.now) 0 n) word.now }
 {
-    let mut i = 0;
-    while i < n {
-        let len = text::wide8(lens[i]) as usize;
-        if same_part(texts, i * 24, len, word) {
-            return text::wide16(keys[i]);
+    for i in 0..n {
+        if same_part(texts, i * 24, usize::from(lens[i]), word) {
+            return u64::from(keys[i]);
         }
-        i += 1;
     }
     65536
 }

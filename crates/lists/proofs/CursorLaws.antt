@@ -19,7 +19,7 @@ use Rattle.tank.specs.declared.Tank.{Tank}
 use Rattle.lists.specs.declared.anchors.Anchor.{Anchor}
 use Rattle.lists.specs.declared.anchors.AnchorCursor.{AnchorCursor}
 use Rattle.richtext.specs.declared.AnchorType.TheVariants.{Start, End}
-use Rattle.lists.specs.declared.anchors.NextAnchor.TheVariants.{NoMore, Found}
+use Rattle.std.specs.Prelude.{None, Some}
 use Rattle.tank.specs.State.{table_of, view, Laid}
 use Rattle.lists.specs.Anchors.{anchor_of, anchors_of, boundaries, anchors, left_at, later_than, rest, Stands, Steps, Follows, Settles}
 use Rattle.tank.proofs.Unique.{table_length}
@@ -149,7 +149,7 @@ module _ {t : Tank} (f : Laid t) (c d : AnchorCursor) (g : Settles t c d) where
 
   -- an end, and the cursor without its bit
   pub takes_end : (a : Anchor) (i u : ℕ) → 0 < d.ends → i ≡ count_trailing_zeros 64 d.ends → a ≡ anchor_of (d.at - 1) End (get_or t.table i blank)
-      → u ≡ without_bit i d.ends → Steps t c (Found a (record { index = d.index; at = d.at; ends = u; starts = d.starts }))
+      → u ≡ without_bit i d.ends → Steps t c (Some (a, (record { index = d.index; at = d.at; ends = u; starts = d.starts })))
   unfolding Steps left_at later_than anchors_of
   takes_end a i u h e x y =
       let s = g.stands in
@@ -161,7 +161,7 @@ module _ {t : Tank} (f : Laid t) (c d : AnchorCursor) (g : Settles t c d) where
   -- no end is left: a start, and the cursor without its bit
   pub takes_start : (a : Anchor) (i u : ℕ) → d.ends ≡ 0 → 0 < d.starts → i ≡ count_trailing_zeros 64 d.starts
       → a ≡ anchor_of d.at Start (get_or t.table i blank) → u ≡ without_bit i d.starts
-      → Steps t c (Found a (record { index = d.index; at = d.at; ends = 0; starts = u }))
+      → Steps t c (Some (a, (record { index = d.index; at = d.at; ends = 0; starts = u })))
   unfolding Steps left_at later_than anchors_of
   takes_start a i u z h e x y =
       let s = g.stands in
@@ -173,7 +173,7 @@ module _ {t : Tank} (f : Laid t) (c d : AnchorCursor) (g : Settles t c d) where
         fewer_stands s 0 _ (omega arith) (without_le _ d.starts),
       )
 
-  pub takes_none : d.ends ≡ 0 → d.starts ≡ 0 → Steps t c NoMore
+  pub takes_none : d.ends ≡ 0 → d.starts ≡ 0 → Steps t c None
   unfolding Steps
   takes_none a b = g.same ∙ g.over a b
 
@@ -217,13 +217,13 @@ tallied_end f c count h k =
     omega (arith, h.sum, ap length (none_later f c h.stands (omega arith)))
 
 -- ---- one list, one walk: two steps from one cursor hand over the same anchor, and the same comes after it
-pub one_anchor : (t : Tank) (c : AnchorCursor) (a b : Anchor) (d e : AnchorCursor) → Steps t c (Found a d) → Steps t c (Found b e) → (a ≡ b) × (rest t d ≡ rest t e)
+pub one_anchor : (t : Tank) (c : AnchorCursor) (a b : Anchor) (d e : AnchorCursor) → Steps t c (Some (a, d)) → Steps t c (Some (b, e)) → (a ≡ b) × (rest t d ≡ rest t e)
 unfolding Steps
 one_anchor t c a b d e h g =
     let q : a ∷ rest t d ≡ b ∷ rest t e = sym h.0 ∙ g.0 in
     (cc, cc)
 
-pub one_end : (t : Tank) (c : AnchorCursor) (a : Anchor) (d : AnchorCursor) → Steps t c (Found a d) → Steps t c NoMore → ⊥
+pub one_end : (t : Tank) (c : AnchorCursor) (a : Anchor) (d : AnchorCursor) → Steps t c (Some (a, d)) → Steps t c None → ⊥
 unfolding Steps
 one_end t c a d h g =
     let q : length (a ∷ rest t d) ≡ 0 = ap length (sym h.0 ∙ g) in

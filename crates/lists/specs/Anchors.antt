@@ -1,5 +1,5 @@
 -- Document 01, "Questions and lists": a whole tank's anchors from the positions, and a cursor that runs through them.
-use Rattle.std.specs.Prelude.{ℕ, zero, suc, ◌+◌, ◌-◌, ◌≤◌, ◌<◌, ◌^◌, ◌≡◌, cond, not, List, [], ◌∷◌, ◌++◌, map, ltb, length}
+use Rattle.std.specs.Prelude.{ℕ, zero, suc, ◌+◌, ◌-◌, ◌≤◌, ◌<◌, ◌^◌, ◌≡◌, cond, not, List, [], ◌∷◌, ◌++◌, map, ltb, length, Option, None, Some}
 use Rattle.styles.specs.declared.Mark.{Mark}
 use Rattle.styles.specs.Order.{id_of}
 use Rattle.styles.specs.Marks.{member, only}
@@ -11,8 +11,6 @@ use Rattle.lists.specs.declared.anchors.Anchor.{Anchor}
 use Rattle.lists.specs.declared.anchors.AnchorCursor.{AnchorCursor}
 use Rattle.richtext.specs.declared.AnchorType.{AnchorType}
 use Rattle.richtext.specs.declared.AnchorType.TheVariants.{Start, End}
-use Rattle.lists.specs.declared.anchors.NextAnchor.{NextAnchor}
-use Rattle.lists.specs.declared.anchors.NextAnchor.TheVariants.{NoMore, Found}
 use Rattle.tank.specs.Rules.{View}
 use Rattle.tank.specs.State.{table_of, view}
 use Rattle.lists.specs.Lists.{list_refusal, filled_beside}
@@ -96,9 +94,9 @@ pub record Stands (t : Tank) (c : AnchorCursor) : Type 0 where
   pub none_before : c.at ≡ 0 → c.ends ≡ 0
 
 -- a step: the anchor that comes next and a cursor for those after it, or that there is none
-unfoldable pub Steps : Tank → AnchorCursor → NextAnchor → Type 0
-Steps t c NoMore = rest t c ≡ []
-Steps t c (Found a d) = (rest t c ≡ a ∷ rest t d) × Stands t d
+unfoldable pub Steps : Tank → AnchorCursor → Option (Anchor × AnchorCursor) → Type 0
+Steps t c None = rest t c ≡ []
+Steps t c (Some p) = (rest t c ≡ p.0 ∷ rest t p.1) × Stands t p.1
 
 -- the boundary behind a cursor's; where a run begins at it, it has an anchor
 pub record Follows (t : Tank) (c d : AnchorCursor) : Type 0 where

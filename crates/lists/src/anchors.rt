@@ -32,13 +32,6 @@ pub struct AnchorCursor {
     pub starts: u64,
 }
 
-// A step of the walk.
-#[derive(Clone, Copy)]
-pub enum NextAnchor {
-    NoMore,
-    Found(Anchor, AnchorCursor),
-}
-
 // The bits of a set that another lacks.
 pub fn lacking(set: u64, other: u64) -> u64
     ensures { result ≡ lacking_bits set other }
@@ -114,7 +107,7 @@ fn anchor_of(t: Tank, at: u64, side: AnchorType, i: usize) -> Anchor
 }
 
 // The anchor that comes next and a cursor for those after it; ends come before starts, and each by its lowest bit.
-pub fn next_anchor(t: Tank, c: AnchorCursor) -> NextAnchor
+pub fn next_anchor(t: Tank, c: AnchorCursor) -> Option<(Anchor, AnchorCursor)>
     requires { Sound t × Stands t c }
     ensures { Steps t c result }
 {
@@ -128,7 +121,7 @@ pub fn next_anchor(t: Tank, c: AnchorCursor) -> NextAnchor
             ends: styles::bits::without_bit(d.ends, i),
             starts: d.starts,
         };
-        return NextAnchor::Found(a, left);
+        return Some((a, left));
     }
     if 0 < d.starts {
         let i = styles::bits::lowest(d.starts);
@@ -139,9 +132,9 @@ pub fn next_anchor(t: Tank, c: AnchorCursor) -> NextAnchor
             ends: 0,
             starts: styles::bits::without_bit(d.starts, i),
         };
-        return NextAnchor::Found(a, left);
+        return Some((a, left));
     }
-    NextAnchor::NoMore
+    None
 }
 
 // How many anchors a cursor has left at its boundary.
@@ -164,40 +157,6 @@ pub fn anchors_needed(t: Tank) -> usize
         count += left_at(t, c);
     }
     count
-}
-
-fn no_anchor() -> Anchor
-    ensures { result ≡ no_anchor }
-{
-    Anchor {
-        at: 0,
-        side: AnchorType::Start,
-        key: 0,
-        lamport: 0,
-        peer: 0,
-    }
-}
-
-// The anchor that comes next.
-fn anchor_at(t: Tank, c: AnchorCursor) -> Anchor
-    requires { Sound t × Stands t c }
-    ensures { result ≡ get_or (rest t c) 0 no_anchor }
-{
-    match next_anchor(t, c) {
-        NextAnchor::NoMore => no_anchor(),
-        NextAnchor::Found(a, d) => a,
-    }
-}
-
-// The cursor past it; at the end it stays.
-fn advance(t: Tank, c: AnchorCursor) -> AnchorCursor
-    requires { Sound t × Stands t c }
-    ensures { Stands t result × (rest t result ≡ drop 1 (rest t c)) }
-{
-    match next_anchor(t, c) {
-        NextAnchor::NoMore => c,
-        NextAnchor::Found(a, d) => d,
-    }
 }
 
 // What the list answers where `room` records are lent. A lower number, which an earlier test gave, goes first; 0 is none.
@@ -240,11 +199,11 @@ pub fn iter_anchors(t: Tank, lower: u64, out: &mut [Anchor]) -> Listed
 {
     let n = turns(t, lower, out.len());
     let mut c = first_anchor(t);
-    let mut j = 0;
-    while j < n {
-        out[j] = anchor_at(t, c);
-        c = advance(t, c);
-        j += 1;
+    for j in 0..n {
+        if let Some((anchor, after)) = next_anchor(t, c) {
+            out[j] = anchor;
+            c = after;
+        }
     }
     judged(t, lower, out.len())
 }

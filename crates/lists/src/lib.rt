@@ -34,9 +34,7 @@ pub fn stretches_needed(t: Tank, start: u64, end: u64) -> Listed
             count: 0,
         };
     }
-    let lens = t.lens;
-    let sets = t.sets;
-    let needed = runs::stretches::need_range(&lens, &sets, t.runs, start, end);
+    let needed = runs::stretches::need_range(&t.lens, &t.sets, t.runs, start, end);
     Listed {
         number: 0,
         count: needed,
@@ -48,9 +46,7 @@ pub fn whole_needed(t: Tank) -> usize
     requires { Sound t }
     ensures { result ≡ length (whole_list (view t)) }
 {
-    let lens = t.lens;
-    let sets = t.sets;
-    runs::stretches::need_marked(&lens, &sets, t.runs, 0, t.length)
+    runs::stretches::need_marked(&t.lens, &t.sets, t.runs, 0, t.length)
 }
 
 // Writes the stretches over start .. end to the front of `out`; a refusal writes nothing.
@@ -69,13 +65,8 @@ pub fn list_range(t: Tank, start: u64, end: u64, out: &mut [u64]) -> Listed
             count: 0,
         };
     }
-    let lens = t.lens;
-    let sets = t.sets;
-    let count = runs::stretches::list_range(&lens, &sets, t.runs, start, end, out);
-    Listed {
-        number: 0,
-        count: count,
-    }
+    let count = runs::stretches::list_range(&t.lens, &t.sets, t.runs, start, end, out);
+    Listed { number: 0, count }
 }
 
 // Writes the stretches of the whole tank to the front of `out`; a refusal writes nothing.
@@ -91,13 +82,8 @@ pub fn list_whole(t: Tank, out: &mut [u64]) -> Listed
             count: 0,
         };
     }
-    let lens = t.lens;
-    let sets = t.sets;
-    let count = runs::stretches::list_marked(&lens, &sets, t.runs, 0, t.length, out);
-    Listed {
-        number: 0,
-        count: count,
-    }
+    let count = runs::stretches::list_marked(&t.lens, &t.sets, t.runs, 0, t.length, out);
+    Listed { number: 0, count }
 }
 
 // The stretches over start .. end: the front part of `out` that they fill, and the empty part where `list_range` refuses.

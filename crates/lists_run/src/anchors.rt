@@ -49,16 +49,10 @@ fn say_anchor(a: Anchor) {
     say_labelled(b".", a.peer);
 }
 
-// What the places hold from one on, up to another.
-fn say_places(f: Filled, from: usize, to: usize)
-    requires { length f.places ≡ 4 }
-{
-    let mut i = from;
-    while i < to {
-        if i < 4 {
-            say_anchor(f.places[i]);
-        }
-        i += 1;
+// What some places hold.
+fn say_places(places: &[Anchor]) {
+    for a in places {
+        say_anchor(*a);
     }
 }
 
@@ -74,7 +68,7 @@ fn listed(s: Tanks, tank: u64)
         peer: 7,
     };
     let spot = Spot {
-        tank: tank,
+        tank,
         who: Party::Plant,
     };
     let f = fill(s, spot, nobody);
@@ -85,9 +79,10 @@ fn listed(s: Tanks, tank: u64)
     say_labelled(b" refused=", l.number);
     say_labelled(b" count=", count as u64);
     say(b" part=");
-    say_places(f, 0, count);
+    let (part, rest) = f.places.split_at(count.min(4));
+    say_places(part);
     say(b" rest=");
-    say_places(f, count, 4);
+    say_places(rest);
     say(b"\n");
 }
 

@@ -13,12 +13,12 @@ use styles::{Mark, Party, Value};
 use tanks::{Setting, Tanks};
 
 // A mark over a range, with the number that the call answers.
-fn marked(s: Tanks, tank: u64, start: u64, end: u64, key: u16) -> Tanks
+fn marked(mut s: Tanks, tank: u64, start: u64, end: u64, key: u16) -> Tanks
     requires { Sound s }
     ensures { Sound result }
 {
     let mark = Mark {
-        key: key,
+        key,
         flags: 0x84,
         party: Party::Plant,
         lamport: 5,
@@ -31,9 +31,13 @@ fn marked(s: Tanks, tank: u64, start: u64, end: u64, key: u16) -> Tanks
     say_labelled(b" start=", start);
     say_labelled(b" end=", end);
     say_labelled(b" key=", key as u64);
-    say_labelled(b" number=", done.number);
+    let number = match done {
+        Ok(()) => 0,
+        Err(refusal) => refusal.number(),
+    };
+    say_labelled(b" number=", number);
     say(b"\n");
-    done.tanks
+    s
 }
 
 // Two marks that overlap in tank 0, one in tank 1, three in tank 2, none in the others.

@@ -15,10 +15,8 @@ pub(crate) fn say_labelled(label: &[u8], n: u64) {
 
 // All numbers from a place on, each after a blank.
 pub(crate) fn say_numbers(numbers: &[u64], from: usize) {
-    let mut i = from;
-    while i < numbers.len() {
+    for n in numbers.iter().skip(from) {
         say(b" ");
-        say_number(numbers[i]);
-        i += 1;
+        say_number(*n);
     }
 }

@@ -7,7 +7,7 @@ use native.Mathlib.Omega.{arith}
 use lib.Dec.{ltb, leb, eqb}
 use lib.ListN.{length, get_or, drop}
 use lib.Seq.{drop-cons}
-use borrow.Author.Tests.{lt-ltb, le-ltb, le-leb, lt-leb, ne_eqb, leb-true}
+use borrow.Author.Tests.{le-leb, lt-leb, ne_eqb, leb-true}
 use Rattle.styles.specs.Bits.{MaskOf}
 use Rattle.styles.specs.Marks.{key_is, blank}
 use Rattle.styles.proofs.Unique.{mask_only}
@@ -25,28 +25,9 @@ use Rattle.night.specs.Plans.{no_range, first_ranges, ranges_of, plan_of, in_ord
 use Rattle.night.proofs.PlanLaws.{order_to}
 
 -- ---- a range of a list, and the rest
--- a range has a position with a bit of the mask
-abbrev pub met : Tank → ℕ → Range → Bool
-met t mask x = any_at (λ p. meets mask (set_at (runs_of t) p)) x.start x.end
-
 -- what is asked of one range: `hold` says that it has a held position
 abbrev pub clears : ℕ → ℕ → Bool → Range → Bool
 clears from n hold x = leb from x.start && (ltb x.start x.end && (leb x.end n && not hold))
-
-module _ (from n : ℕ) (hold : Bool) (x : Range) where
-  pub clears_1 : x.start < from → false ≡ clears from n hold x
-  clears_1 h = rw (lt-leb from x.start h)
-
-  module _ (a : from ≤ x.start) where
-    pub clears_2 : x.end ≤ x.start → false ≡ clears from n hold x
-    clears_2 h = rw (le-leb from x.start a, le-ltb x.start x.end h)
-
-    module _ (b : x.start < x.end) where
-      pub clears_3 : n < x.end → false ≡ clears from n hold x
-      clears_3 h = rw (le-leb from x.start a, lt-ltb x.start x.end b, lt-leb x.end n h)
-
-      pub clears_4 : x.end ≤ n → not hold ≡ clears from n hold x
-      clears_4 h = rw (le-leb from x.start a, lt-ltb x.start x.end b, le-leb x.end n h)
 
 module _ (key : ℕ) (v : View) where
   -- one that is clear leaves the question to the rest

@@ -3,7 +3,7 @@ use Prim.Native.Nat.{ℕ, ◌+◌, ◌-◌, ◌/◌, ◌≤◌, ◌<◌}
 use mathlib.Core.Path.{◌≡◌, refl, sym, ap, ◌∙◌, subst}
 use mathlib.Core.Bool.{Bool, true, false, cond, true≢false}
 use mathlib.Core.List.{List, []}
-use mathlib.Core.Option.{Option, none, some}
+use Rattle.std.proofs.Common.{Option, Some, None, Ok, Err}
 use native.Mathlib.Omega.{arith}
 use native.Mathlib.Decide.{dec_lt}
 use lib.Dec.{eqb}
@@ -19,7 +19,7 @@ use Rattle.night.specs.declared.Range.{Range}
 use Rattle.night.specs.declared.Plan.{Plan}
 use Rattle.night.specs.Plans.{plan_of, accepts_plan}
 use Rattle.night.specs.Planning.{plan_number, AppliedAt}
-use Rattle.night.specs.Proposing.{unheld_below, works_below, least_below, proposed, gives, gives_none, proposal_of, proposal_at, CanNarrow}
+use Rattle.night.specs.Proposing.{unheld_below, works_below, least_below, proposed, proposal_of, proposal_at, CanNarrow}
 use Rattle.night.proofs.FitLaws.{ranges_plan}
 use Rattle.night.proofs.ProposeLaws.{is_false, least_within, works_later, works_touched, works_least, proposed_nothing, proposed_some, proposed_no, Between, narrowed}
 
@@ -87,31 +87,31 @@ module _ (s : Tanks) (t : ℕ) where
             record { some = omega arith; fits = f; refused = sym e ∙ y; accepted = b.accepted }
 
     -- ---- the answer
-    pub propose_1 : 8 ≤ t → gives_none 1 ≡ proposal_at (meaning s) t hold most
+    pub propose_1 : 8 ≤ t → Err 1 ≡ proposal_at (meaning s) t hold most
     unfolding proposal_at
     propose_1 h = rw (le-leb 8 t h)
 
     module _ (t8 : t < 8) where
-      proposal_is : (o : Option (List Range)) → proposed hold most w ≡ o → proposal_of o ≡ proposal_at (meaning s) t hold most
+      proposal_is : (o : Option (List Range)) → proposed hold most w ≡ o → Ok (proposal_of o) ≡ proposal_at (meaning s) t hold most
       unfolding proposal_at
-      proposal_is o e = rw (lt-leb 8 t t8) (sym (ap proposal_of e))
+      proposal_is o e = rw (lt-leb 8 t t8) (sym (ap (λ (o : Option (List Range)). Ok (proposal_of o)) e))
 
-      pub propose_nothing : works_below hold most w 0 ≡ true → gives (plan_of []) ≡ proposal_at (meaning s) t hold most
+      pub propose_nothing : works_below hold most w 0 ≡ true → Ok (Some (plan_of [])) ≡ proposal_at (meaning s) t hold most
       unfolding proposal_of
-      propose_nothing e = proposal_is (some []) (proposed_nothing hold w most e)
+      propose_nothing e = proposal_is (Some []) (proposed_nothing hold w most e)
 
       pub propose_some : (length : ℕ) → length ≡ w.length → works_below hold most w length ≡ true → (p : ℕ) → p ≡ least_below hold most w
-          → gives (plan_of (unheld_below hold w p)) ≡ proposal_at (meaning s) t hold most
+          → Ok (Some (plan_of (unheld_below hold w p))) ≡ proposal_at (meaning s) t hold most
       unfolding proposal_of
       propose_some length l e p z =
-          ap (λ (q : ℕ). gives (plan_of (unheld_below hold w q))) z
-          ∙ proposal_is (some (unheld_below hold w (least_below hold most w))) (proposed_some hold w most (works_least hold w most length (omega arith) e))
+          ap (λ (q : ℕ). Ok (Some (plan_of (unheld_below hold w q)))) z
+          ∙ proposal_is (Some (unheld_below hold w (least_below hold most w))) (proposed_some hold w most (works_least hold w most length (omega arith) e))
 
       pub propose_none : (length : ℕ) → length ≡ w.length → works_below hold most w 0 ≡ false → works_below hold most w length ≡ false
-          → gives_none 0 ≡ proposal_at (meaning s) t hold most
+          → Ok None ≡ proposal_at (meaning s) t hold most
       unfolding proposal_of
       propose_none length l first last =
-          proposal_is none
+          proposal_is None
           (proposed_no hold w most
           (is_false (works_below hold most w (least_below hold most w))
           (λ y.

@@ -4,7 +4,7 @@ use Prim.Native.Nat.{ℕ, ◌+◌, ◌≤◌, ◌<◌}
 use mathlib.Core.Path.{◌≡◌, refl, sym, ap, ap₂, ◌∙◌}
 use mathlib.Core.Bool.{Bool, true, false, cond, not, ◌&&◌, and-eq-true_iff, true≢false, false≢true}
 use mathlib.Core.List.{List, [], ◌∷◌}
-use mathlib.Core.Option.{Option, none, some}
+use Rattle.std.proofs.Common.{Option, Some, None}
 use native.Mathlib.Omega.{arith}
 use native.Mathlib.Decide.{dec_lt, dec_le}
 use lib.Dec.{leb}
@@ -29,12 +29,12 @@ pub is_false : (b : Bool) → (b ≡ true → ⊥) → b ≡ false
 is_false true n = absurd (n refl)
 is_false false n = refl
 
-none_some : {A : Type 0} (x : A) → ◌≡◌ {A = Option A} none (some x) → ⊥
+none_some : {A : Type 0} (x : A) → ◌≡◌ {A = Option A} None (Some x) → ⊥
 none_some {A} x e = let o : ◌≡◌ {A = ℕ} 0 1 = ap tag e in absurd (omega arith)
   where
     tag : Option A → ℕ
-    tag none = 0
-    tag (some y) = 1
+    tag None = 0
+    tag (Some y) = 1
 
 -- ---- a plan that is free of the hold key takes unheld positions alone
 free_unheld : (hold : ℕ) (v : View) (xs : List Range) → free_of hold v xs ≡ true → (p : ℕ) → planned xs p ≡ true → unheld_at hold v p ≡ true
@@ -164,11 +164,11 @@ module _ (hold : ℕ) (v : View) where
 
     -- ---- the theorems of the proposer
     -- what is given is accepted
-    pub proposed_accepted : (plan : List Range) → proposed hold most v ≡ some plan → accepts_plan hold most plan v ≡ true
+    pub proposed_accepted : (plan : List Range) → proposed hold most v ≡ Some plan → accepts_plan hold most plan v ≡ true
     unfolding proposed
     proposed_accepted plan e = go (works least) refl e
       where
-        go : (b : Bool) → works least ≡ b → ◌≡◌ {A = Option (List Range)} (cond b (some (unheld_below hold v least)) none) (some plan) → accepts_plan hold most plan v ≡ true
+        go : (b : Bool) → works least ≡ b → ◌≡◌ {A = Option (List Range)} (cond b (Some (unheld_below hold v least)) None) (Some plan) → accepts_plan hold most plan v ≡ true
         go true p r = let z : unheld_below hold v least ≡ plan = cc in ap (λ (xs : List Range). accepts_plan hold most xs v) (sym z) ∙ p
         go false p r = absurd (none_some plan r)
 
@@ -179,11 +179,11 @@ module _ (hold : ℕ) (v : View) where
       pub is : plan ≡ unheld_below hold v below
       pub refused : (q : ℕ) → q < below → works q ≡ false
 
-    pub proposed_least : (plan : List Range) → proposed hold most v ≡ some plan → TakesLeast plan
+    pub proposed_least : (plan : List Range) → proposed hold most v ≡ Some plan → TakesLeast plan
     unfolding proposed
     proposed_least plan e = go (works least) e
       where
-        go : (b : Bool) → ◌≡◌ {A = Option (List Range)} (cond b (some (unheld_below hold v least)) none) (some plan) → TakesLeast plan
+        go : (b : Bool) → ◌≡◌ {A = Option (List Range)} (cond b (Some (unheld_below hold v least)) None) (Some plan) → TakesLeast plan
         go true r = record {
           below = least;
           within = least_within;
@@ -208,26 +208,26 @@ module _ (hold : ℕ) (v : View) where
     least_none : works 0 ≡ true → least ≡ 0
     least_none e = seek_is works 0 v.length 0 (omega arith) (omega arith) (λ p a b. absurd (omega arith)) (λ _. e)
 
-    pub proposed_nothing : works 0 ≡ true → proposed hold most v ≡ some []
+    pub proposed_nothing : works 0 ≡ true → proposed hold most v ≡ Some []
     unfolding proposed
     proposed_nothing e =
-        ap (λ (p : ℕ). cond (works p) (some (unheld_below hold v p)) none) (least_none e)
-        ∙ ap (λ (b : Bool). cond b (some (unheld_below hold v 0)) none) e ∙ ap (λ (xs : List Range). some xs) below_none
+        ap (λ (p : ℕ). cond (works p) (Some (unheld_below hold v p)) None) (least_none e)
+        ∙ ap (λ (b : Bool). cond b (Some (unheld_below hold v 0)) None) e ∙ ap (λ (xs : List Range). Some xs) below_none
 
-    pub proposed_empty : runs_held v ≤ most → proposed hold most v ≡ some []
+    pub proposed_empty : runs_held v ≤ most → proposed hold most v ≡ Some []
     proposed_empty h = proposed_nothing (ap (λ (xs : List Range). accepts_plan hold most xs v) below_none ∙ empty_accepted h)
 
     -- ---- no plan
-    pub proposed_some : works least ≡ true → proposed hold most v ≡ some (unheld_below hold v least)
+    pub proposed_some : works least ≡ true → proposed hold most v ≡ Some (unheld_below hold v least)
     unfolding proposed
-    proposed_some e = ap (λ (b : Bool). cond b (some (unheld_below hold v least)) none) e
+    proposed_some e = ap (λ (b : Bool). cond b (Some (unheld_below hold v least)) None) e
 
-    pub proposed_no : works least ≡ false → proposed hold most v ≡ none
+    pub proposed_no : works least ≡ false → proposed hold most v ≡ None
     unfolding proposed
-    proposed_no e = ap (λ (b : Bool). cond b (some (unheld_below hold v least)) none) e
+    proposed_no e = ap (λ (b : Bool). cond b (Some (unheld_below hold v least)) None) e
 
     -- of a touched tank whose unheld positions form at most 32 ranges: none at all would be accepted
-    pub proposed_none : v.touched ≡ true → range_count (unheld_at hold v) v.length ≤ 32 → proposed hold most v ≡ none
+    pub proposed_none : v.touched ≡ true → range_count (unheld_at hold v) v.length ≤ 32 → proposed hold most v ≡ None
         → (plan : List Range) → accepts_plan hold most plan v ≡ false
     proposed_none t few e plan =
         is_false (accepts_plan hold most plan v)
@@ -241,7 +241,7 @@ module _ (hold : ℕ) (v : View) where
         none_some (unheld_below hold v least) (sym e ∙ proposed_some (works_least v.length (omega arith) whole)))
 
     -- and the other way round, of any tank: where none would be accepted there is no plan
-    pub none_proposed : ((plan : List Range) → accepts_plan hold most plan v ≡ false) → proposed hold most v ≡ none
+    pub none_proposed : ((plan : List Range) → accepts_plan hold most plan v ≡ false) → proposed hold most v ≡ None
     none_proposed h = proposed_no (h (unheld_below hold v least))
 
     -- ---- halving: between a position below which they are not accepted and one below which they are

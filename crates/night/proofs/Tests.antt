@@ -3,7 +3,7 @@ use Prim.Native.Nat.{ℕ}
 use mathlib.Core.Path.{◌≡◌, refl}
 use mathlib.Core.Bool.{Bool, true, false, cond}
 use mathlib.Core.List.{List, [], ◌∷◌}
-use mathlib.Core.Option.{none, some}
+use Rattle.std.proofs.Common.{Some, None}
 use lib.Dec.{ltb}
 use lib.IntN.{pos}
 use lib.ListN.{replicate}
@@ -111,7 +111,7 @@ unfolding ranges_from seek_from has_key sum_below begins
 below = (refl, refl, refl, refl, refl, refl)
 
 -- for three runs nothing goes; for two the oldest stretch and no more; for one all that is unheld; for none there is no plan
-proposals : (proposed 2 3 (tank true) ≡ some []) × (proposed 2 2 (tank true) ≡ some (range 0 3 ∷ [])) × (proposed 2 1 (tank true) ≡ some (range 0 3 ∷ range 5 10 ∷ []))
-    × (proposed 2 0 (tank true) ≡ none)
+proposals : (proposed 2 3 (tank true) ≡ Some []) × (proposed 2 2 (tank true) ≡ Some (range 0 3 ∷ [])) × (proposed 2 1 (tank true) ≡ Some (range 0 3 ∷ range 5 10 ∷ []))
+    × (proposed 2 0 (tank true) ≡ None)
 unfolding proposed ranges_from seek_from accepts_plan may_go in_order free_of any_at has_key after_plan after_delete sum_below starts same_marks stands numbers
 proposals = (refl, refl, refl, refl)

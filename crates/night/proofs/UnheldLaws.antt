@@ -11,11 +11,10 @@ use Rattle.styles.specs.Bits.{MaskOf}
 use Rattle.styles.specs.Marks.{key_is}
 use Rattle.runs.specs.Runs.{set_at}
 use Rattle.runs.specs.Positions.{seek_from}
-use Rattle.runs.specs.Scan.{meets, CanScan}
+use Rattle.runs.specs.Scan.{meets}
 use Rattle.runs.proofs.SeekLaws.{seek_to, seek_ext}
 use Rattle.tank.specs.declared.Tank.{Tank}
 use Rattle.tank.specs.State.{runs_of, table_of, view, Formed}
-use Rattle.tank.proofs.Shape.{can_look}
 use Rattle.night.specs.declared.Range.{Range}
 use Rattle.night.specs.Plans.{range, no_range, plan_of, held_at}
 use Rattle.night.specs.Proposing.{unheld_at, seek, ranges_from, unheld_below}
@@ -58,10 +57,6 @@ pub record Gathered (t : Tank) (hold below : ℕ) (ranges : List Range) (k at : 
 
 pub none_yet : (t : Tank) (hold below : ℕ) → Gathered t hold below (replicate 32 no_range) 0 0
 none_yet t hold below = record { few = omega arith; within = omega arith; count = omega arith; is = refl; rest = refl }
-
--- what seeking from a position within the length asks
-pub can_seek : {t : Tank} → Formed t → (at : ℕ) → at ≤ t.length → CanScan t.lens t.sets t.runs at
-can_seek f at h = let s = f.laid.sum in record { look = can_look f.laid; reach = omega arith }
 
 -- what a walk over all runs finds, clipped at `below`
 pub clipped : (test : ℕ → Bool) (at below all first : ℕ) → at ≤ below → below ≤ all → first ≡ seek_from test at (all - at)

@@ -1,7 +1,6 @@
 -- Document 02, request 9: the plan that is proposed for a tank. It takes the oldest first and no more than needed: the unheld ranges below
 -- the least position for which they are accepted.
-use Rattle.std.specs.Prelude.{ℕ, zero, suc, ◌-◌, ◌≤◌, ◌<◌, ◌≡◌, Bool, true, false, cond, ◌&&◌, not, List, [], ◌∷◌, ltb}
-use Rattle.std.proofs.Math.Option.{Option, none, some}
+use Rattle.std.specs.Prelude.{ℕ, zero, suc, ◌-◌, ◌≤◌, ◌<◌, ◌≡◌, Bool, true, false, cond, ◌&&◌, not, List, [], ◌∷◌, ltb, Option, Some, None, Result, Ok, Err}
 use Rattle.runs.specs.Positions.{sum_below, seek_from}
 use Rattle.tank.specs.Rules.{View}
 use Rattle.tanks.specs.declared.Tanks.{Tanks}
@@ -9,7 +8,6 @@ use Rattle.tanks.specs.House.{House, tank_at, no_tank}
 use Rattle.tanks.specs.Pool.{meaning, Sound}
 use Rattle.night.specs.declared.Range.{Range}
 use Rattle.night.specs.declared.Plan.{Plan}
-use Rattle.night.specs.declared.Proposal.{Proposal}
 use Rattle.night.specs.Plans.{range, plan_of, held_at, accepts_plan}
 
 -- ---- Of one tank
@@ -44,25 +42,17 @@ least_below hold most v = seek_from (works_below hold most v) 0 v.length
 -- the unheld ranges below the least position for which they are accepted, or no plan
 unfoldable pub proposed : ℕ → ℕ → View → Option (List Range)
 proposed hold most v =
-    cond (works_below hold most v (least_below hold most v)) (some (unheld_below hold v (least_below hold most v))) none
+    cond (works_below hold most v (least_below hold most v)) (Some (unheld_below hold v (least_below hold most v))) None
 
 -- ---- As an answer
--- a plan that is given
-abbrev pub gives : Plan → Proposal
-gives p = record { number = 0; found = true; plan = p }
-
--- no plan, beside a number
-abbrev pub gives_none : ℕ → Proposal
-gives_none n = record { number = n; found = false; plan = plan_of [] }
-
--- a proposal as an answer: no plan is an answer too, beside 0
-unfoldable pub proposal_of : Option (List Range) → Proposal
-proposal_of none = gives_none 0
-proposal_of (some xs) = gives (plan_of xs)
+-- a proposal as an answer: no plan is an answer too
+unfoldable pub proposal_of : Option (List Range) → Option Plan
+proposal_of None = None
+proposal_of (Some xs) = Some (plan_of xs)
 
 -- the plan proposed for a tank, or 1
-unfoldable pub proposal_at : House → ℕ → ℕ → ℕ → Proposal
-proposal_at h t hold most = cond (no_tank t) (gives_none 1) (proposal_of (proposed hold most (tank_at h t)))
+unfoldable pub proposal_at : House → ℕ → ℕ → ℕ → Result (Option Plan) ℕ
+proposal_at h t hold most = cond (no_tank t) (Err 1) (Ok (proposal_of (proposed hold most (tank_at h t))))
 
 -- ---- What trying asks
 -- one of the eight tanks, and a position of it or its length

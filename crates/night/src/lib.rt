@@ -13,13 +13,13 @@ ghost use Rattle.tanks.specs.Pool.{meaning, Sound};
 ghost use Rattle.night.specs.Ageings.{AgedAt, LeftAlone, AgedBy, barred_number};
 ghost use Rattle.night.specs.Plans.{ranges_of};
 ghost use Rattle.night.specs.Planning.{AppliedAt, AppliedBy, CanApply, Applies};
-ghost use Rattle.night.specs.Proposing.{gives, gives_none, proposal_at};
+ghost use Rattle.night.specs.Proposing.{proposal_at};
 
 pub use proposals::empty_plan;
 use runs::FirstRuns;
 use styles::Party;
 use tank::Tank;
-use tanks::{Edited, Tanks};
+use tanks::Tanks;
 
 // What ageing hands back: 0 or the refusal's number, how many stretches were dropped, what remains of `before`, and the next state.
 #[derive(Clone, Copy)]
@@ -73,8 +73,9 @@ fn age_as_plant(s: Tanks, tank: u64, before: u64, budget: u64) -> Aged
         return not_aged(0, s);
     }
     let f = first_stretches(x, before, budget);
-    let done = s.delete(tank, Party::Plant, 0, f.end);
-    let tanks = done.tanks;
+    let mut tanks = s;
+    // Never refused: it is the plant's, of some positions within the length.
+    let _done = tanks.delete(tank, Party::Plant, 0, f.end);
     let remaining = before - f.end;
     Aged {
         number: 0,
@@ -98,18 +99,23 @@ pub struct Plan {
     pub ranges: [Range; 32],
 }
 
+// What applying a plan hands back: 0 or the refusal's number, and the next state.
+#[derive(Clone, Copy)]
+pub struct Applied {
+    pub number: u64,
+    pub tanks: Tanks,
+}
+
 // The ranges of a plan deleted, the last first, so that each is still in the numbering before the first deletion.
 fn delete_all(s: Tanks, tank: u64, hold: u16, plan: Plan) -> Tanks
     requires { CanApply s tank hold plan }
     ensures { Applies s tank (ranges_of plan) result }
 {
     let mut u = s;
-    let mut i = plan.count;
-    while 0 < i {
-        i -= 1;
+    for i in (0..plan.count).rev() {
         let x = plan.ranges[i];
-        let done = u.delete(tank, Party::Plant, x.start, x.end);
-        u = done.tanks;
+        // Never refused: what may go is the plant's to delete, some positions within what is left of the tank.
+        let _done = u.delete(tank, Party::Plant, x.start, x.end);
     }
     u
 }
@@ -125,92 +131,60 @@ fn runs_of(s: Tanks, t: usize) -> u64
 
 // A plan that is accepted is applied whole: its ranges keep the rules, and the tank after deleting them all holds at most `most` runs.
 // Any other is refused by 15, with the state as it was.
-fn apply_as_plant(s: Tanks, tank: u64, hold: u16, most: u64, plan: Plan) -> Edited
+fn apply_as_plant(s: Tanks, tank: u64, hold: u16, most: u64, plan: Plan) -> Applied
     requires { Sound s }
     ensures { AppliedAt s tank hold most plan result.number result.tanks }
 {
     if 8 <= tank {
-        return Edited {
+        return Applied {
             number: 1,
             tanks: s,
         };
     }
     if !plans::may_go(s.take(tank as usize), hold, plan) {
-        return Edited {
+        return Applied {
             number: 15,
             tanks: s,
         };
     }
     let next = delete_all(s, tank, hold, plan);
     if most < runs_of(next, tank as usize) {
-        return Edited {
+        return Applied {
             number: 15,
             tanks: s,
         };
     }
-    Edited {
+    Applied {
         number: 0,
         tanks: next,
     }
 }
 
-// A plan if one is found, beside 0 or the refusal's number; the empty plan stands where there is none.
-#[derive(Clone, Copy)]
-pub struct Proposal {
-    pub number: u64,
-    pub found: bool,
-    pub plan: Plan,
-}
-
-// No plan, beside a number.
-fn no_proposal(number: u64) -> Proposal
-    ensures { result ≡ gives_none number }
-{
-    Proposal {
-        number: number,
-        found: false,
-        plan: proposals::empty_plan(),
-    }
-}
-
-// A plan that is given.
-fn proposing(plan: Plan) -> Proposal
-    ensures { result ≡ gives plan }
-{
-    Proposal {
-        number: 0,
-        found: true,
-        plan: plan,
-    }
-}
-
 // A plan that would be accepted, the oldest first and no more than needed: the unheld ranges below the least position for which they are.
-pub fn propose(s: Tanks, tank: u64, hold: u16, most: u64) -> Proposal
+// None where there is no such plan; where there is no such tank, the refusal's number.
+pub fn propose(s: Tanks, tank: u64, hold: u16, most: u64) -> Result<Option<Plan>, u64>
     requires { Sound s }
     ensures { result ≡ proposal_at (meaning s) tank hold most }
 {
     if 8 <= tank {
-        return no_proposal(1);
+        return Err(1);
     }
     if proposals::works_below(s, tank, hold, most, 0) {
-        return proposing(proposals::empty_plan());
+        return Ok(Some(proposals::empty_plan()));
     }
     let x = s.take(tank as usize);
     if proposals::works_below(s, tank, hold, most, x.length) {
         let below = proposals::least_below(s, tank, hold, most, x.length);
-        return proposing(proposals::unheld_below(x, hold, below));
+        return Ok(Some(proposals::unheld_below(x, hold, below)));
     }
-    no_proposal(0)
+    Ok(None)
 }
 
 // The number of a night's call that the laboratory tries: 1 where there is no such tank, else 16.
 fn barred(tank: u64) -> u64
     ensures { result ≡ barred_number tank }
 {
-    if 8 <= tank {
-        return 1;
-    }
-    16
+    if 8 <= tank { 1 } else { 16 }
 }
 
 // Ageing by a party: it is the plant's alone, and the laboratory is refused.
@@ -225,12 +199,12 @@ pub fn age(s: Tanks, tank: u64, who: Party, before: u64, budget: u64) -> Aged
 }
 
 // A plan applied by a party: that is the plant's alone too.
-pub fn apply_plan(s: Tanks, tank: u64, who: Party, hold: u16, most: u64, plan: Plan) -> Edited
+pub fn apply_plan(s: Tanks, tank: u64, who: Party, hold: u16, most: u64, plan: Plan) -> Applied
     requires { Sound s }
     ensures { AppliedBy s tank who hold most plan result.number result.tanks }
 {
     if tank::is_lab(who) {
-        return Edited {
+        return Applied {
             number: barred(tank),
             tanks: s,
         };

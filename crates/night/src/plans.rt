@@ -14,18 +14,10 @@ fn clear(t: Tank, mask: u64, from: u64, x: Range) -> bool
     requires { Formed t }
     ensures { result ≡ (leb from x.start && (ltb x.start x.end && (leb x.end t.length && not (any_at (λ p. meets mask (set_at (runs_of t) p)) x.start x.end)))) }
 {
-    if x.start < from {
-        return false;
-    }
-    if x.end <= x.start {
-        return false;
-    }
-    if t.length < x.end {
-        return false;
-    }
-    let lens = t.lens;
-    let sets = t.sets;
-    !runs::scan::any_in(&lens, &sets, t.runs, x.start, x.end, mask)
+    from <= x.start
+        && x.start < x.end
+        && x.end <= t.length
+        && !runs::scan::any_in(&t.lens, &t.sets, t.runs, x.start, x.end, mask)
 }
 
 // Whether the ranges are at most 32, non-empty, ascending, disjoint, within the length and free of the hold key; of an untouched tank
@@ -42,15 +34,12 @@ pub fn may_go(t: Tank, hold: u16, plan: Plan) -> bool
     }
     let table = t.table;
     let mask = styles::table::key_bits(table, t.marks, hold);
-    let mut i = 0;
     let mut from: u64 = 0;
-    while i < plan.count {
-        let x = plan.ranges[i];
-        if !clear(t, mask, from, x) {
+    for x in &plan.ranges[..plan.count] {
+        if !clear(t, mask, from, *x) {
             return false;
         }
         from = x.end;
-        i += 1;
     }
     true
 }

@@ -23,12 +23,6 @@ pub fn empty_plan() -> Plan
     }
 }
 
-fn sooner(a: u64, b: u64) -> u64
-    ensures { result ≡ min a b }
-{
-    if a < b { a } else { b }
-}
-
 // The next maximal range from `at` on that has no position with a bit of the mask, clipped at `below`; it starts there where there is none.
 fn next_range(t: Tank, mask: u64, at: u64, below: u64) -> Range
     requires { (Formed t) × (at ≤ below) × (below ≤ t.length) }
@@ -37,9 +31,9 @@ fn next_range(t: Tank, mask: u64, at: u64, below: u64) -> Range
     let lens = t.lens;
     let sets = t.sets;
     let first = runs::scan::first_without(&lens, &sets, t.runs, at, mask);
-    let start = sooner(first, below);
+    let start = first.min(below);
     let past = runs::scan::first_with(&lens, &sets, t.runs, start, mask);
-    let end = sooner(past, below);
+    let end = past.min(below);
     Range {
         start: start,
         end: end,
@@ -54,9 +48,8 @@ pub fn unheld_below(t: Tank, hold: u16, below: u64) -> Plan
     let table = t.table;
     let mask = styles::table::key_bits(table, t.marks, hold);
     let mut ranges = [Range { start: 0, end: 0 }; 32];
-    let mut k = 0;
     let mut at: u64 = 0;
-    while k < 32 {
+    for k in 0..32 {
         let x = next_range(t, mask, at, below);
         if below <= x.start {
             return Plan {
@@ -66,10 +59,9 @@ pub fn unheld_below(t: Tank, hold: u16, below: u64) -> Plan
         }
         ranges[k] = x;
         at = x.end;
-        k += 1;
     }
     Plan {
-        count: k,
+        count: 32,
         ranges: ranges,
     }
 }
@@ -92,6 +84,7 @@ pub fn least_below(s: Tanks, tank: u64, hold: u16, most: u64, length: u64) -> u6
 {
     let mut refused: u64 = 0;
     let mut accepted: u64 = length;
+    // No `for`: the loop halves an interval and counts no index.
     while 1 < accepted - refused {
         let half = refused + (accepted - refused) / 2;
         if works_below(s, tank, hold, most, half) {

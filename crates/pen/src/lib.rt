@@ -2,15 +2,11 @@
 // what waits is written out first. Each function takes how much of the buffer waits, and answers how much waits then.
 #![tactic(auto)]
 
-mod numbers; // numbers.rt: differences that stop at 0, the larger and the smaller of two
-
 ghost use Rattle.std.specs.Prelude.{[], ◌∷◌, ◌≡◌, ◌+◌, ◌≤◌, length, take, replicate};
 ghost use Rattle.text.specs.Number.{decimal_text};
 ghost use Rattle.script.specs.Writing.{Puts, free_at};
 ghost use Rattle.answers.specs.Waiting.{Adds, piece_room};
 ghost use Rattle.pen.specs.Pen.{right_text, between_says};
-
-pub use numbers::{larger, less, minus, sooner};
 
 // A place with room for a piece: what waits is written out where there is less.
 pub fn free(out: &[u8], at: usize) -> usize
@@ -70,7 +66,7 @@ pub fn say_word(out: &mut [u8], at: usize, word: &[u8], width: usize) -> usize
     ensures { Adds out.old at (right_text width word.now ∷ []) result out.new }
 {
     let k = free(out, at);
-    let a = put_blanks(out, k, less(width, word.len()));
+    let a = put_blanks(out, k, width.saturating_sub(word.len()));
     text::put(out, a, word)
 }
 

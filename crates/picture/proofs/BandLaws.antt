@@ -1,12 +1,12 @@
 -- Bands: what is held, the edges, and where the marked part ends.
-use Prim.Native.Nat.{ℕ, ◌+◌, ◌-◌, ◌≤◌, ◌<◌, ◌^◌, ◌%◌}
-use mathlib.Core.Bool.{Bool, true, false, cond, ◌&&◌}
+use Prim.Native.Nat.{ℕ, ◌-◌, ◌≤◌, ◌<◌, ◌^◌, ◌%◌}
+use mathlib.Core.Bool.{Bool, true, false, cond}
 use mathlib.Core.List.{List, [], ◌∷◌, ◌++◌}
 use mathlib.Core.Path.{◌≡◌, refl, sym, ap, ap₂, ◌∙◌}
 use native.Mathlib.Omega.{arith}
-use borrow.Author.Tests.{lt-ltb, le-ltb, lt-leb, le-leb}
-use lib.Dec.{ltb, leb}
-use lib.ListN.{length, get_or, drop, length-drop}
+use borrow.Author.Tests.{lt-ltb, le-ltb}
+use lib.Dec.{ltb}
+use lib.ListN.{length, get_or, take, drop}
 use Rattle.questions.specs.declared.Told.{Told}
 use Rattle.questions.specs.Questions.{range_contains_key}
 use Rattle.styles.specs.declared.Party.TheVariants.{Lab}
@@ -17,48 +17,34 @@ use Rattle.tank.proofs.Unique.{marks_carried}
 use Rattle.picture.specs.Scale.{place_of}
 use Rattle.picture.specs.Bands.{is_yes, held_in, labelled, last_after, edge_says, edges_from, end_of, depth_of}
 use Rattle.picture.proofs.Choices.{whole_key}
-use Rattle.picture.proofs.Turns.{three}
+use Rattle.answers.proofs.Loops.{rest_is}
 
 pub held_by : (h : Told) (from to key k : ℕ) (v : View) → h ≡ range_contains_key from to k v → k ≡ key % 2 ^ 16 → key < 65536 → is_yes h ≡ held_in v key from to
 held_by h from to key k v e f l = ap is_yes e ∙ ap (λ (x : ℕ). is_yes (range_contains_key from to x v)) (whole_key key k f l)
 
 -- ---- labels
-module _ (last x room r : ℕ) (e : room ≡ r) where
-  pub labelled_yes : last + room ≤ x → leb (x + room) 900 ≡ (leb (last + r) x && leb (x + r) 900)
-  labelled_yes h = ap (λ (k : ℕ). leb (x + k) 900) e ∙ sym (ap (λ (b : Bool). b && leb (x + r) 900) (le-leb (last + r) x (omega (arith, e))))
-
-  pub labelled_no : x < last + room → false ≡ (leb (last + r) x && leb (x + r) 900)
-  labelled_no h = sym (ap (λ (b : Bool). b && leb (x + r) 900) (lt-leb (last + r) x (omega (arith, e))))
-
 -- at a position
 module _ (end last pos x : ℕ) (e : x ≡ place_of end pos) (b : Bool) (f : b ≡ labelled end last x) where
   pub labelled_at : b ≡ labelled end last (place_of end pos)
   labelled_at = f ∙ ap (labelled end last) e
 
-  pub last_here : b ≡ true → x ≡ last_after end last pos
-  last_here t = e ∙ sym (ap (λ (c : Bool). cond c (place_of end pos) last) (sym labelled_at ∙ t))
-
-  pub last_stays : b ≡ false → last ≡ last_after end last pos
-  last_stays t = sym (ap (λ (c : Bool). cond c (place_of end pos) last) (sym labelled_at ∙ t))
-
 -- the edges of one stretch more
-pub edges_more : (end y last m n : ℕ) (list : List ℕ) (i : ℕ) → 3 ≤ length list - i → m ≡ last_after end last (get_or list i 0) → n ≡ last_after end m (get_or list (i + 1) 0)
-    → edges_from end y last (drop i list) ≡ (edge_says end y last (get_or list i 0) ++ edge_says end y m (get_or list (i + 1) 0)) ++ edges_from end y n (drop (i + 3) list)
+pub edges_more : (end y last m n : ℕ) (l : List ℕ) → 3 ≤ length l → m ≡ last_after end last (get_or l 0 0) → n ≡ last_after end m (get_or l 1 0)
+    → edges_from end y last l ≡ (edge_says end y last (get_or l 0 0) ++ edge_says end y m (get_or l 1 0)) ++ edges_from end y n (take (length l - 3) (drop 3 l))
 unfolding edges_from
-edges_more end y last m n list i h e f =
-    ap (edges_from end y last) (three list i h)
-    ∙ ap₂ (λ (j k : ℕ). (edge_says end y last (get_or list i 0) ++ edge_says end y j (get_or list (i + 1) 0)) ++ edges_from end y k (drop (i + 3) list))
-    (sym e) (sym (f ∙ ap (λ (z : ℕ). last_after end z (get_or list (i + 1) 0)) e))
+edges_more end y last m n [] h e f = absurd (omega arith)
+edges_more end y last m n (a ∷ []) h e f = absurd (omega arith)
+edges_more end y last m n (a ∷ b ∷ []) h e f = absurd (omega arith)
+edges_more end y last m n (a ∷ b ∷ c ∷ l) h e f =
+    ap₂ (λ (j k : ℕ). (edge_says end y last a ++ edge_says end y j b) ++ edges_from end y k l) (sym e) (sym (f ∙ ap (λ (z : ℕ). last_after end z b) e))
+    ∙ ap (λ (k : List ℕ). (edge_says end y last a ++ edge_says end y m b) ++ edges_from end y n k) (sym (rest_is (a ∷ b ∷ c ∷ l)))
 
-few : (end y last : ℕ) (l : List ℕ) → length l < 3 → edges_from end y last l ≡ []
+pub edges_none : (end y last : ℕ) (l : List ℕ) → length l < 3 → edges_from end y last l ≡ []
 unfolding edges_from
-few end y last [] h = refl
-few end y last (a ∷ []) h = refl
-few end y last (a ∷ b ∷ []) h = refl
-few end y last (a ∷ b ∷ c ∷ l) h = absurd (omega arith)
-
-pub edges_none : (end y last : ℕ) (list : List ℕ) (i : ℕ) → length list - i < 3 → edges_from end y last (drop i list) ≡ []
-edges_none end y last list i h = few end y last (drop i list) (omega (arith, length-drop i list))
+edges_none end y last [] h = refl
+edges_none end y last (a ∷ []) h = refl
+edges_none end y last (a ∷ b ∷ []) h = refl
+edges_none end y last (a ∷ b ∷ c ∷ l) h = absurd (omega arith)
 
 -- ---- a tank
 module _ (list : List ℕ) where

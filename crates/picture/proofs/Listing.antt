@@ -6,7 +6,7 @@ use mathlib.Core.Path.{◌≡◌, sym, ap, ◌∙◌}
 use native.Mathlib.Nat.{le_trans}
 use native.Mathlib.Omega.{arith}
 use borrow.Author.Tests.{le-ltb}
-use lib.ListN.{length, take, drop, length-append}
+use lib.ListN.{length, take, drop}
 use lib.Seq.{take_at}
 use Rattle.lists.specs.declared.Listed.{Listed}
 use Rattle.lists.specs.Lists.{whole_list, whole_number, list_refusal, unless_refused, filled_beside}
@@ -36,9 +36,6 @@ module _ {t : Tank} (s : Sound t) (entry exit : List ℕ) (r : Listed) (room : l
 
   pub listed_is : take r.count exit ≡ whole_list (view t)
   listed_is = ap (take r.count) front_is ∙ take_at (whole_list (view t)) (drop (length (whole_list (view t))) entry) r.count (sym count_is)
-
-  pub listed_fits : r.count ≤ length exit
-  listed_fits = omega (arith, count_is, ap length front_is, length-append (whole_list (view t)) (drop (length (whole_list (view t))) entry))
 
 -- how many marks a tank has
 pub marks_are : {t : Tank} → Sound t → length (carried (view t)) ≡ t.marks

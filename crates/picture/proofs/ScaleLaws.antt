@@ -1,7 +1,7 @@
 -- The scale of a band: it never falls, begins at 0, and ends at 900.
 use Prim.Native.Nat.{ℕ, ◌*◌, ◌/◌, ◌≤◌, ◌<◌, min}
 use mathlib.Core.Path.{◌≡◌, ap, ◌∙◌}
-use native.Mathlib.Nat.{le_trans, mul-div_cancel_left, zero-div, div-le_of_le-mul, le-div_iff_mul-le, div-lt_iff_lt-mul, mul-le-mul_right, div-mul-le_self}
+use native.Mathlib.Nat.{le_trans, mul-div_cancel_left, zero-div, div-le_of_le-mul, le-div_iff_mul-le, mul-le-mul_right, div-mul-le_self}
 use native.Mathlib.Omega.{arith}
 use Rattle.picture.specs.Scale.{unit_of, whole_of, place_of}
 
@@ -17,10 +17,6 @@ module _ (end : ℕ) (some : 0 < end) where
   -- the band has at least one unit
   pub whole_some : 0 < whole_of end
   whole_some = (le-div_iff_mul-le {k = unit_of end} {x = 1} {y = end} (omega arith)).1 (omega arith)
-
-  -- and no more than 2^40
-  pub whole_most : whole_of end ≤ 1099511627776
-  whole_most = let h = (div-lt_iff_lt-mul {k = unit_of end} {x = end} {y = 1099511627776} (omega arith)).1 (omega arith) in omega arith
 
   -- never over the right edge
   pub place_most : (pos : ℕ) → place_of end pos ≤ 900

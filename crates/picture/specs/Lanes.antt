@@ -1,6 +1,7 @@
 -- docs/KEEPER.md, "picture": which keys have a lane in a tank's band, where it lies, and where it has bars. `v` is what a party is shown of a
 -- tank, `list` the list of its marked stretches, `keys` the twelve lowest keys that occur, 65536 behind the last.
-use Rattle.std.specs.Prelude.{Bool, false, cond, ◌&&◌, ◌||◌, List, [], ◌∷◌, ◌++◌, ℕ, ◌+◌, ◌-◌, ◌*◌, ◌/◌, max, ltb, leb, length, get_or}
+use Rattle.std.specs.Prelude.{Bool, false, cond, ◌&&◌, List, [], ◌∷◌, ◌++◌, ℕ, ◌+◌, ◌-◌, ◌*◌, ◌/◌, max, ltb, leb, length, get_or}
+use Rattle.std.specs.List.{list_any}
 use Rattle.answers.specs.Waiting.{Pieces}
 use Rattle.lists.specs.Lists.{whole_list}
 use Rattle.questions.specs.declared.Asked.{Asked}
@@ -31,9 +32,8 @@ abbrev pub key_within : ℕ → ℕ → Mark → Bool
 key_within least most m = leb least m.key && leb m.key most
 
 -- some mark's is
-unfoldable pub any_key : ℕ → ℕ → List Mark → Bool
-any_key least most [] = false
-any_key least most (m ∷ ms) = key_within least most m || any_key least most ms
+abbrev pub any_key : ℕ → ℕ → List Mark → Bool
+any_key least most ms = list_any (key_within least most) ms
 
 -- a mark that is shown has the key; 65536 is none
 abbrev pub occurs : View → ℕ → Bool

@@ -2,7 +2,7 @@
 use Rattle.std.specs.Prelude.{Bool, cond, List, [], ◌∷◌, ◌++◌, ℕ, ◌+◌, ◌*◌, ◌/◌, ◌%◌, ltb, get_or}
 use Rattle.answers.specs.Waiting.{Pieces}
 use Rattle.key_names.specs.Names.{Named, key_text, key_named}
-use Rattle.key_legend.specs.declared.Whose.{Whose}
+use Rattle.std.specs.Prelude.{None}
 use Rattle.key_legend.specs.Keys.{first_key, next_key, lowest_keys}
 use Rattle.runs.specs.Positions.{sum_below}
 use Rattle.tanks.specs.House.{House}
@@ -49,11 +49,11 @@ legend_says names keys some hold =
 -- ---- The whole
 -- the twelve lowest keys that occur
 abbrev pub coloured_keys : House → List ℕ
-coloured_keys h = lowest_keys Whose.Either h 12
+coloured_keys h = lowest_keys None h 12
 
 -- there are higher ones
 abbrev pub others_in : House → Bool
-others_in h = ltb (first_key Whose.Either (next_key (get_or (coloured_keys h) 11 0)) h) 65536
+others_in h = ltb (first_key None (next_key (get_or (coloured_keys h) 11 0)) h) 65536
 
 -- the key that means held, 65536 for none
 abbrev pub hold_key : List Named → ℕ

@@ -49,14 +49,11 @@ fn holds(t: Tank, band: Band, hold: u64, list: &[u64], out: &mut [u8], at: usize
         return at;
     }
     let mut k = at;
-    let mut i = 0;
-    while i < list.len() {
-        if list.len() - i < 3 {
-            return k;
-        }
-        let yes = held(t, hold, list[i], list[i + 1]);
-        k = hatch_if(yes, out, k, band, list[i], list[i + 1]);
-        i += 3;
+    let mut left = list;
+    while let [from, to, _, rest @ ..] = left {
+        let yes = held(t, hold, *from, *to);
+        k = hatch_if(yes, out, k, band, *from, *to);
+        left = rest;
     }
     k
 }
@@ -96,10 +93,7 @@ fn labelled(end: u64, last: u64, x: u64) -> bool
     ensures { result ≡ labelled end last x }
 {
     let room = room_of(end);
-    if last + room <= x {
-        return x + room <= 900;
-    }
-    false
+    last + room <= x && x + room <= 900
 }
 
 // Where the last label is after an edge.
@@ -134,17 +128,14 @@ fn edges_of(out: &mut [u8], at: usize, end: u64, y: u64, list: &[u64]) -> usize
 {
     let mut k = at;
     let mut last = 0;
-    let mut i = 0;
-    while i < list.len() {
-        if list.len() - i < 3 {
-            return k;
-        }
-        let middle = last_after(end, last, list[i]);
-        let next = last_after(end, middle, list[i + 1]);
-        k = edge(out, k, end, y, last, list[i]);
-        k = edge(out, k, end, y, middle, list[i + 1]);
+    let mut left = list;
+    while let [from, to, _, rest @ ..] = left {
+        let middle = last_after(end, last, *from);
+        let next = last_after(end, middle, *to);
+        k = edge(out, k, end, y, last, *from);
+        k = edge(out, k, end, y, middle, *to);
         last = next;
-        i += 3;
+        left = rest;
     }
     k
 }
@@ -373,10 +364,8 @@ pub fn tanks_drawn(s: Tanks, keys: [u64; 12], hold: u64, out: &mut [u8], at: usi
     ensures { Adds out.old at (tanks_say (meaning s) keys hold) result out.new }
 {
     let mut k = at;
-    let mut t = 0;
-    while t < 8 {
+    for t in 0..8 {
         k = tank_drawn(s, t, keys, hold, out, k);
-        t += 1;
     }
     k
 }

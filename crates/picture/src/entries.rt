@@ -5,7 +5,6 @@ ghost use Rattle.key_names.specs.Names.{Formed, names_of, key_text};
 ghost use Rattle.picture.specs.Picture.{patch_says, caption_says, entry_says, entries_say, keys_there, others_say, held_says, legend_says};
 
 use crate::elements::{colour, rect, text_at};
-use crate::lanes::one_if;
 use key_names::Names;
 use pen::say;
 
@@ -55,11 +54,8 @@ fn entries(out: &mut [u8], at: usize, names: Names, keys: [u64; 12]) -> usize
     ensures { Adds out.old at (entries_say (names_of names) keys) result out.new }
 {
     let mut k = at;
-    let mut i = 0;
-    while i < 12 {
-        let key = keys[i];
-        k = entry(out, k, names, text::wide(i), key);
-        i += 1;
+    for (i, key) in keys.iter().enumerate() {
+        k = entry(out, k, names, i as u64, *key);
     }
     k
 }
@@ -69,10 +65,8 @@ fn key_count(keys: [u64; 12]) -> u64
     ensures { (result ≡ keys_there keys 12) × (result ≤ 12) }
 {
     let mut n = 0;
-    let mut i = 0;
-    while i < 12 {
-        n = n + one_if(keys[i] < 65536);
-        i += 1;
+    for key in &keys {
+        n += u64::from(*key < 65536);
     }
     n
 }
@@ -122,5 +116,5 @@ pub fn legend_drawn(
     let a = entries(out, at, names, keys);
     let n = key_count(keys);
     let b = others(out, a, n, some);
-    held_entry(out, b, n + one_if(some), hold)
+    held_entry(out, b, n + u64::from(some), hold)
 }

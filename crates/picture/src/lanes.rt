@@ -9,7 +9,7 @@ ghost use Rattle.picture.specs.Lanes.{lane_in, key_within, any_key, occurs, high
 
 use crate::elements::{colour, frame, part, text_at};
 use crate::scale::Band;
-use pen::{larger, minus, say};
+use pen::say;
 use questions::{Asked, Shown};
 use styles::Mark;
 use tank::Tank;
@@ -49,7 +49,7 @@ pub fn lane_in(band: Band, r: u64, n: u64) -> Band
     Band {
         end: band.end,
         top: band.top + above,
-        height: larger(minus(below, above), 1),
+        height: below.saturating_sub(above).max(1),
     }
 }
 
@@ -58,11 +58,8 @@ pub fn lane_in(band: Band, r: u64, n: u64) -> Band
 fn within(least: u64, most: u64, m: Mark) -> bool
     ensures { result ≡ key_within least most m }
 {
-    let key = text::wide16(m.key);
-    if key < least {
-        return false;
-    }
-    key <= most
+    let key = u64::from(m.key);
+    least <= key && key <= most
 }
 
 // Has one of the first n marks of a table a key from `least` to `most`?
@@ -70,15 +67,7 @@ fn any_key(table: [Mark; 64], n: usize, least: u64, most: u64) -> bool
     requires { n ≤ 64 }
     ensures { result ≡ any_key least most (take n table) }
 {
-    let mut i = 0;
-    while i < n {
-        let m = table[i];
-        if within(least, most, m) {
-            return true;
-        }
-        i += 1;
-    }
-    false
+    table[..n].iter().any(|m| within(least, most, *m))
 }
 
 // Has a mark of the tank the key?
@@ -86,11 +75,7 @@ fn has(t: Tank, key: u64) -> bool
     requires { state.Sound t }
     ensures { result ≡ occurs (state.view t) key }
 {
-    if 65535 < key {
-        return false;
-    }
-    let table = t.table;
-    any_key(table, t.marks, key, key)
+    key <= 65535 && any_key(t.table, t.marks, key, key)
 }
 
 // Has a mark of the tank a key from `least` on?
@@ -98,15 +83,7 @@ fn has_higher(t: Tank, least: u64) -> bool
     requires { state.Sound t }
     ensures { result ≡ higher_in (state.view t) least }
 {
-    let table = t.table;
-    any_key(table, t.marks, least, 65535)
-}
-
-// One or none.
-pub fn one_if(yes: bool) -> u64
-    ensures { (result ≡ cond yes 1 0) × (result ≤ 1) }
-{
-    if yes { 1 } else { 0 }
+    any_key(t.table, t.marks, least, 65535)
 }
 
 // How many lanes the keys have.
@@ -115,10 +92,8 @@ fn key_count(t: Tank, keys: [u64; 12]) -> u64
     ensures { (result ≡ lanes_below (state.view t) keys 12) × (result ≤ 12) }
 {
     let mut n = 0;
-    let mut j = 0;
-    while j < 12 {
-        n = n + one_if(has(t, keys[j]));
-        j += 1;
+    for key in &keys {
+        n += u64::from(has(t, *key));
     }
     n
 }
@@ -128,7 +103,7 @@ fn lane_count(t: Tank, keys: [u64; 12], least: u64) -> u64
     requires { state.Sound t }
     ensures { (result ≡ lane_count (state.view t) keys least) × (result ≤ 13) }
 {
-    key_count(t, keys) + one_if(has_higher(t, least))
+    key_count(t, keys) + u64::from(has_higher(t, least))
 }
 
 // ---- Its bars
@@ -171,14 +146,11 @@ fn key_bars(t: Tank, lane: Lane, list: &[u64], out: &mut [u8], at: usize) -> usi
     ensures { Adds out.old at (key_bars (state.view t) lane list.now) result out.new }
 {
     let mut k = at;
-    let mut i = 0;
-    while i < list.len() {
-        if list.len() - i < 3 {
-            return k;
-        }
-        let yes = shows(t, lane.key, list[i]);
-        k = bar_if(yes, out, k, lane, list[i], list[i + 1]);
-        i += 3;
+    let mut left = list;
+    while let [from, to, _, rest @ ..] = left {
+        let yes = shows(t, lane.key, *from);
+        k = bar_if(yes, out, k, lane, *from, *to);
+        left = rest;
     }
     k
 }
@@ -201,7 +173,7 @@ fn higher(t: Tank, least: u64, pos: u64, marks: u64) -> bool
     requires { state.Sound t }
     ensures { result ≡ higher_at (state.view t) least pos marks }
 {
-    is_from(t, least, pos, minus(marks, 1))
+    is_from(t, least, pos, marks.saturating_sub(1))
 }
 
 // A bar for each stretch of a list that has a mark with the lane's key or a higher one.
@@ -210,14 +182,11 @@ fn higher_bars(t: Tank, lane: Lane, list: &[u64], out: &mut [u8], at: usize) -> 
     ensures { Adds out.old at (higher_bars (state.view t) lane list.now) result out.new }
 {
     let mut k = at;
-    let mut i = 0;
-    while i < list.len() {
-        if list.len() - i < 3 {
-            return k;
-        }
-        let some = higher(t, lane.key, list[i], list[i + 2]);
-        k = bar_if(some, out, k, lane, list[i], list[i + 1]);
-        i += 3;
+    let mut left = list;
+    while let [from, to, marks, rest @ ..] = left {
+        let some = higher(t, lane.key, *from, *marks);
+        k = bar_if(some, out, k, lane, *from, *to);
+        left = rest;
     }
     k
 }
@@ -257,12 +226,9 @@ fn key_lanes(t: Tank, keys: [u64; 12], rows: Rows, list: &[u64], out: &mut [u8],
 {
     let mut k = at;
     let mut r = 0;
-    let mut j = 0;
-    while j < 12 {
-        let key = keys[j];
-        k = key_lane(t, key, text::wide(j), r, rows, list, out, k);
-        r = r + one_if(has(t, key));
-        j += 1;
+    for (j, key) in keys.iter().enumerate() {
+        k = key_lane(t, *key, j as u64, r, rows, list, out, k);
+        r += u64::from(has(t, *key));
     }
     k
 }
@@ -277,7 +243,7 @@ fn higher_lane(t: Tank, least: u64, rows: Rows, list: &[u64], out: &mut [u8], at
         let lane = Lane {
             place: 12,
             key: least,
-            row: lane_in(band, minus(rows.count, 1), rows.count),
+            row: lane_in(band, rows.count.saturating_sub(1), rows.count),
         };
         return higher_bars(t, lane, list, out, at);
     }
@@ -288,11 +254,7 @@ fn higher_lane(t: Tank, least: u64, rows: Rows, list: &[u64], out: &mut [u8], at
 fn behind_last(keys: [u64; 12]) -> u64
     ensures { result ≡ behind_last keys }
 {
-    let last = keys[11];
-    if last < 65536 {
-        return last + 1;
-    }
-    65536
+    key_legend::keys::next(keys[11])
 }
 
 // The rows of a band.

@@ -17,7 +17,6 @@ ghost use Rattle.picture.specs.Picture.{picture_of};
 use bands::tanks_drawn;
 use entries::legend_drawn;
 use heading::heading;
-use key_legend::Whose;
 use key_names::Names;
 use tanks::Tanks;
 
@@ -28,7 +27,7 @@ pub fn picture(s: Tanks, names: Names, out: &mut [u8], at: usize) -> usize
 {
     let keys = key_legend::keys::either_keys(s);
     let hold = key_names::key_named(names, b"hold");
-    let higher = key_legend::keys::first_key(s, Whose::Either, key_legend::keys::next(keys[11]));
+    let higher = key_legend::keys::first_key(s, None, key_legend::keys::next(keys[11]));
     let a = heading(out, at);
     let b = tanks_drawn(s, keys, hold, out, a);
     let c = legend_drawn(out, b, names, keys, higher < 65536, hold);

@@ -2,8 +2,6 @@
 ghost use Rattle.std.specs.Prelude.{◌≡◌, ◌*◌, ◌/◌, ◌≤◌, ◌<◌};
 ghost use Rattle.picture.specs.Scale.{place_of, width_of};
 
-use pen::{larger, minus, sooner};
-
 // A band, or a row of one: it lies so many units from the top, and its right edge is the position `end`.
 #[derive(Clone, Copy)]
 pub struct Band {
@@ -27,7 +25,7 @@ pub fn place(end: u64, pos: u64) -> u64
 {
     let unit = end / 1099511627776 + 1;
     let whole = end / unit;
-    share(sooner(pos / unit, whole), whole)
+    share((pos / unit).min(whole), whole)
 }
 
 // How wide the positions from .. to are drawn.
@@ -35,5 +33,5 @@ pub fn width(end: u64, from: u64, to: u64) -> u64
     requires { 0 < end }
     ensures { result ≡ width_of end from to }
 {
-    larger(minus(place(end, to), place(end, from)), 1)
+    place(end, to).saturating_sub(place(end, from)).max(1)
 }

@@ -1,11 +1,8 @@
 -- What each case of an answer says: document 01's number, 0 or a refusal's, and the value beside it. `told_of`, `shown_of` and `asked_of`
 -- (Questions) make the cases, and each says again what it was made of (`told_said_lem`, `shown_said_lem`, `asked_said_lem`, proofs/AnswerLaws).
-use Rattle.std.specs.Prelude.{Bool, true, false, cond}
-use Rattle.std.proofs.Math.Option.{Option, none, some}
+use Rattle.std.specs.Prelude.{Bool, true, false, cond, Option, None, Some}
 use Rattle.styles.specs.declared.Mark.{Mark}
-use Rattle.styles.specs.declared.Ranked.{Ranked}
 use Rattle.styles.specs.declared.Value.{Value}
-use Rattle.styles.specs.declared.Winner.{Winner}
 use Rattle.styles.specs.Values.{is_null}
 use Rattle.tank.specs.Answers.{Said}
 use Rattle.questions.specs.declared.Asked.{Asked}
@@ -20,23 +17,18 @@ told_said Told.Yes = record { number = 0; value = true }
 
 -- the value shown, where there is one; beside a refusal none
 abbrev pub shown_said : Shown → Said (Option Value)
-shown_said (Shown.Refused n) = record { number = n; value = none }
-shown_said Shown.Nothing = record { number = 0; value = none }
-shown_said (Shown.Shows w) = record { number = 0; value = some w }
+shown_said (Shown.Refused n) = record { number = n; value = None }
+shown_said Shown.Nothing = record { number = 0; value = None }
+shown_said (Shown.Shows w) = record { number = 0; value = Some w }
 
 -- the mark of a rank, where there is one; beside a refusal none
 abbrev pub asked_said : Asked → Said (Option Mark)
-asked_said (Asked.Refused n) = record { number = n; value = none }
-asked_said Asked.Nothing = record { number = 0; value = none }
-asked_said (Asked.Found m) = record { number = 0; value = some m }
+asked_said (Asked.Refused n) = record { number = n; value = None }
+asked_said Asked.Nothing = record { number = 0; value = None }
+asked_said (Asked.Found m) = record { number = 0; value = Some m }
 
 -- ---- What is found, as a value that may be missing
 -- the value that a winner shows: none without a winner, and none where it is null
-abbrev pub value_shown : Winner → Option Value
-value_shown Winner.Nothing = none
-value_shown (Winner.Shows m) = cond (is_null m.value) none (some m.value)
-
--- the mark of a rank: past the last there is none
-abbrev pub mark_found : Ranked → Option Mark
-mark_found Ranked.Nothing = none
-mark_found (Ranked.Found m) = some m
+abbrev pub value_shown : Option Mark → Option Value
+value_shown None = None
+value_shown (Some m) = cond (is_null m.value) None (Some m.value)

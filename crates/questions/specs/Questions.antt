@@ -1,9 +1,7 @@
 -- Document 01, "Questions and lists": the questions on one tank, by its positions, each with its refusals and its answer.
-use Rattle.std.specs.Prelude.{ℕ, zero, suc, Bool, true, false, cond, ◌&&◌, List, [], ltb, leb}
+use Rattle.std.specs.Prelude.{ℕ, zero, suc, Bool, true, false, cond, ◌&&◌, List, [], Option, None, Some, ltb, leb}
 use Rattle.styles.specs.declared.Mark.{Mark}
-use Rattle.styles.specs.declared.Ranked.{Ranked}
 use Rattle.styles.specs.declared.Value.{Value}
-use Rattle.styles.specs.declared.Winner.{Winner}
 use Rattle.styles.specs.Answers.{styles_of, rank_of}
 use Rattle.styles.specs.Marks.{winner, has_key, shows_value, same_marks}
 use Rattle.styles.specs.Values.{value_nan, is_null}
@@ -28,15 +26,15 @@ abbrev pub shown_value : Value → Shown
 shown_value w = cond (is_null w) Shown.Nothing (Shown.Shows w)
 
 -- the winning mark's value, and nothing without one; refused: no value
-abbrev pub shown_of : ℕ → Winner → Shown
-shown_of zero Winner.Nothing = Shown.Nothing
-shown_of zero (Winner.Shows m) = shown_value m.value
+abbrev pub shown_of : ℕ → Option Mark → Shown
+shown_of zero None = Shown.Nothing
+shown_of zero (Some m) = shown_value m.value
 shown_of (suc n) w = Shown.Refused (suc n)
 
 -- the mark of a rank, and nothing past the last; refused: no mark
-abbrev pub asked_of : ℕ → Ranked → Asked
-asked_of zero Ranked.Nothing = Asked.Nothing
-asked_of zero (Ranked.Found m) = Asked.Found m
+abbrev pub asked_of : ℕ → Option Mark → Asked
+asked_of zero None = Asked.Nothing
+asked_of zero (Some m) = Asked.Found m
 asked_of (suc n) m = Asked.Refused (suc n)
 
 -- a set; refused: the empty one

@@ -11,7 +11,7 @@ ghost use Rattle.questions.specs.Questions.{value_at, styles_at, style_at, stret
 
 use runs::Place;
 use styles::table::no_marks;
-use styles::{Mark, Ranked, Styles, Value, Winner};
+use styles::{Mark, Styles, Value};
 use tank::Tank;
 
 // The answer of a yes/no question, or the refusal's number.
@@ -80,22 +80,22 @@ fn show_mark(m: Mark) -> Shown
 }
 
 // What a winner shows.
-pub fn show(w: Winner) -> Shown
+pub fn show(w: Option<Mark>) -> Shown
     ensures { result ≡ shown_of 0 w }
 {
     match w {
-        Winner::Nothing => Shown::Nothing,
-        Winner::Shows(m) => show_mark(m),
+        None => Shown::Nothing,
+        Some(m) => show_mark(m),
     }
 }
 
 // The mark of a rank as an answer.
-pub fn found(m: Ranked) -> Asked
+pub fn found(m: Option<Mark>) -> Asked
     ensures { result ≡ asked_of 0 m }
 {
     match m {
-        Ranked::Nothing => Asked::Nothing,
-        Ranked::Found(m) => Asked::Found(m),
+        None => Asked::Nothing,
+        Some(m) => Asked::Found(m),
     }
 }
 

@@ -4,15 +4,17 @@ use mathlib.Core.Bool.{Bool, true, false, cond}
 use mathlib.Core.List.{List}
 use Prim.Native.Nat.{ℕ}
 use lib.Bits.{bit_or}
+use lib.Dec.{eqb}
+use lib.Pointwise.{pointwise}
+use Rattle.std.specs.Cmp.Lexicographic.{same_text, other_text}
 use Rattle.text.specs.Bytes.{starts_of, same_of}
 use Rattle.richtext.specs.Types.{grows_before, grows_after, reversed, word, named}
 use Rattle.richtext.specs.Flags.{bit, expands_before, expands_after, type_of, new_byte, deleted_byte}
 use Rattle.richtext.specs.declared.ExpandType.{ExpandType}
 use Rattle.richtext.specs.declared.ExpandType.TheVariants.{Before, After, Both, None}
-use Rattle.richtext.specs.declared.NamedType.{NamedType}
-use Rattle.richtext.specs.declared.NamedType.TheVariants.{Is}
+use Rattle.std.specs.Prelude.{Option}
 use Rattle.laws.proofs.Cases.{cond_cases}
-use Rattle.text.proofs.Prefix.{same_true}
+use Rattle.text.proofs.Prefix.{same_refl, same_true, same_false}
 
 -- reverse twice is the identity
 pub reversed_reversed : (t : ExpandType) → reversed (reversed t) ≡ t
@@ -23,8 +25,13 @@ reversed_reversed None = refl
 
 -- Words
 
+-- what `==` of two slices says of their texts
+pub same_said : (s t : List ℕ) (b : Bool) → b ≡ pointwise eqb s t → same_of s t ≡ b
+same_said s t true e = rw (same_text s t e) (same_refl t)
+same_said s t false e = same_false s t (other_text s t e)
+
 -- each type's word names it
-pub named_word : (t : ExpandType) → named (word t) ≡ Is t
+pub named_word : (t : ExpandType) → named (word t) ≡ Option.Some t
 unfolding starts_of same_of
 named_word Before = refl
 named_word After = refl
@@ -32,11 +39,11 @@ named_word Both = refl
 named_word None = refl
 
 -- and no other bytes name it
-pub word_named : (s : List ℕ) (t : ExpandType) → named s ≡ Is t → s ≡ word t
+pub word_named : (s : List ℕ) (t : ExpandType) → named s ≡ Option.Some t → s ≡ word t
 word_named s t = step Before (step After (step Both (step None (λ k. cc))))
   where
-    step : (w : ExpandType) {r : NamedType} → (r ≡ Is t → s ≡ word t) → cond (same_of s (word w)) (Is w) r ≡ Is t → s ≡ word t
-    step w f = cond_cases (λ r. r ≡ Is t → s ≡ word t) (same_of s (word w)) (λ e k. let q : w ≡ t = cc in same_true s (word w) e ∙ ap word q) (λ e. f)
+    step : (w : ExpandType) {r : Option ExpandType} → (r ≡ Option.Some t → s ≡ word t) → cond (same_of s (word w)) (Option.Some w) r ≡ Option.Some t → s ≡ word t
+    step w f = cond_cases (λ r. r ≡ Option.Some t → s ≡ word t) (same_of s (word w)) (λ e k. let q : w ≡ t = cc in same_true s (word w) e ∙ ap word q) (λ e. f)
 
 -- Bytes
 

@@ -7,7 +7,7 @@ use Rattle.richtext.specs.Types.{named}
 use Rattle.richtext.specs.Flags.{type_of, before_at, deleted_byte}
 use Rattle.richtext.specs.declared.AnchorType.TheVariants.{Start, End}
 use Rattle.richtext.specs.declared.ExpandType.TheVariants.{Before, Both, None}
-use Rattle.richtext.specs.declared.NamedType.TheVariants.{NoneOfThese}
+use Rattle.std.specs.Prelude.{Option}
 
 -- any byte has a type, by bits 0x02 and 0x04 alone
 type_0x41 : type_of 65 ≡ None
@@ -40,18 +40,18 @@ end_0x82 : before_at End 130 ≡ false
 end_0x82 = refl
 
 -- no bytes, "Both", "bot" and "bothy" name none of the types
-named_empty : named [] ≡ NoneOfThese
+named_empty : named [] ≡ Option.None
 unfolding starts_of same_of
 named_empty = refl
 
-named_capital : named (66 ∷ 111 ∷ 116 ∷ 104 ∷ []) ≡ NoneOfThese
+named_capital : named (66 ∷ 111 ∷ 116 ∷ 104 ∷ []) ≡ Option.None
 unfolding starts_of same_of
 named_capital = refl
 
-named_short : named (98 ∷ 111 ∷ 116 ∷ []) ≡ NoneOfThese
+named_short : named (98 ∷ 111 ∷ 116 ∷ []) ≡ Option.None
 unfolding starts_of same_of
 named_short = refl
 
-named_long : named (98 ∷ 111 ∷ 116 ∷ 104 ∷ 121 ∷ []) ≡ NoneOfThese
+named_long : named (98 ∷ 111 ∷ 116 ∷ 104 ∷ 121 ∷ []) ≡ Option.None
 unfolding starts_of same_of
 named_long = refl

@@ -1,10 +1,8 @@
 -- The four expand types: on which sides a style grows, the words that name them, and the type that takes a style away.
-use Rattle.std.specs.Prelude.{Bool, true, false, cond, List, ℕ}
+use Rattle.std.specs.Prelude.{Bool, true, false, cond, List, ℕ, Option}
 use Rattle.text.specs.Bytes.{bytes, same_of}
 use Rattle.richtext.specs.declared.ExpandType.{ExpandType}
 use Rattle.richtext.specs.declared.ExpandType.TheVariants.{Before, After, Both, None}
-use Rattle.richtext.specs.declared.NamedType.{NamedType}
-use Rattle.richtext.specs.declared.NamedType.TheVariants.{Is, NoneOfThese}
 
 -- text inserted before the style takes it over
 abbrev pub grows_before : ExpandType → Bool
@@ -42,9 +40,9 @@ word Both = bytes "both"
 word None = bytes "none"
 
 -- exactly these four, whole; anything else, of any length, names none of the types
-abbrev pub named : List ℕ → NamedType
+abbrev pub named : List ℕ → Option ExpandType
 named s =
-    cond (same_of s (word Before)) (Is Before)
-    (cond (same_of s (word After)) (Is After)
-    (cond (same_of s (word Both)) (Is Both)
-    (cond (same_of s (word None)) (Is None) NoneOfThese)))
+    cond (same_of s (word Before)) (Option.Some Before)
+    (cond (same_of s (word After)) (Option.Some After)
+    (cond (same_of s (word Both)) (Option.Some Both)
+    (cond (same_of s (word None)) (Option.Some None) Option.None)))

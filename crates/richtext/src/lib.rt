@@ -12,7 +12,7 @@ const EXPAND_AFTER_MASK: u8 = 0b0000_0100;
 const ALIVE_MASK: u8 = 0b1000_0000;
 
 // On which sides of a style new text takes the style over.
-#[derive(Clone, Copy)]
+#[derive(Clone, Copy, PartialEq, Eq, Debug)]
 pub enum ExpandType {
     Before,
     After,
@@ -21,17 +21,10 @@ pub enum ExpandType {
 }
 
 // Which end of a style an anchor marks.
-#[derive(Clone, Copy)]
+#[derive(Clone, Copy, PartialEq, Eq, Debug)]
 pub enum AnchorType {
     Start,
     End,
-}
-
-// The type that a word names, or none of the four.
-#[derive(Clone, Copy)]
-pub enum NamedType {
-    Is(ExpandType),
-    NoneOfThese,
 }
 
 impl ExpandType {
@@ -39,55 +32,40 @@ impl ExpandType {
     pub fn expand_before(self) -> bool
         ensures { result ≡ grows_before self }
     {
-        match self {
-            ExpandType::Before => true,
-            ExpandType::After => false,
-            ExpandType::Both => true,
-            ExpandType::None => false,
-        }
+        matches!(self, ExpandType::Before | ExpandType::Both)
     }
 
     // Does text inserted after the style take it over?
     pub fn expand_after(self) -> bool
         ensures { result ≡ grows_after self }
     {
-        match self {
-            ExpandType::Before => false,
-            ExpandType::After => true,
-            ExpandType::Both => true,
-            ExpandType::None => false,
-        }
+        matches!(self, ExpandType::After | ExpandType::Both)
     }
 
     // Is it a type that no new mark and no entry of a config may have?
     pub fn retired(self) -> bool
         ensures { result ≡ retired self }
     {
-        match self {
-            ExpandType::Before => true,
-            ExpandType::After => false,
-            ExpandType::Both => false,
-            ExpandType::None => false,
-        }
+        matches!(self, ExpandType::Before)
     }
 
     // The type that one of the words before, after, both and none names; any other bytes name none.
-    pub fn try_from_str(s: &[u8]) -> NamedType
+    pub fn try_from_str(s: &[u8]) -> Option<ExpandType>
         ensures { result ≡ named s.now }
     {
-        if text::same(s, b"before") {
-            return NamedType::Is(ExpandType::Before);
+        if s == b"before".as_slice() {
+            return Some(ExpandType::Before);
         }
-        if text::same(s, b"after") {
-            return NamedType::Is(ExpandType::After);
+        if s == b"after".as_slice() {
+            return Some(ExpandType::After);
         }
-        if text::same(s, b"both") {
-            return NamedType::Is(ExpandType::Both);
+        if s == b"both".as_slice() {
+            return Some(ExpandType::Both);
         }
-        if text::same(s, b"none") {
-            return NamedType::Is(ExpandType::None);
+        if s == b"none".as_slice() {
+            return Some(ExpandType::None);
         }
-        NamedType::NoneOfThese
+        None
     }
 
     // The type of the mark that takes a style of this type away, so that text inserted beside it grows as it did.
@@ -104,7 +82,7 @@ impl ExpandType {
 }
 
 // A style's flag byte. Any byte may be carried.
-#[derive(Clone, Copy)]
+#[derive(Clone, Copy, PartialEq, Eq, Debug)]
 pub struct TextStyleInfoFlag {
     data: u8,
 }
@@ -162,17 +140,12 @@ impl TextStyleInfoFlag {
     pub fn expand_type(self) -> ExpandType
         ensures { result ≡ type_of self.«data» }
     {
-        let after = self.expand_after();
-        if self.expand_before() {
-            if after {
-                return ExpandType::Both;
-            }
-            return ExpandType::Before;
+        match (self.expand_before(), self.expand_after()) {
+            (true, true) => ExpandType::Both,
+            (true, false) => ExpandType::Before,
+            (false, true) => ExpandType::After,
+            (false, false) => ExpandType::None,
         }
-        if after {
-            return ExpandType::After;
-        }
-        ExpandType::None
     }
 
     // Text inserted beside this anchor: does it go before the anchor?

@@ -4,8 +4,8 @@ use mathlib.Core.Path.{◌≡◌, refl, sym, ap, ◌∙◌}
 use mathlib.Core.List.{List}
 use native.Mathlib.Omega.{arith}
 use native.Mathlib.Decide.{dec_lt}
-use lib.ListN.{length, get_or, set, drop}
-use lib.Seq.{ext_get_or, drop-set-lt, drop-drop, get_or-drop}
+use lib.ListN.{length, get_or, drop}
+use lib.Seq.{ext_get_or, drop-drop, get_or-drop}
 use Rattle.runs.specs.Runs.{Run, run, runs, total, set_at, Canon, SameBehind, Spare}
 use Rattle.runs.specs.Edits.{Joined, Appended}
 use Rattle.runs.proofs.Laws.{length_runs, push_longer}
@@ -14,12 +14,6 @@ use Rattle.runs.proofs.EditLaws.{copy_longer, one_joined, pushed_is, copied_is}
 -- ---- nothing stored, and the stores of a push
 pub behind_none : (lens sets : List ℕ) (n : ℕ) → SameBehind n lens sets lens sets
 behind_none lens sets n = record { lens_stay = refl; sets_stay = refl }
-
-pub behind_join : (lens sets : List ℕ) (n i v : ℕ) → i < n → SameBehind n lens sets (set lens i v) sets
-behind_join lens sets n i v h = record { lens_stay = drop-set-lt n lens i v h; sets_stay = refl }
-
-pub behind_new : (lens sets : List ℕ) (n l s : ℕ) → SameBehind (n + 1) lens sets (set lens n l) (set sets n s)
-behind_new lens sets n l s = record { lens_stay = drop-set-lt (n + 1) lens n l (omega arith); sets_stay = drop-set-lt (n + 1) sets n s (omega arith) }
 
 -- ---- one call after another: the count never falls
 pub count_push : (lens sets lens' sets' : List ℕ) (n m l s : ℕ) → Canon (runs lens sets n)

@@ -5,34 +5,43 @@ use mathlib.Core.List.{List, [], ◌∷◌}
 use native.Mathlib.Omega.{arith}
 use native.Mathlib.Decide.{dec_lt}
 use native.Mathlib.Numerals.{add-one}
-use lib.ListN.{length, get_or, set}
-use lib.Seq.{get_or-set_same, get_or-set_other, drop-set-lt}
+use lib.ListN.{length, get_or, take, drop, length-take, length-drop}
+use lib.Seq.{get_or-take}
+use borrow.Rule.Slice.PartMut.{put_mid}
+use Rattle.std.proofs.lemmas.List.{get_or-drop, get_or-append_right}
+use Rattle.std.proofs.lemmas.Slice.{take-put_mid, take-put_mid_below, drop-put_mid}
 use Rattle.runs.specs.Runs.{Run, run, runs, total, set_at, Other, Canon, changing, Found, SameBehind}
 use Rattle.runs.specs.Edits.{CanPush, Appended}
 use Rattle.runs.specs.Carry.{Carried, CanCarry}
 use Rattle.runs.proofs.Copies.{push_run, clip, copy_runs, adding}
 use Rattle.runs.proofs.Laws.{push_new, push_by, push_longer, length_runs, runs_ext, total_sums, total_more, total_mono, copy_more, copy_grows, copy_holds, copy_late, copy_early}
 use Rattle.runs.proofs.EditLaws.{add_none, joined_is, pushed_is, copied_joined, push_can}
-use Rattle.runs.proofs.BehindLaws.{drop_on}
 
--- ---- numbers carried over
-pub carried_none : (n k : ℕ) (source xs : List ℕ) → Carried n k 0 source xs xs
-carried_none n k source xs = record { front = λ j h. refl; here = λ j h. absurd (omega arith); rest = refl }
+-- ---- numbers carried over: a part of a list is written over by as many numbers of another
+module _ (n k count : ℕ) (source xs ys : List ℕ) (room : n + count ≤ length xs) (there : k + count ≤ length source) (is : ys ≡ take (k + count - k) (drop k source)) where
+  carried_long : length ys ≡ n + count - n
+  carried_long = omega (arith, ap length is, length-take (k + count - k) (drop k source), length-drop k source)
 
-pub carried_more : {n k i : ℕ} {source xs ys : List ℕ} → Carried n k i source xs ys → n + i < length ys → Carried n k (i + 1) source xs (set ys (n + i) (get_or source (k + i) 0))
-carried_more {n} {k} {i} {source} {xs} {ys} c h =
-    let v = get_or source (k + i) 0 in
-    record {
-      front = λ j g. get_or-set_other ys (n + i) j v 0 (λ z. omega arith) ∙ c.front j g;
-      here = λ j g.
-          elim (dec_lt j i) [
-            | yes l ↦ get_or-set_other ys (n + i) (n + j) v 0 (λ z. omega arith) ∙ c.here j l
-            | no l ↦
-                let e : i ≡ j = omega arith in
-                subst (λ (x : ℕ). get_or (set ys (n + i) v) (n + x) 0 ≡ get_or source (k + x) 0) e (get_or-set_same ys (n + i) v 0 h)
-          ];
-      rest = drop-set-lt (n + (i + 1)) ys (n + i) v (omega arith) ∙ drop_on (n + i) (n + (i + 1)) xs ys (omega arith) c.rest;
-    }
+  carried_here : (j : ℕ) → j < count → get_or (put_mid n (n + count - n) xs ys) (n + j) 0 ≡ get_or source (k + j) 0
+  carried_here j h =
+      let front : length (take n xs) ≡ n = omega (arith, length-take n xs) in
+      let at : n + j - n ≡ j = omega arith in
+      let below : j < k + count - k = omega arith in
+      sym (get_or-take (n + count) (put_mid n (n + count - n) xs ys) (n + j) 0 (omega arith))
+      ∙ ap (λ (x : List ℕ). get_or x (n + j) 0) (take-put_mid n (n + count - n) xs ys (n + count) (omega (arith, carried_long)) (omega arith))
+      ∙ get_or-append_right (take n xs) ys n (n + j) 0 front (omega arith)
+      ∙ rw (at, is) (get_or-take (k + count - k) (drop k source) j 0 below ∙ get_or-drop k source j 0)
+
+  pub carried_part : Carried n k count source xs (put_mid n (n + count - n) xs ys)
+  carried_part =
+      record {
+        front = λ j h.
+            sym (get_or-take n (put_mid n (n + count - n) xs ys) j 0 h)
+            ∙ ap (λ (x : List ℕ). get_or x j 0) (take-put_mid_below n (n + count - n) xs ys n (omega arith) (omega arith))
+            ∙ get_or-take n xs j 0 h;
+        here = carried_here;
+        rest = drop-put_mid n (n + count - n) xs ys (n + count) (omega arith) (omega arith) carried_long;
+      }
 
 -- ---- the runs before a place
 pub canon_first : (lens sets : List ℕ) (n m : ℕ) → n ≤ m → Canon (runs lens sets m) → Canon (runs lens sets n)

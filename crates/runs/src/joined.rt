@@ -14,11 +14,7 @@ fn carry(out: &mut [u64], n: usize, source: &[u64], k: usize, count: usize)
     requires { (n + count ≤ length out.old) × (k + count ≤ length source.now) }
     ensures { Carried n k count source.now out.old out.new }
 {
-    let mut i = 0;
-    while i < count {
-        out[n + i] = source[k + i];
-        i += 1;
-    }
+    out[n..n + count].copy_from_slice(&source[k..k + count]);
 }
 
 // The positions before `to`. Returns how many runs they have.

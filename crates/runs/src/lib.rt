@@ -34,25 +34,11 @@ pub fn push(lens: &mut [u64], sets: &mut [u64], n: usize, len: u64, set: u64) ->
     n + 1
 }
 
-fn later(a: u64, b: u64) -> u64
-    ensures { result ≡ max a b }
-{
-    if a < b { b } else { a }
-}
-
-fn sooner(a: u64, b: u64) -> u64
-    ensures { result ≡ min a b }
-{
-    if a < b { a } else { b }
-}
-
 // How many of the positions start .. end lie in from .. to.
 fn clip(from: u64, to: u64, start: u64, end: u64) -> u64
     ensures { result ≡ min to end - max from start }
 {
-    let lo = later(from, start);
-    let hi = sooner(to, end);
-    if lo < hi { hi - lo } else { 0 }
+    to.min(end).saturating_sub(from.max(start))
 }
 
 // The set `set` with `bits`, and without `gone`.
@@ -82,10 +68,9 @@ pub fn copy(
     ensures same_behind { SameBehind result olens.old osets.old olens.new osets.new }
 {
     let first = find_forward(lens, m, from);
-    let mut k = first.index;
     let mut start = first.start;
     let mut at = n;
-    while k < m {
+    for k in first.index..m {
         if to <= start {
             return at;
         }
@@ -93,7 +78,6 @@ pub fn copy(
         let len = clip(from, to, start, end);
         at = push(olens, osets, at, len, change(sets[k], bits, gone));
         start = end;
-        k += 1;
     }
     at
 }
@@ -111,9 +95,8 @@ fn find_forward(lens: &[u64], n: usize, pos: u64) -> Place
     requires { (n ≤ length lens.now) × (sums lens.now n < 2 ^ 63) }
     ensures { Found lens.now n pos result.index result.start result.end }
 {
-    let mut i = 0;
     let mut start: u64 = 0;
-    while i < n {
+    for i in 0..n {
         let end = start + lens[i];
         if pos < end {
             return Place {
@@ -123,10 +106,9 @@ fn find_forward(lens: &[u64], n: usize, pos: u64) -> Place
             };
         }
         start = end;
-        i += 1;
     }
     Place {
-        index: i,
+        index: n,
         start: start,
         end: start,
     }
@@ -139,6 +121,7 @@ fn find_backward(lens: &[u64], n: usize, all: u64, pos: u64) -> Place
 {
     let mut k = n;
     let mut start = all;
+    // No range of runs: the walk ends by position.
     while pos < start {
         k -= 1;
         start -= lens[k];
@@ -251,26 +234,14 @@ pub struct FirstRuns {
     pub end: u64,
 }
 
-// The smaller of a number of runs and a budget.
-fn affordable(n: usize, budget: u64) -> usize
-    ensures { result ≡ min n budget }
-{
-    if budget < n as u64 {
-        budget as usize
-    } else {
-        n
-    }
-}
-
 // The first runs that begin before the position `before`, no more than `budget`, and where they end, clipped at `before`.
 pub fn first_runs(lens: &[u64], n: usize, before: u64, budget: u64) -> FirstRuns
     requires { (n ≤ length lens.now) × (before ≤ sums lens.now n) × (sums lens.now n < 2 ^ 63) }
     ensures { BudgetReaches lens.now n before budget result.count result.end }
 {
-    let most = affordable(n, budget);
-    let mut i = 0;
+    let most = n.min(budget as usize);
     let mut end: u64 = 0;
-    while i < most {
+    for i in 0..most {
         if before <= end {
             return FirstRuns {
                 count: i,
@@ -278,10 +249,9 @@ pub fn first_runs(lens: &[u64], n: usize, before: u64, budget: u64) -> FirstRuns
             };
         }
         end += lens[i];
-        i += 1;
     }
     FirstRuns {
-        count: i,
-        end: sooner(end, before),
+        count: most,
+        end: end.min(before),
     }
 }

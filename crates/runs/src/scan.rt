@@ -5,7 +5,7 @@ ghost use Rattle.runs.specs.Runs.{runs, set_at, total};
 ghost use Rattle.runs.specs.Positions.{any_at, all_at, stretch_to, seek_from};
 ghost use Rattle.runs.specs.Scan.{meets, shows, passes, common_at, CanScan, CanFind};
 
-use super::{clip, find, later, set_at, sooner};
+use super::{clip, find, set_at};
 
 // What a scan looks for in a set: a bit of a mask; none of it; that the highest bit of a first mask is not in a second; that its bits of a mask
 // are others than these.
@@ -44,16 +44,14 @@ fn some_in(lens: &[u64], sets: &[u64], n: usize, from: u64, to: u64, test: Test)
     requires { CanScan lens.now sets.now n to }
     ensures { result ≡ any_at (λ p. passes test (set_at (runs lens.now sets.now n) p)) from to }
 {
-    let mut k = 0;
     let mut start: u64 = 0;
-    while k < n {
+    for k in 0..n {
         let end = start + lens[k];
         let len = clip(from, to, start, end);
         if here(len, test, sets[k]) {
             return true;
         }
         start = end;
-        k += 1;
     }
     false
 }
@@ -90,13 +88,14 @@ pub fn back(lens: &[u64], sets: &[u64], n: usize, mask: u64, last: u64) -> u64
     let mut i = 0;
     let mut start: u64 = 0;
     let mut from: u64 = 0;
+    // No range of runs: the walk ends by position.
     while start <= last {
         let len = lens[i];
         let missed = here(len, Test::Misses(mask), sets[i]);
         start += len;
         i += 1;
         if missed {
-            from = sooner(start, last + 1);
+            from = start.min(last + 1);
         }
     }
     from
@@ -107,16 +106,14 @@ fn first_from(lens: &[u64], sets: &[u64], n: usize, from: u64, test: Test) -> u6
     requires { CanScan lens.now sets.now n from }
     ensures { result ≡ seek_from (λ p. passes test (set_at (runs lens.now sets.now n) p)) from (total (runs lens.now sets.now n) - from) }
 {
-    let mut j = 0;
     let mut start: u64 = 0;
-    while j < n {
+    for j in 0..n {
         let end = start + lens[j];
         let len = clip(from, end, start, end);
         if here(len, test, sets[j]) {
-            return later(from, start);
+            return from.max(start);
         }
         start = end;
-        j += 1;
     }
     start
 }

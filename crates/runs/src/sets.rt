@@ -11,11 +11,9 @@ pub fn union_of(sets: &[u64], n: usize) -> u64
     requires { n ≤ length sets.now }
     ensures { (lens : List ℕ) → result ≡ gather (runs lens sets.now n) }
 {
-    let mut k = 0;
     let mut all: u64 = 0;
-    while k < n {
+    for k in 0..n {
         all = sets[k] | all;
-        k += 1;
     }
     all
 }
@@ -25,10 +23,8 @@ pub fn open_sets(sets: &mut [u64], n: usize, i: usize)
     requires { CanOpen sets.old n }
     ensures { Renumbered (λ s r. r ≡ open_bit i s) n sets.old sets.new }
 {
-    let mut k = 0;
-    while k < n {
+    for k in 0..n {
         sets[k] = styles::bits::open_bit(sets[k], i);
-        k += 1;
     }
 }
 
@@ -37,10 +33,8 @@ fn keep_sets(sets: &mut [u64], n: usize, mask: u64)
     requires { n ≤ length sets.old }
     ensures { Renumbered (λ s r. r ≡ bit_and s mask) n sets.old sets.new }
 {
-    let mut k = 0;
-    while k < n {
+    for k in 0..n {
         sets[k] = styles::bits::both(sets[k], mask);
-        k += 1;
     }
 }
 
@@ -49,10 +43,8 @@ fn close_sets(sets: &mut [u64], n: usize, i: usize)
     requires { n ≤ length sets.old }
     ensures { Renumbered (λ s r. r ≡ close_bit i s) n sets.old sets.new }
 {
-    let mut k = 0;
-    while k < n {
+    for k in 0..n {
         sets[k] = styles::bits::close_bit(sets[k], i);
-        k += 1;
     }
 }
 
@@ -62,9 +54,7 @@ pub fn squeeze_sets(sets: &mut [u64], n: usize, mask: u64)
     ensures { Renumbered (Squeezed mask) n sets.old sets.new }
 {
     keep_sets(sets, n, mask);
-    let mut i = styles::bits::width(mask);
-    while 0 < i {
-        i -= 1;
+    for i in (0..styles::bits::width(mask)).rev() {
         if (mask >> i) % 2 == 0 {
             close_sets(sets, n, i);
         }

@@ -5,8 +5,6 @@ ghost use Rattle.std.specs.Int.Count.{ones};
 ghost use Rattle.runs.specs.Runs.{runs, total, Canon};
 ghost use Rattle.runs.specs.Stretches.{entry, in_front, listed, CanList, CanCount};
 
-use super::{later, sooner};
-
 // How many marks a set has.
 fn marks_of(set: u64) -> u64
     ensures { result ≡ ones set }
@@ -46,7 +44,7 @@ fn write(out: &mut [u64], at: usize, start: u64, end: u64, marks: u64, least: u6
 pub fn part_width(from: u64, to: u64, start: u64, end: u64, set: u64, least: u64) -> usize
     ensures { result ≡ length (entry least (max from start) (min to end) (ones set)) }
 {
-    width(later(from, start), sooner(to, end), marks_of(set), least)
+    width(from.max(start), to.min(end), marks_of(set), least)
 }
 
 // Writes the part of a stretch that lies in from .. to, from place `at` on. Returns the place after it.
@@ -64,9 +62,7 @@ pub fn write_part(
     ensures out_after { out.new ≡ take at out.old ++ entry least (max from start) (min to end) (ones set) ++ drop (at + length (entry least (max from start) (min to end) (ones set))) out.old }
     ensures value { result ≡ at + length (entry least (max from start) (min to end) (ones set)) }
 {
-    let lo = later(from, start);
-    let hi = sooner(to, end);
-    write(out, at, lo, hi, marks_of(set), least)
+    write(out, at, from.max(start), to.min(end), marks_of(set), least)
 }
 
 // The stretches of from .. to, clipped to it, that have at least `least` marks. Returns how many numbers they are.
@@ -83,14 +79,12 @@ fn list(
     ensures out_after { out.new ≡ in_front (listed least from to lens.now sets.now n) out.old }
     ensures value { result ≡ length (listed least from to lens.now sets.now n) }
 {
-    let mut k = 0;
     let mut start: u64 = 0;
     let mut at = 0;
-    while k < n {
+    for k in 0..n {
         let end = start + lens[k];
         at = write_part(out, at, from, to, start, end, sets[k], least);
         start = end;
-        k += 1;
     }
     at
 }
@@ -132,14 +126,12 @@ fn need(lens: &[u64], sets: &[u64], n: usize, from: u64, to: u64, least: u64) ->
     requires { (CanCount lens.now sets.now n) × Canon (runs lens.now sets.now n) × (to ≤ total (runs lens.now sets.now n)) }
     ensures { result ≡ length (listed least from to lens.now sets.now n) }
 {
-    let mut k = 0;
     let mut start: u64 = 0;
     let mut count = 0;
-    while k < n {
+    for k in 0..n {
         let end = start + lens[k];
         count += part_width(from, to, start, end, sets[k], least);
         start = end;
-        k += 1;
     }
     count
 }

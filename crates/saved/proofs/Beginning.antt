@@ -1,4 +1,5 @@
 -- The first 17 lines as the code reads them, and all of a text.
+use Rattle.std.specs.Prelude.{Option, Some, None}
 use mathlib.Core.Path.{◌≡◌, refl, sym, ap, ◌∙◌}
 use mathlib.Core.Bool.{Bool, true, false, cond}
 use mathlib.Core.List.{List, [], ◌∷◌}
@@ -8,7 +9,6 @@ use lib.Dec.{leb}
 use lib.ListN.{length, get_or, drop, drop_of_length-le}
 use lib.Seq.{drop-cons}
 use borrow.Author.Tests.{le-leb}
-use Rattle.text_lines.specs.declared.Taken.{Taken}
 use Rattle.text_lines.specs.Lines.{Got, bad, got, then, provided, ended, decimal_from, taken_by}
 use Rattle.runs.proofs.ScanLaws.{all_yes}
 use Rattle.tanks.specs.declared.Setting.{Setting}
@@ -70,14 +70,14 @@ module _ (text : List ℕ) where
     inside = omega arith;
   }
 
-  abbrev pub Version : Taken → Type 0
+  abbrev pub Version : Option (ℕ × ℕ) → Type 0
   Version r = r ≡ taken_by version_name (decimal_from 1 newest) text 0
 
-  pub version_wrong : Version Taken.Bad → (r : Begun) → r.line ≡ 1 → r.at ≡ 0 → Begins text r
+  pub version_wrong : Version None → (r : Begun) → r.line ≡ 1 → r.at ≡ 0 → Begins text r
   unfolding saying
   version_wrong e r p a = begin_wrong 1 (omega arith) r p a (sym (step_bad (saying newest text) version_name 1 newest text 0 0 i1 refl e))
 
-  module _ (v start : ℕ) (e : Version (Taken.Number v start)) (p : Pairs) (rp : ReadsPairs true text start 1 p) where
+  module _ (v start : ℕ) (e : Version (Some (v, start))) (p : Pairs) (rp : ReadsPairs true text start 1 p) where
     version_on : saying newest text ≡ i1 v 1 (drop start text)
     unfolding saying
     version_on = step_on (saying newest text) version_name 1 newest text 0 0 i1 refl v start e

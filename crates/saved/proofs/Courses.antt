@@ -16,11 +16,10 @@ use Rattle.tank.specs.Lengths.{gained, lost}
 use Rattle.tank.specs.State.{table_of}
 use Rattle.tanks.specs.declared.Setting.{Setting}
 use Rattle.tanks.specs.declared.Tanks.{Tanks}
-use Rattle.tanks.specs.declared.Done.{Done}
 use Rattle.tanks.specs.Settings.{share_of, limit_of, claims}
 use Rattle.tanks.specs.House.{House, tank_at, held, opening, refusal_at, after_at, inserted_set_at, removed_first_at, Call, after_all, Ten, sum_on, FirstOn, house_then}
 use Rattle.tanks.specs.Pool.{runs_in, tank_of, meaning, Sound}
-use Rattle.tanks.specs.Promises.{CalledAt, Calls, set_beside, first_beside, DoneAt}
+use Rattle.tanks.specs.Promises.{Coming, CalledAt, Calls, set_beside, first_beside, DoneAt}
 use Rattle.tanks.proofs.SettingLaws.{runs_claims}
 use Rattle.tanks.proofs.Theorems.{Kept, kept_sound, settings_stay, others_stay, number_stays, set_stays, first_stays, NoWant, share_free, delete_no_want, lab_never_9_or_10, ten_then, ten_only}
 use Rattle.tanks.proofs.Sequences.{calls_mean}
@@ -282,7 +281,7 @@ module _ (s : Tanks) (ok : Sound s) (xs : List Step) (u : Tanks) (course : Cours
     course_others w ne = ap (λ (h : House). tank_at h w) called.is ∙ others_stay (meaning u) t e w ne
 
     -- and no answer of another, refusal 10 aside
-    pub course_answers : (w : ℕ) → w ≢ t → (d : Edit) (a b : Done) → DoneAt u w d a → DoneAt next w d b → a.number ≢ 10 → b.number ≢ 10
+    pub course_answers : (w : ℕ) → w ≢ t → (d : Edit) (a b : Coming) → DoneAt u w d a → DoneAt next w d b → a.number ≢ 10 → b.number ≢ 10
         → (b.number ≡ a.number) × (b.styles ≡ a.styles) × (b.first ≡ a.first)
     course_answers w ne d a b p q na nb =
         let g : House = after_at (meaning u) t e in

@@ -1,8 +1,8 @@
 -- The lines of marks are exact, and what is accepted is sorted by identity.
+use Rattle.std.specs.Prelude.{Option, Some, None}
 use mathlib.Core.Path.{◌≡◌, refl, sym, ap, ap₂, ◌∙◌, subst}
 use mathlib.Core.Bool.{Bool, true, false, cond}
 use mathlib.Core.List.{List, [], ◌∷◌, ◌++◌, append_assoc, append-nil}
-use mathlib.Core.Option.{Option, none, some}
 use Prim.Native.Nat.{ℕ, zero, suc, ◌+◌, ◌-◌, ◌^◌, ◌≤◌, ◌<◌}
 use native.Mathlib.Omega.{arith}
 use native.Mathlib.Decide.{ℕ_discrete, dec_lt}
@@ -11,7 +11,6 @@ use lib.IntN.{ℤ, pos}
 use lib.ListN.{length, length-append}
 use borrow.Author.Tests.{eq-eqb, leb-true, leb-false}
 use Rattle.laws.proofs.Cases.{cond_cases}
-use Rattle.text.specs.declared.Signed32.{Signed32}
 use Rattle.text.specs.Bytes.{bytes, same_of}
 use Rattle.text.specs.Signed.{signed32_of}
 use Rattle.text.proofs.Integers.{integer32_only}
@@ -60,20 +59,20 @@ since_got first v missing reading n t a k rest P yes' no' e = by (leb first v) r
   by false h q = let i = got_inj missing a n k t rest q in no' (leb-false first v h) i.0 i.1 i.2
 
 -- ---- the party
-named_only : (t : List ℕ) (who : Party) → party_named t ≡ some who → t ≡ party_name who
+named_only : (t : List ℕ) (who : Party) → party_named t ≡ Some who → t ≡ party_name who
 named_only t who e =
-    cond_cases (λ r. r ≡ some who → t ≡ party_name who) (same_of t (party_name Plant))
+    cond_cases (λ r. r ≡ Some who → t ≡ party_name who) (same_of t (party_name Plant))
     (λ h f. let q : Plant ≡ who = cc in same_true t (party_name Plant) h ∙ ap party_name q)
-    (λ h. cond_cases (λ r. r ≡ some who → t ≡ party_name who) (same_of t (party_name Lab))
+    (λ h. cond_cases (λ r. r ≡ Some who → t ≡ party_name who) (same_of t (party_name Lab))
     (λ h f. let q : Lab ≡ who = cc in same_true t (party_name Lab) h ∙ ap party_name q)
     (λ h f. let z : ◌≡◌ {A = ℕ} 0 1 = cc in absurd (omega arith)))
     e
 
-from_only : (least : ℕ) (o : Option Party) (who : Party) → party_from least o ≡ some who → (o ≡ some who) × (least ≤ rank who)
-from_only least none who e = let z : ◌≡◌ {A = ℕ} 0 1 = cc in absurd (omega arith)
-from_only least (some p) who e =
-    cond_cases (λ r. r ≡ some who → (some p ≡ some who) × (least ≤ rank who)) (leb least (rank p))
-    (λ h f. let q : p ≡ who = cc in (ap some q, omega (arith, leb-true least (rank p) h, ap rank q)))
+from_only : (least : ℕ) (o : Option Party) (who : Party) → party_from least o ≡ Some who → (o ≡ Some who) × (least ≤ rank who)
+from_only least None who e = let z : ◌≡◌ {A = ℕ} 0 1 = cc in absurd (omega arith)
+from_only least (Some p) who e =
+    cond_cases (λ r. r ≡ Some who → (Some p ≡ Some who) × (least ≤ rank who)) (leb least (rank p))
+    (λ h f. let q : p ≡ who = cc in (ap Some q, omega (arith, leb-true least (rank p) h, ap rank q)))
     (λ h f. let z : ◌≡◌ {A = ℕ} 0 1 = cc in absurd (omega arith))
     e
 
@@ -127,9 +126,9 @@ identity_only before who n t i k rest e =
     }
 
 -- ---- the rest of a mark
-counter_only : (s : Signed32) (z : ℤ) → counter_said s ≡ some z → s ≡ Signed32.Number z
-counter_only Signed32.Bad z e = let y : ◌≡◌ {A = ℕ} 0 1 = cc in absurd (omega arith)
-counter_only (Signed32.Number x) z e = let q : x ≡ z = cc in ap Signed32.Number q
+counter_only : (s : Option ℤ) (z : ℤ) → counter_said s ≡ Some z → s ≡ Some z
+counter_only None z e = let y : ◌≡◌ {A = ℕ} 0 1 = cc in absurd (omega arith)
+counter_only (Some x) z e = let q : x ≡ z = cc in ap Some q
 
 pub record CounterRead (v : ℕ) (t : List ℕ) (z : ℤ) (rest : List ℕ) (there : Bool) : Type 0 where
   pub is : t ≡ cond there (counter_text z) [] ++ rest
@@ -259,8 +258,8 @@ mark_only v before n t m k rest e =
     mark_by v before a.value b.value m t a.text b.text rest x y z
 
 -- ---- a mark comes after the one before it
-comes_after : (p m : Mark) → rank p.party ≤ rank m.party → key_least (own_before (some p) m.party) ≤ m.key
-    → lamport_least (own_before (some p) m.party) m.key ≤ m.lamport → peer_least (own_before (some p) m.party) m.key m.lamport ≤ m.peer
+comes_after : (p m : Mark) → rank p.party ≤ rank m.party → key_least (own_before (Some p) m.party) ≤ m.key
+    → lamport_least (own_before (Some p) m.party) m.key ≤ m.lamport → peer_least (own_before (Some p) m.party) m.key m.lamport ≤ m.peer
     → stands (id_of p) (id_of m) ≡ Before
 comes_after p m o a b c =
     elim (ℕ_discrete (rank m.party) (rank p.party)) [
@@ -268,8 +267,8 @@ comes_after p m o a b c =
       | yes r ↦
           let same : eqb (rank m.party) (rank p.party) ≡ true = eq-eqb (rank m.party) (rank p.party) r in
           let a' : p.key ≤ m.key = rw same at a in
-          let b' : lamport_least (some p) m.key ≤ m.lamport = rw same at b in
-          let c' : peer_least (some p) m.key m.lamport ≤ m.peer = rw same at c in
+          let b' : lamport_least (Some p) m.key ≤ m.lamport = rw same at b in
+          let c' : peer_least (Some p) m.key m.lamport ≤ m.peer = rw same at c in
           elim (ℕ_discrete m.key p.key) [
             | no h ↦ of_less (by_key (sym r) (omega arith))
             | yes h ↦
@@ -285,13 +284,13 @@ comes_after p m o a b c =
 
 -- all marks before it come before it
 unfoldable pub AfterLast : Option Mark → Mark → Type 0
-AfterLast none m = Unit {0}
-AfterLast (some p) m = stands (id_of p) (id_of m) ≡ Before
+AfterLast None m = Unit {0}
+AfterLast (Some p) m = stands (id_of p) (id_of m) ≡ Before
 
 -- the last mark is one that the version can say
 unfoldable pub LastSayable : ℕ → Option Mark → Type 0
-LastSayable v none = Unit {0}
-LastSayable v (some p) = Sayable v p
+LastSayable v None = Unit {0}
+LastSayable v (Some p) = Sayable v p
 
 pub last_sayable : (v : ℕ) (ms : List Mark) → AllSayable v ms → LastSayable v (last_of ms)
 unfolding AllSayable LastSayable
@@ -309,8 +308,8 @@ parties_up v p m a b h =
 
 pub after_last : (v : ℕ) (before : Option Mark) (t : List ℕ) (m : Mark) (rest : List ℕ) → LastSayable v before → MarkRead v before t m rest → AfterLast before m
 unfolding AfterLast LastSayable
-after_last v none t m rest s r = tt
-after_last v (some p) t m rest s r = comes_after p m (parties_up v p m s r.sayable r.party_least_lem) r.key_least_lem r.lamport_least_lem r.peer_least_lem
+after_last v None t m rest s r = tt
+after_last v (Some p) t m rest s r = comes_after p m (parties_up v p m s r.sayable r.party_least_lem) r.key_least_lem r.lamport_least_lem r.peer_least_lem
 
 above_snoc : (i : _) (ms : List Mark) (m : Mark) → Above i ms → stands i (id_of m) ≡ Before → Above i (ms ++ m ∷ [])
 unfolding Above

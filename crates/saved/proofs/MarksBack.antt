@@ -1,8 +1,8 @@
 -- The text of sorted marks that a version can say is accepted, and says those marks.
+use Rattle.std.specs.Prelude.{Option, Some, None}
 use mathlib.Core.Path.{◌≡◌, refl, sym, ap, ◌∙◌}
 use mathlib.Core.Bool.{Bool, true, false, cond}
 use mathlib.Core.List.{List, [], ◌∷◌, ◌++◌, append_assoc, append-nil}
-use mathlib.Core.Option.{Option, none, some}
 use Prim.Native.Nat.{ℕ, suc, ◌+◌, ◌-◌, ◌^◌, ◌≤◌, ◌<◌}
 use native.Mathlib.Omega.{arith}
 use native.Mathlib.Decide.{ℕ_discrete, dec_lt}
@@ -67,7 +67,7 @@ kind_free Kind.Bool = refl
 kind_free Kind.Whole = refl
 kind_free Kind.Decimal = refl
 
-kind_back : (k : Kind) → kind_said (kind_named (kind_name k)) ≡ some k
+kind_back : (k : Kind) → kind_said (kind_named (kind_name k)) ≡ Some k
 unfolding kind_named same_of starts_of
 kind_back Kind.Null = refl
 kind_back Kind.Bool = refl
@@ -87,7 +87,7 @@ value_free (Value.Flag false) = refl
 value_free (Value.Whole z) = signed_free z
 value_free (Value.Decimal x) = hex_none _
 
-value_said_back : (v : Value) → Fitting v → value_nan v ≡ false → value_said (value_of (kind_of v) (value_word v)) ≡ some v
+value_said_back : (v : Value) → Fitting v → value_nan v ≡ false → value_said (value_of (kind_of v) (value_word v)) ≡ Some v
 value_said_back v f e = ap value_said (value_back v f) ∙ rw e
 
 party_free : (who : Party) → holds 10 (party_name who) ≡ false
@@ -95,7 +95,7 @@ unfolding holds
 party_free Plant = refl
 party_free Lab = refl
 
-party_back : (who : Party) → party_named (party_name who) ≡ some who
+party_back : (who : Party) → party_named (party_name who) ≡ Some who
 unfolding same_of starts_of
 party_back Plant = refl
 party_back Lab = refl
@@ -245,10 +245,10 @@ module _ (p m : Mark) (e : stands (id_of p) (id_of m) ≡ Before) where
               ]
         ]
 
-    lamport_bound : lamport_least (some p) m.key ≤ m.lamport
+    lamport_bound : lamport_least (Some p) m.key ≤ m.lamport
     lamport_bound = elim (ℕ_discrete m.key p.key) [ yes h ↦ rw (eq-eqb m.key p.key h) (lamport_up h) | no h ↦ rw (ne_eqb m.key p.key h) (omega arith) ]
 
-    peer_bound : peer_least (some p) m.key m.lamport ≤ m.peer
+    peer_bound : peer_least (Some p) m.key m.lamport ≤ m.peer
     peer_bound =
         elim (ℕ_discrete m.key p.key) [
           | no h ↦ rw (ne_eqb m.key p.key h) (omega arith)
@@ -260,7 +260,7 @@ module _ (p m : Mark) (e : stands (id_of p) (id_of m) ≡ Before) where
               ])
         ]
 
-  bounded_by : (v : ℕ) → Bounded v (some p) m
+  bounded_by : (v : ℕ) → Bounded v (Some p) m
   bounded_by v =
       elim (ℕ_discrete (rank m.party) (rank p.party)) [
         | yes r ↦
@@ -273,8 +273,8 @@ module _ (p m : Mark) (e : stands (id_of p) (id_of m) ≡ Before) where
 
 pub bounded : (v : ℕ) (before : Option Mark) (m : Mark) → AfterLast before m → Bounded v before m
 unfolding AfterLast
-bounded v none m a = record { party = omega arith; key = omega arith; lamport = omega arith; peer = omega arith }
-bounded v (some p) m a = bounded_by p m a v
+bounded v None m a = record { party = omega arith; key = omega arith; lamport = omega arith; peer = omega arith }
+bounded v (Some p) m a = bounded_by p m a v
 
 -- ---- all marks
 above_here : (i : _) (ms : List Mark) (m : Mark) (more : List Mark) → Above i (ms ++ m ∷ more) → stands i (id_of m) ≡ Before

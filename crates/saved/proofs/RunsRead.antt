@@ -1,8 +1,9 @@
 -- The lines of runs as the code reads them, run after run.
+use Rattle.std.specs.Prelude.{Option, Some, None, Result, Ok, Err}
 use mathlib.Core.Path.{◌≡◌, refl, sym, ap, ap₂, ◌∙◌}
-use mathlib.Core.Bool.{true, false}
+use mathlib.Core.Bool.{true, false, not}
+use Rattle.std.specs.Option.{option_eq}
 use mathlib.Core.List.{List, [], ◌∷◌}
-use mathlib.Core.Option.{Option}
 use Prim.Native.Nat.{ℕ, zero, suc, ◌+◌, ◌-◌, ◌*◌, ◌^◌, ◌≤◌, ◌<◌, min}
 use native.Mathlib.Omega.{arith}
 use native.Mathlib.Numerals.{add-one}
@@ -11,17 +12,19 @@ use lib.Dec.{eqb}
 use lib.ListN.{length, set, drop, replicate, length-set}
 use lib.Seq.{get_or-set_same, get_or-set_other}
 use Rattle.text.specs.Bytes.{bytes}
-use Rattle.text_lines.specs.declared.Taken.{Taken}
 use Rattle.text_lines.specs.Lines.{Got, bad, got, then, provided, hex_line, decimal_from, hex_from, taken_by, got_by}
 use Rattle.text_lines.proofs.Laws.{taken_is, taken_inside}
 use Rattle.runs.specs.Runs.{Run, run, runs, total, Spare}
 use Rattle.runs.specs.Gather.{gather}
 use Rattle.tank.proofs.Shape.{all_spare}
-use borrow.Author.Tests.{ne_eqb}
-use Rattle.saved.specs.declared.RunLine.{RunLine}
 use Rattle.saved.specs.declared.ReadRuns.{ReadRuns}
 use Rattle.saved.specs.Saying.{set_before, other_than, run_lines, runs_lines}
-use Rattle.saved.specs.Reads.{before_by, got_run, got_runs, ReadsRun, ReadsRuns}
+use Rattle.saved.specs.Reads.{got_run, got_runs, ReadsRun, ReadsRuns}
+
+-- ---- a set is another than the one before it
+pub other_is : (before : Option ℕ) (set : ℕ) → not (option_eq eqb (Some set) before) ≡ other_than set before
+other_is None set = refl
+other_is (Some x) set = refl
 
 -- ---- one run
 module _ (before : Option ℕ) (most : ℕ) (text : List ℕ) (from n : ℕ) where
@@ -31,35 +34,35 @@ module _ (before : Option ℕ) (most : ℕ) (text : List ℕ) (from n : ℕ) whe
   more : ℕ → ℕ → List ℕ → Got Run
   more len m x = then (hex_line (bytes "set=") 0 most m x) (rest len)
 
-  len_read : (r : Taken) → r ≡ taken_by (bytes "len=") (decimal_from 1 (2 ^ 64 - 1)) text from → run_lines most before n (drop from text) ≡ then (got_by text n r) more
+  len_read : (r : Option (ℕ × ℕ)) → r ≡ taken_by (bytes "len=") (decimal_from 1 (2 ^ 64 - 1)) text from → run_lines most before n (drop from text) ≡ then (got_by text n r) more
   unfolding run_lines more rest
   len_read r e = ap (λ (g : Got ℕ). then g more) (sym (taken_is (bytes "len=") (decimal_from 1 (2 ^ 64 - 1)) text from n) ∙ ap (got_by text n) (sym e))
 
-  pub len_wrong : Taken.Bad ≡ taken_by (bytes "len=") (decimal_from 1 (2 ^ 64 - 1)) text from → ReadsRun before most text from n (RunLine.Bad (n + 1))
-  len_wrong e = record { is = sym (len_read Taken.Bad e); inside = omega arith; counted = omega arith }
+  pub len_wrong : None ≡ taken_by (bytes "len=") (decimal_from 1 (2 ^ 64 - 1)) text from → ReadsRun before most text from n (Err (n + 1))
+  len_wrong e = record { is = sym (len_read None e); inside = omega arith; counted = omega arith }
 
-  module _ (len next : ℕ) (e : Taken.Number len next ≡ taken_by (bytes "len=") (decimal_from 1 (2 ^ 64 - 1)) text from) where
-    set_read : (r : Taken) → r ≡ taken_by (bytes "set=") (hex_from 0 most) text next → run_lines most before n (drop from text) ≡ then (got_by text (n + 1) r) (rest len)
+  module _ (len next : ℕ) (e : Some (len, next) ≡ taken_by (bytes "len=") (decimal_from 1 (2 ^ 64 - 1)) text from) where
+    set_read : (r : Option (ℕ × ℕ)) → r ≡ taken_by (bytes "set=") (hex_from 0 most) text next → run_lines most before n (drop from text) ≡ then (got_by text (n + 1) r) (rest len)
     unfolding more
     set_read r f =
-        len_read (Taken.Number len next) e
+        len_read (Some (len, next)) e
         ∙ ap (λ (g : Got ℕ). then g (rest len)) (sym (taken_is (bytes "set=") (hex_from 0 most) text next (n + 1)) ∙ ap (got_by text (n + 1)) (sym f))
 
     two : n + 2 ≡ n + 1 + 1
     two = omega arith
 
-    pub set_wrong : Taken.Bad ≡ taken_by (bytes "set=") (hex_from 0 most) text next → ReadsRun before most text from n (RunLine.Bad (n + 2))
-    set_wrong f = record { is = ap bad two ∙ sym (set_read Taken.Bad f); inside = omega arith; counted = omega arith }
+    pub set_wrong : None ≡ taken_by (bytes "set=") (hex_from 0 most) text next → ReadsRun before most text from n (Err (n + 2))
+    set_wrong f = record { is = ap bad two ∙ sym (set_read None f); inside = omega arith; counted = omega arith }
 
-    module _ (set last : ℕ) (f : Taken.Number set last ≡ taken_by (bytes "set=") (hex_from 0 most) text next) where
-      pub same_wrong : other_than set before ≡ false → ReadsRun before most text from n (RunLine.Bad (n + 2))
+    module _ (set last : ℕ) (f : Some (set, last) ≡ taken_by (bytes "set=") (hex_from 0 most) text next) where
+      pub same_wrong : other_than set before ≡ false → ReadsRun before most text from n (Err (n + 2))
       unfolding rest
-      same_wrong h = record { is = ap bad two ∙ sym (set_read (Taken.Number set last) f ∙ rw h); inside = omega arith; counted = omega arith }
+      same_wrong h = record { is = ap bad two ∙ sym (set_read (Some (set, last)) f ∙ rw h); inside = omega arith; counted = omega arith }
 
-      pub run_read : other_than set before ≡ true → ReadsRun before most text from n (RunLine.Run len set last)
+      pub run_read : other_than set before ≡ true → ReadsRun before most text from n (Ok (len, set, last))
       unfolding rest
       run_read h = record {
-        is = ap (λ (m : ℕ). got (run len set) m (drop last text)) two ∙ sym (set_read (Taken.Number set last) f ∙ rw h);
+        is = ap (λ (m : ℕ). got (run len set) m (drop last text)) two ∙ sym (set_read (Some (set, last)) f ∙ rw h);
         inside = taken_inside (bytes "set=") (hex_from 0 most) text next set last (sym f);
         counted = omega arith;
       }
@@ -93,18 +96,18 @@ unfolding Spare
 spare_from k n i h = all_spare k i (omega arith)
 
 -- ---- the loop: j runs are read, and the rest is to come
-pub record Underway (most : ℕ) (text : List ℕ) (from n count : ℕ) (lens sets : List ℕ) (at before sum all j : ℕ) : Type 0 where
+pub record Underway (most : ℕ) (text : List ℕ) (from n count : ℕ) (lens sets : List ℕ) (at : ℕ) (before : Option ℕ) (sum all j : ℕ) : Type 0 where
   pub few : j ≤ count
   pub lens_514 : length lens ≡ 514
   pub sets_514 : length sets ≡ 514
   pub inside : at ≤ length text
   pub spare : Spare lens sets j
-  pub last : before_by (eqb j 0) before ≡ set_before (runs lens sets j)
+  pub last : before ≡ set_before (runs lens sets j)
   pub sum_is : sum ≡ min (2 ^ 63) (total (runs lens sets j))
   pub all_is : all ≡ gather (runs lens sets j)
   pub is : runs_lines most [] count n (drop from text) ≡ runs_lines most (runs lens sets j) (count - j) (n + 2 * j) (drop at text)
 
-pub underway_none : (most : ℕ) (text : List ℕ) (from n count : ℕ) → from ≤ length text → Underway most text from n count (replicate 514 0) (replicate 514 0) from 0 0 0 0
+pub underway_none : (most : ℕ) (text : List ℕ) (from n count : ℕ) → from ≤ length text → Underway most text from n count (replicate 514 0) (replicate 514 0) from None 0 0 0
 unfolding runs total gather
 underway_none most text from n count h =
     let a : count ≡ count - 0 = omega arith in
@@ -125,12 +128,8 @@ pub runs_bad : (text : List ℕ) (n count : ℕ) (r : ReadRuns) (line : ℕ) →
 runs_bad text n count r zero h = absurd (omega arith)
 runs_bad text n count r (suc k) h = refl
 
--- a set before, behind one run and more
-before_more : (j s : ℕ) (rs : List Run) (l : ℕ) → before_by (eqb (j + 1) 0) s ≡ set_before (run l s ∷ rs)
-before_more j s rs l = rw (ne_eqb (j + 1) 0 (λ e. omega arith))
-
-module _ (most : ℕ) (text : List ℕ) (from n count : ℕ) (lens sets : List ℕ) (at before sum all j : ℕ) (u : Underway most text from n count lens sets at before sum all j) (few : count ≤ 512) (h : j < count) where
-  after_run : (r : RunLine) → ReadsRun (before_by (eqb j 0) before) most text at (n + 2 * j) r
+module _ (most : ℕ) (text : List ℕ) (from n count : ℕ) (lens sets : List ℕ) (at : ℕ) (before : Option ℕ) (sum all j : ℕ) (u : Underway most text from n count lens sets at before sum all j) (few : count ≤ 512) (h : j < count) where
+  after_run : (r : Result (ℕ × ℕ × ℕ) ℕ) → ReadsRun before most text at (n + 2 * j) r
       → runs_lines most [] count n (drop from text) ≡ then (got_run text (n + 2 * j) r) λ r m x. runs_lines most (r ∷ runs lens sets j) (count - suc j) m x
   unfolding runs_lines
   after_run r p =
@@ -140,10 +139,10 @@ module _ (most : ℕ) (text : List ℕ) (from n count : ℕ) (lens sets : List �
       ∙ ap (λ (g : Got Run). then g λ r m x. runs_lines most (r ∷ runs lens sets j) (count - suc j) m x)
       (ap (λ (o : Option ℕ). run_lines most o (n + 2 * j) (drop at text)) (sym u.last) ∙ sym p.is)
 
-  pub run_wrong : (line : ℕ) → ReadsRun (before_by (eqb j 0) before) most text at (n + 2 * j) (RunLine.Bad line)
+  pub run_wrong : (line : ℕ) → ReadsRun before most text at (n + 2 * j) (Err line)
       → ReadsRuns most text from n count (record { line = line; at = 0; sum = 0; all = 0; lens = replicate 514 0; sets = replicate 514 0 })
   run_wrong line p = record {
-    is = runs_bad text (n + 2 * count) count (record { line = line; at = 0; sum = 0; all = 0; lens = replicate 514 0; sets = replicate 514 0 }) line p.counted ∙ sym (after_run (RunLine.Bad line) p);
+    is = runs_bad text (n + 2 * count) count (record { line = line; at = 0; sum = 0; all = 0; lens = replicate 514 0; sets = replicate 514 0 }) line p.counted ∙ sym (after_run (Err line) p);
     inside = omega arith;
     sum = λ e. absurd (omega (arith, p.counted));
     all = λ e. absurd (omega (arith, p.counted));
@@ -152,8 +151,8 @@ module _ (most : ℕ) (text : List ℕ) (from n count : ℕ) (lens sets : List �
     sets_514 = refl;
   }
 
-  pub run_more : (len s next : ℕ) → ReadsRun (before_by (eqb j 0) before) most text at (n + 2 * j) (RunLine.Run len s next)
-      → Underway most text from n count (set lens j len) (set sets j s) next s (min (2 ^ 63) (sum + len)) (bit_or s all) (j + 1)
+  pub run_more : (len s next : ℕ) → ReadsRun before most text at (n + 2 * j) (Ok (len, s, next))
+      → Underway most text from n count (set lens j len) (set sets j s) next (Some s) (min (2 ^ 63) (sum + len)) (bit_or s all) (j + 1)
   unfolding total gather
   run_more len s next p =
       let new : runs (set lens j len) (set sets j s) (j + 1) ≡ run len s ∷ runs lens sets j = rw (add-one j) (runs_more lens sets j len s (omega (arith, u.lens_514)) (omega (arith, u.sets_514))) in
@@ -165,13 +164,13 @@ module _ (most : ℕ) (text : List ℕ) (from n count : ℕ) (lens sets : List �
         sets_514 = length-set sets j s ∙ u.sets_514;
         inside = p.inside;
         spare = rw (add-one j) (spare_more lens sets j len s u.spare);
-        last = rw new (before_more j s (runs lens sets j) len);
+        last = rw new refl;
         sum_is = rw new (omega (arith, u.sum_is));
         all_is = rw new (ap (bit_or s) u.all_is);
-        is = after_run (RunLine.Run len s next) p ∙ rw new (ap₂ (λ (k i : ℕ). runs_lines most (run len s ∷ runs lens sets j) k i (drop next text)) c m);
+        is = after_run (Ok (len, s, next)) p ∙ rw new (ap₂ (λ (k i : ℕ). runs_lines most (run len s ∷ runs lens sets j) k i (drop next text)) c m);
       }
 
-pub runs_done : (most : ℕ) (text : List ℕ) (from n count : ℕ) (lens sets : List ℕ) (at before sum all j : ℕ) → Underway most text from n count lens sets at before sum all j → count ≤ j
+pub runs_done : (most : ℕ) (text : List ℕ) (from n count : ℕ) (lens sets : List ℕ) (at : ℕ) (before : Option ℕ) (sum all j : ℕ) → Underway most text from n count lens sets at before sum all j → count ≤ j
     → ReadsRuns most text from n count (record { line = 0; at = at; sum = sum; all = all; lens = lens; sets = sets })
 unfolding runs_lines
 runs_done most text from n count lens sets at before sum all j u h =

@@ -1,4 +1,5 @@
 -- The lines of a tank as the code reads them, whatever the settings are and the tanks before it hold.
+use Rattle.std.specs.Prelude.{Option, Some, None}
 use mathlib.Core.Path.{◌≡◌, refl, sym, ap, ◌∙◌}
 use mathlib.Core.Bool.{Bool, true, false, cond, ◌&&◌}
 use mathlib.Core.List.{List, [], ◌∷◌, ◌++◌}
@@ -9,7 +10,6 @@ use lib.Dec.{eqb, leb}
 use lib.ListN.{length, take, drop, replicate, length-take, get_or-replicate}
 use borrow.Author.Tests.{eq-eqb, ne_eqb, le-leb}
 use Rattle.text.specs.Bytes.{bytes}
-use Rattle.text_lines.specs.declared.Taken.{Taken}
 use Rattle.text_lines.specs.Lines.{Got, bad, got, then, provided, decimal_from, taken_by}
 use Rattle.runs.specs.Runs.{Run, runs, total}
 use Rattle.runs.specs.Positions.{sum_below}
@@ -66,30 +66,30 @@ module _ (v : ℕ) (text : List ℕ) (from t n : ℕ) where
     blanks = λ i l. all_blank 64 i;
   }
 
-  pub tank_wrong : Taken.Bad ≡ taken_by (bytes "tank=") (decimal_from t t) text from → ReadsHead v text from t n (wrong_head (n + 1))
+  pub tank_wrong : None ≡ taken_by (bytes "tank=") (decimal_from t t) text from → ReadsHead v text from t n (wrong_head (n + 1))
   unfolding tank_lines
   tank_wrong e = head_wrong (n + 1) n refl λ st held. step_bad (tank_lines v st held t n (drop from text)) (bytes "tank=") t t text from n (j1 v st held t) refl e
 
-  pub tank_on_lem : (z at : ℕ) → Taken.Number z at ≡ taken_by (bytes "tank=") (decimal_from t t) text from → H1 z at
+  pub tank_on_lem : (z at : ℕ) → Some (z, at) ≡ taken_by (bytes "tank=") (decimal_from t t) text from → H1 z at
   unfolding tank_lines
   tank_on_lem z at e st held = step_on (tank_lines v st held t n (drop from text)) (bytes "tank=") t t text from n (j1 v st held t) refl z at e
 
-  pub touched_wrong : (z a : ℕ) → H1 z a → Taken.Bad ≡ taken_by (bytes "touched=") (decimal_from 0 1) text a → ReadsHead v text from t n (wrong_head (n + 2))
+  pub touched_wrong : (z a : ℕ) → H1 z a → None ≡ taken_by (bytes "touched=") (decimal_from 0 1) text a → ReadsHead v text from t n (wrong_head (n + 2))
   touched_wrong z a h e = head_wrong (n + 2) (n + 1) (omega arith) λ st held. step_bad (tank_lines v st held t n (drop from text)) (bytes "touched=") 0 1 text a (n + 1) (j2 v st held t) (h st held) e
 
-  pub touched_on : (z a : ℕ) → H1 z a → (b at : ℕ) → Taken.Number b at ≡ taken_by (bytes "touched=") (decimal_from 0 1) text a → H2 b at
+  pub touched_on : (z a : ℕ) → H1 z a → (b at : ℕ) → Some (b, at) ≡ taken_by (bytes "touched=") (decimal_from 0 1) text a → H2 b at
   touched_on z a h b at e st held = step_on (tank_lines v st held t n (drop from text)) (bytes "touched=") 0 1 text a (n + 1) (j2 v st held t) (h st held) b at e
 
-  pub length_wrong : (b a : ℕ) → H2 b a → Taken.Bad ≡ taken_by (bytes "length=") (decimal_from (least_length b) (most_length b)) text a → ReadsHead v text from t n (wrong_head (n + 3))
+  pub length_wrong : (b a : ℕ) → H2 b a → None ≡ taken_by (bytes "length=") (decimal_from (least_length b) (most_length b)) text a → ReadsHead v text from t n (wrong_head (n + 3))
   length_wrong b a h e = head_wrong (n + 3) (n + 1 + 1) (omega arith) λ st held. step_bad (tank_lines v st held t n (drop from text)) (bytes "length=") (least_length b) (most_length b) text a (n + 1 + 1) (j3 v st held t b) (h st held) e
 
-  pub length_on : (b a : ℕ) → H2 b a → (l at : ℕ) → Taken.Number l at ≡ taken_by (bytes "length=") (decimal_from (least_length b) (most_length b)) text a → H3 b l at
+  pub length_on : (b a : ℕ) → H2 b a → (l at : ℕ) → Some (l, at) ≡ taken_by (bytes "length=") (decimal_from (least_length b) (most_length b)) text a → H3 b l at
   length_on b a h l at e st held = step_on (tank_lines v st held t n (drop from text)) (bytes "length=") (least_length b) (most_length b) text a (n + 1 + 1) (j3 v st held t b) (h st held) l at e
 
-  pub count_wrong : (b l a : ℕ) → H3 b l a → Taken.Bad ≡ taken_by (bytes "marks=") (decimal_from 0 (most_marks b)) text a → ReadsHead v text from t n (wrong_head (n + 4))
+  pub count_wrong : (b l a : ℕ) → H3 b l a → None ≡ taken_by (bytes "marks=") (decimal_from 0 (most_marks b)) text a → ReadsHead v text from t n (wrong_head (n + 4))
   count_wrong b l a h e = head_wrong (n + 4) (n + 1 + 1 + 1) (omega arith) λ st held. step_bad (tank_lines v st held t n (drop from text)) (bytes "marks=") 0 (most_marks b) text a (n + 1 + 1 + 1) (j4 v st held t b l) (h st held) e
 
-  pub count_on : (b l a : ℕ) → H3 b l a → (k at : ℕ) → Taken.Number k at ≡ taken_by (bytes "marks=") (decimal_from 0 (most_marks b)) text a → H4 b l k at
+  pub count_on : (b l a : ℕ) → H3 b l a → (k at : ℕ) → Some (k, at) ≡ taken_by (bytes "marks=") (decimal_from 0 (most_marks b)) text a → H4 b l k at
   count_on b l a h k at e st held = step_on (tank_lines v st held t n (drop from text)) (bytes "marks=") 0 (most_marks b) text a (n + 1 + 1 + 1) (j4 v st held t b l) (h st held) k at e
 
   module _ (b l k a : ℕ) (h : H4 b l k a) (m : ReadMarks) (r : ReadsMarks v text a (n + 4) k m) where
@@ -143,21 +143,21 @@ module _ (v limit : ℕ) (text : List ℕ) (from t n : ℕ) (h : TankHead) (rh :
       → tank_lines v st held t n (drop from text) ≡ j5 st held t h.flag h.length h.marks (take h.marks h.table) h.lines (drop h.at text)
   behind_head st held = rh.good (omega arith) st held
 
-  abbrev pub RunsIs : Taken → Type 0
+  abbrev pub RunsIs : Option (ℕ × ℕ) → Type 0
   RunsIs r = r ≡ taken_by (bytes "runs=") (decimal_from (least_runs h.flag) (most_runs h.flag limit)) text h.at
 
-  limited : (st : List Setting) (r : Taken) → limit_of st t ≡ limit → RunsIs r → r ≡ taken_by (bytes "runs=") (decimal_from (least_runs h.flag) (most_runs h.flag (limit_of st t))) text h.at
+  limited : (st : List Setting) (r : Option (ℕ × ℕ)) → limit_of st t ≡ limit → RunsIs r → r ≡ taken_by (bytes "runs=") (decimal_from (least_runs h.flag) (most_runs h.flag (limit_of st t))) text h.at
   limited st r q e = e ∙ ap (λ (x : ℕ). taken_by (bytes "runs=") (decimal_from (least_runs h.flag) (most_runs h.flag x)) text h.at) (sym q)
 
-  pub runs_count_wrong : RunsIs Taken.Bad → (r : TankLine) → r.line ≡ h.lines + 1 → r.at ≡ 0 → r.lines ≡ 0 → ReadsTank v limit text from t n r
+  pub runs_count_wrong : RunsIs None → (r : TankLine) → r.line ≡ h.lines + 1 → r.at ≡ 0 → r.lines ≡ 0 → ReadsTank v limit text from t n r
   runs_count_wrong e r p a l = tank_bad v limit text from t n (h.lines + 1) r p a l (omega arith) λ st held q.
-      sym (step_bad (tank_lines v st held t n (drop from text)) (bytes "runs=") (least_runs h.flag) (most_runs h.flag (limit_of st t)) text h.at h.lines (j6 st held h.flag h.length h.marks (take h.marks h.table)) (behind_head st held) (limited st Taken.Bad q e))
+      sym (step_bad (tank_lines v st held t n (drop from text)) (bytes "runs=") (least_runs h.flag) (most_runs h.flag (limit_of st t)) text h.at h.lines (j6 st held h.flag h.length h.marks (take h.marks h.table)) (behind_head st held) (limited st None q e))
 
-  module _ (j a : ℕ) (e : RunsIs (Taken.Number j a)) (r : ReadRuns) (rr : ReadsRuns (2 ^ h.marks - 1) text a (h.lines + 1) j r) where
+  module _ (j a : ℕ) (e : RunsIs (Some (j, a))) (r : ReadRuns) (rr : ReadsRuns (2 ^ h.marks - 1) text a (h.lines + 1) j r) where
     runs_step : (i : ℕ) → r.line ≡ i → (st : List Setting) (held : List ℕ) → limit_of st t ≡ limit
         → tank_lines v st held t n (drop from text) ≡ then (got_runs text (h.lines + 1 + 2 * j) j r i) (j7 st held h.flag h.length (take h.marks h.table))
     runs_step i p st held q =
-        step_on (tank_lines v st held t n (drop from text)) (bytes "runs=") (least_runs h.flag) (most_runs h.flag (limit_of st t)) text h.at h.lines (j6 st held h.flag h.length h.marks (take h.marks h.table)) (behind_head st held) j a (limited st (Taken.Number j a) q e)
+        step_on (tank_lines v st held t n (drop from text)) (bytes "runs=") (least_runs h.flag) (most_runs h.flag (limit_of st t)) text h.at h.lines (j6 st held h.flag h.length h.marks (take h.marks h.table)) (behind_head st held) j a (limited st (Some (j, a)) q e)
         ∙ ap (λ (g : Got (List Run)). then g (j7 st held h.flag h.length (take h.marks h.table))) (sym rr.is ∙ ap (got_runs text (h.lines + 1 + 2 * j) j r) p)
 
     pub runs_wrong : 0 < r.line → (x : TankLine) → x.line ≡ r.line → x.at ≡ 0 → x.lines ≡ 0 → ReadsTank v limit text from t n x

@@ -1,8 +1,8 @@
 -- Closed examples: a mark's lines in each version, and which of them is wrong.
+use Rattle.std.specs.Prelude.{Some}
 use mathlib.Core.Path.{◌≡◌, refl}
 use mathlib.Core.Bool.{true, false}
 use mathlib.Core.List.{List, [], ◌++◌}
-use mathlib.Core.Option.{some}
 use Prim.Native.Nat.{ℕ}
 use lib.IntN.{ℤ, pos, negsuc}
 use Rattle.text.specs.Bytes.{bytes, up_to, holds, starts_of, same_of}
@@ -38,7 +38,7 @@ lab_3 = refl
 
 -- ---- what lines say, behind those before them
 abbrev reads : ℕ → Mark → List ℕ → Got Mark
-reads version before text = mark_lines version (some before) 30 text
+reads version before text = mark_lines version (Some before) 30 text
 
 -- a mark of the plant's behind one of the lab's is wrong at its party
 plant_behind_lab : reads 2 (mark Lab 7 (pos 0)) (bytes "party=plant\nkey=9\nlamport=5\npeer=1\nflags=132\nkind=bool\nvalue=1\n") ≡ bad 31

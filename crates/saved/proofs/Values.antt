@@ -1,8 +1,8 @@
 -- A kind and a value have one text: what is accepted is what is printed, and a NaN is not.
+use Rattle.std.specs.Prelude.{Option, Some, None}
 use mathlib.Core.Path.{◌≡◌, refl, sym, ap, ◌∙◌}
 use mathlib.Core.Bool.{Bool, true, false, not}
 use mathlib.Core.List.{List, [], ◌∷◌}
-use mathlib.Core.Option.{some}
 use Prim.Native.Nat.{ℕ}
 use native.Mathlib.Omega.{arith}
 use lib.Dec.{T, eqb}
@@ -12,8 +12,6 @@ use lib.Ieee.Bits.{to_bits-of_bits}
 use lib.ListN.{length}
 use borrow.Author.Tests.{eqb-true}
 use Rattle.laws.proofs.Cases.{cond_cases}
-use Rattle.text.specs.declared.Parsed.{Parsed}
-use Rattle.text.specs.declared.Signed.{Signed}
 use Rattle.text.specs.Bytes.{bytes, same_of}
 use Rattle.text.specs.Number.{hex_of, hex_text}
 use Rattle.text.specs.Signed.{signed_of}
@@ -23,26 +21,24 @@ use Rattle.text.proofs.Prefix.{same_true}
 use Rattle.styles.specs.declared.Value.{Value}
 use Rattle.styles.specs.Values.{value_nan}
 use Rattle.script.specs.declared.Kind.{Kind}
-use Rattle.script.specs.declared.ReadKind.{ReadKind}
-use Rattle.script.specs.declared.ReadValue.{ReadValue}
 use Rattle.script.specs.Grammar.{kind_name}
 use Rattle.script.specs.Reading.{kind_among, kind_named, value_of, whole_of, decimal_of_bits}
 use Rattle.script.specs.Writing.{kind_of, value_word}
 use Rattle.saved.specs.Saying.{kind_said, value_said}
 
 -- ---- a kind's name
-among_only : (ks : List Kind) (t : List ℕ) (k : Kind) → kind_among ks t ReadKind.Bad ≡ ReadKind.Kind k → t ≡ kind_name k
+among_only : (ks : List Kind) (t : List ℕ) (k : Kind) → kind_among ks t None ≡ Some k → t ≡ kind_name k
 among_only [] t k e = let z : ◌≡◌ {A = ℕ} 0 1 = cc in absurd (omega arith)
 among_only (o ∷ os) t k e =
-    cond_cases (λ r. r ≡ ReadKind.Kind k → t ≡ kind_name k) (same_of t (kind_name o)) (λ h f. let q : o ≡ k = cc in same_true t (kind_name o) h ∙ ap kind_name q) (λ h. among_only os t k) e
+    cond_cases (λ r. r ≡ Some k → t ≡ kind_name k) (same_of t (kind_name o)) (λ h f. let q : o ≡ k = cc in same_true t (kind_name o) h ∙ ap kind_name q) (λ h. among_only os t k) e
 
-pub kind_only : (t : List ℕ) (k : Kind) → kind_named t ≡ ReadKind.Kind k → t ≡ kind_name k
+pub kind_only : (t : List ℕ) (k : Kind) → kind_named t ≡ Some k → t ≡ kind_name k
 unfolding kind_named
 kind_only t k e = among_only (Kind.Null ∷ Kind.Bool ∷ Kind.Whole ∷ Kind.Decimal ∷ []) t k e
 
-pub kind_said_lem : (r : ReadKind) (k : Kind) → kind_said r ≡ some k → r ≡ ReadKind.Kind k
-kind_said_lem ReadKind.Bad k e = let z : ◌≡◌ {A = ℕ} 0 1 = cc in absurd (omega arith)
-kind_said_lem (ReadKind.Kind j) k e = let q : j ≡ k = cc in ap ReadKind.Kind q
+pub kind_said_lem : (r : Option Kind) (k : Kind) → kind_said r ≡ Some k → r ≡ Some k
+kind_said_lem None k e = let z : ◌≡◌ {A = ℕ} 0 1 = cc in absurd (omega arith)
+kind_said_lem (Some j) k e = let q : j ≡ k = cc in ap Some q
 
 -- ---- a value
 -- what is known of a value that was read
@@ -54,29 +50,29 @@ empty_only : (t : List ℕ) → length t ≡ 0 → t ≡ []
 empty_only [] e = refl
 empty_only (c ∷ cs) e = absurd (omega arith)
 
-whole_only : (s : Signed) (v : Value) → whole_of s ≡ ReadValue.Value v → (z : ℤ) × (s ≡ Signed.Number z) × (Value.Whole z ≡ v)
-whole_only Signed.Bad v e = let z : ◌≡◌ {A = ℕ} 0 1 = cc in absurd (omega arith)
-whole_only (Signed.Number z) v e = (z, refl, cc)
+whole_only : (s : Option ℤ) (v : Value) → whole_of s ≡ Some v → (z : ℤ) × (s ≡ Some z) × (Value.Whole z ≡ v)
+whole_only None v e = let z : ◌≡◌ {A = ℕ} 0 1 = cc in absurd (omega arith)
+whole_only (Some z) v e = (z, refl, cc)
 
-decimal_only : (p : Parsed) (v : Value) → decimal_of_bits p ≡ ReadValue.Value v → (n : ℕ) × (p ≡ Parsed.Number n) × (Value.Decimal (of_bits binary64 n) ≡ v)
-decimal_only Parsed.Bad v e = let z : ◌≡◌ {A = ℕ} 0 1 = cc in absurd (omega arith)
-decimal_only (Parsed.Number n) v e = (n, refl, cc)
+decimal_only : (p : Option ℕ) (v : Value) → decimal_of_bits p ≡ Some v → (n : ℕ) × (p ≡ Some n) × (Value.Decimal (of_bits binary64 n) ≡ v)
+decimal_only None v e = let z : ◌≡◌ {A = ℕ} 0 1 = cc in absurd (omega arith)
+decimal_only (Some n) v e = (n, refl, cc)
 
 no_nan : (b : Bool) → b ≡ false → T (not b)
 no_nan true e = let z : ◌≡◌ {A = ℕ} 0 1 = cc in absurd (omega arith)
 no_nan false e = tt
 
-pub value_only : (k : Kind) (t : List ℕ) (v : Value) → value_of k t ≡ ReadValue.Value v → value_nan v ≡ false → OfKind k t v
+pub value_only : (k : Kind) (t : List ℕ) (v : Value) → value_of k t ≡ Some v → value_nan v ≡ false → OfKind k t v
 unfolding value_of
 value_only Kind.Null t v e h =
-    cond_cases (λ r. r ≡ ReadValue.Value v → OfKind Kind.Null t v) (eqb (length t) 0)
+    cond_cases (λ r. r ≡ Some v → OfKind Kind.Null t v) (eqb (length t) 0)
     (λ b f. let q : Value.Null ≡ v = cc in rw (← q) record { kind = refl; word = empty_only t (eqb-true _ _ b) })
     (λ b f. let z : ◌≡◌ {A = ℕ} 0 1 = cc in absurd (omega arith))
     e
 value_only Kind.Bool t v e h =
-    cond_cases (λ r. r ≡ ReadValue.Value v → OfKind Kind.Bool t v) (same_of t (bytes "0"))
+    cond_cases (λ r. r ≡ Some v → OfKind Kind.Bool t v) (same_of t (bytes "0"))
     (λ b f. let q : Value.Flag false ≡ v = cc in rw (← q) record { kind = refl; word = same_true t (bytes "0") b })
-    (λ b. cond_cases (λ r. r ≡ ReadValue.Value v → OfKind Kind.Bool t v) (same_of t (bytes "1"))
+    (λ b. cond_cases (λ r. r ≡ Some v → OfKind Kind.Bool t v) (same_of t (bytes "1"))
     (λ b f. let q : Value.Flag true ≡ v = cc in rw (← q) record { kind = refl; word = same_true t (bytes "1") b })
     (λ b f. let z : ◌≡◌ {A = ℕ} 0 1 = cc in absurd (omega arith)))
     e
@@ -92,10 +88,10 @@ value_only Kind.Decimal t v e h =
       word = hex_only t w.0 w.1 ∙ ap hex_text (sym (to_bits-of_bits binary64 w.0 s (no_nan (is_nan (of_bits binary64 w.0)) g)));
     }
 
-pub value_said_lem : (r : ReadValue) (v : Value) → value_said r ≡ some v → (r ≡ ReadValue.Value v) × (value_nan v ≡ false)
-value_said_lem ReadValue.Bad v e = let z : ◌≡◌ {A = ℕ} 0 1 = cc in absurd (omega arith)
-value_said_lem (ReadValue.Value w) v e =
-    cond_cases (λ r. r ≡ some v → (ReadValue.Value w ≡ ReadValue.Value v) × (value_nan v ≡ false)) (value_nan w)
+pub value_said_lem : (r : Option Value) (v : Value) → value_said r ≡ Some v → (r ≡ Some v) × (value_nan v ≡ false)
+value_said_lem None v e = let z : ◌≡◌ {A = ℕ} 0 1 = cc in absurd (omega arith)
+value_said_lem (Some w) v e =
+    cond_cases (λ r. r ≡ Some v → (Some w ≡ Some v) × (value_nan v ≡ false)) (value_nan w)
     (λ b f. let z : ◌≡◌ {A = ℕ} 0 1 = cc in absurd (omega arith))
-    (λ b f. let q : w ≡ v = cc in (ap ReadValue.Value q, ap value_nan (sym q) ∙ b))
+    (λ b f. let q : w ≡ v = cc in (ap Some q, ap value_nan (sym q) ∙ b))
     e

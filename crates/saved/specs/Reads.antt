@@ -1,6 +1,5 @@
 -- What the functions that read a saved text hand back.
-use Rattle.std.specs.Prelude.{◌≡◌, Bool, false, cond, ◌&&◌, List, [], ◌∷◌, ◌++◌, map, ℕ, zero, suc, ◌+◌, ◌-◌, ◌*◌, ◌^◌, ◌≤◌, ◌<◌, min, eqb, leb, ℤ, length, get_or, take, drop}
-use Rattle.std.proofs.Math.Option.{Option, none, some}
+use Rattle.std.specs.Prelude.{◌≡◌, List, [], ◌∷◌, ◌++◌, map, ℕ, zero, suc, ◌+◌, ◌-◌, ◌*◌, ◌^◌, ◌≤◌, ◌<◌, min, eqb, leb, ℤ, length, get_or, take, drop, Option, Some, None, Result, Ok, Err}
 use Rattle.text.specs.Bytes.{bytes}
 use Rattle.text_lines.specs.Lines.{Got, bad, got, then, provided, ended, line, number_line}
 use Rattle.styles.specs.declared.Identity.{Identity}
@@ -20,14 +19,7 @@ use Rattle.script.specs.declared.Kind.{Kind}
 use Rattle.script.specs.Reading.{kind_named, value_of}
 use Rattle.runs.specs.Runs.{Run, run, runs, total, Spare}
 use Rattle.runs.specs.Gather.{gather}
-use Rattle.saved.specs.declared.PartyLine.{PartyLine}
-use Rattle.saved.specs.declared.CounterLine.{CounterLine}
-use Rattle.saved.specs.declared.KindLine.{KindLine}
-use Rattle.saved.specs.declared.ValueLine.{ValueLine}
-use Rattle.saved.specs.declared.IdentityLine.{IdentityLine}
-use Rattle.saved.specs.declared.MarkLine.{MarkLine}
 use Rattle.saved.specs.declared.ReadMarks.{ReadMarks}
-use Rattle.saved.specs.declared.RunLine.{RunLine}
 use Rattle.saved.specs.declared.TankHead.{TankHead}
 use Rattle.saved.specs.declared.TankLine.{TankLine}
 use Rattle.saved.specs.declared.Begun.{Begun}
@@ -39,157 +31,148 @@ use Rattle.saved.specs.Saying.{party_line, counter_line, kind_said, value_said, 
 
 -- ---- Lines with a word
 -- a party that was read, how many lines were read with it, and the place behind them
-abbrev pub party_at : ℕ → ℕ → Option Party → PartyLine
-party_at lines place none = PartyLine.Bad
-party_at lines place (some who) = PartyLine.Party who lines place
+abbrev pub party_at : ℕ → ℕ → Option Party → Option (Party × ℕ × ℕ)
+party_at lines place None = None
+party_at lines place (Some who) = Some (who, lines, place)
 
 -- a counter
-abbrev pub counter_at : ℕ → ℕ → Option ℤ → CounterLine
-counter_at lines place none = CounterLine.Bad
-counter_at lines place (some z) = CounterLine.Counter z lines place
+abbrev pub counter_at : ℕ → ℕ → Option ℤ → Option (ℤ × ℕ × ℕ)
+counter_at lines place None = None
+counter_at lines place (Some z) = Some (z, lines, place)
 
 -- a kind that was read, and the place behind its line
-abbrev pub kind_at : ℕ → Option Kind → KindLine
-kind_at place none = KindLine.Bad
-kind_at place (some k) = KindLine.Kind k place
+abbrev pub kind_at : ℕ → Option Kind → Option (Kind × ℕ)
+kind_at place None = None
+kind_at place (Some k) = Some (k, place)
 
 -- a value
-abbrev pub value_at : ℕ → Option Value → ValueLine
-value_at place none = ValueLine.Bad
-value_at place (some v) = ValueLine.Value v place
+abbrev pub value_at : ℕ → Option Value → Option (Value × ℕ)
+value_at place None = None
+value_at place (Some v) = Some (v, place)
 
 -- the line of a party, as one that has read n lines says it
-abbrev pub got_party : List ℕ → ℕ → PartyLine → Got Party
-got_party text n PartyLine.Bad = bad (n + 1)
-got_party text n (PartyLine.Party who lines at) = got who lines (drop at text)
+abbrev pub got_party : List ℕ → ℕ → Option (Party × ℕ × ℕ) → Got Party
+got_party text n None = bad (n + 1)
+got_party text n (Some (who, lines, at)) = got who lines (drop at text)
 
 -- that of a counter
-abbrev pub got_counter : List ℕ → ℕ → CounterLine → Got ℤ
-got_counter text n CounterLine.Bad = bad (n + 1)
-got_counter text n (CounterLine.Counter z lines at) = got z lines (drop at text)
+abbrev pub got_counter : List ℕ → ℕ → Option (ℤ × ℕ × ℕ) → Got ℤ
+got_counter text n None = bad (n + 1)
+got_counter text n (Some (z, lines, at)) = got z lines (drop at text)
 
 -- that of a kind
-abbrev pub got_kind : List ℕ → ℕ → KindLine → Got Kind
-got_kind text n KindLine.Bad = bad (n + 1)
-got_kind text n (KindLine.Kind k at) = got k (n + 1) (drop at text)
+abbrev pub got_kind : List ℕ → ℕ → Option (Kind × ℕ) → Got Kind
+got_kind text n None = bad (n + 1)
+got_kind text n (Some (k, at)) = got k (n + 1) (drop at text)
 
 -- that of a value
-abbrev pub got_value : List ℕ → ℕ → ValueLine → Got Value
-got_value text n ValueLine.Bad = bad (n + 1)
-got_value text n (ValueLine.Value v at) = got v (n + 1) (drop at text)
+abbrev pub got_value : List ℕ → ℕ → Option (Value × ℕ) → Got Value
+got_value text n None = bad (n + 1)
+got_value text n (Some (v, at)) = got v (n + 1) (drop at text)
 
 -- where a party's line ends
-abbrev pub behind_party : PartyLine → ℕ
-behind_party PartyLine.Bad = 0
-behind_party (PartyLine.Party who lines at) = at
+abbrev pub behind_party : Option (Party × ℕ × ℕ) → ℕ
+behind_party None = 0
+behind_party (Some (who, lines, at)) = at
 
 -- where a counter's does
-abbrev pub behind_counter : CounterLine → ℕ
-behind_counter CounterLine.Bad = 0
-behind_counter (CounterLine.Counter z lines at) = at
+abbrev pub behind_counter : Option (ℤ × ℕ × ℕ) → ℕ
+behind_counter None = 0
+behind_counter (Some (z, lines, at)) = at
 
 -- where a kind's does
-abbrev pub behind_kind : KindLine → ℕ
-behind_kind KindLine.Bad = 0
-behind_kind (KindLine.Kind k at) = at
+abbrev pub behind_kind : Option (Kind × ℕ) → ℕ
+behind_kind None = 0
+behind_kind (Some (k, at)) = at
 
 -- where a value's does
-abbrev pub behind_value : ValueLine → ℕ
-behind_value ValueLine.Bad = 0
-behind_value (ValueLine.Value v at) = at
+abbrev pub behind_value : Option (Value × ℕ) → ℕ
+behind_value None = 0
+behind_value (Some (v, at)) = at
 
 -- how many lines were read with a party
-abbrev pub lines_party : PartyLine → ℕ
-lines_party PartyLine.Bad = 0
-lines_party (PartyLine.Party who lines at) = lines
+abbrev pub lines_party : Option (Party × ℕ × ℕ) → ℕ
+lines_party None = 0
+lines_party (Some (who, lines, at)) = lines
 
 -- with a counter
-abbrev pub lines_counter : CounterLine → ℕ
-lines_counter CounterLine.Bad = 0
-lines_counter (CounterLine.Counter z lines at) = lines
+abbrev pub lines_counter : Option (ℤ × ℕ × ℕ) → ℕ
+lines_counter None = 0
+lines_counter (Some (z, lines, at)) = lines
 
 -- the line of a party read from a place of a text on, behind n lines
-pub record ReadsParty (version least : ℕ) (text : List ℕ) (from n : ℕ) (r : PartyLine) : Type 0 where
+pub record ReadsParty (version least : ℕ) (text : List ℕ) (from n : ℕ) (r : Option (Party × ℕ × ℕ)) : Type 0 where
   pub is : got_party text n r ≡ party_line version least n (drop from text)
   pub inside : behind_party r ≤ length text
   pub lines_most : lines_party r ≤ n + 1
 
 -- that of a counter
-pub record ReadsCounter (version : ℕ) (text : List ℕ) (from n : ℕ) (r : CounterLine) : Type 0 where
+pub record ReadsCounter (version : ℕ) (text : List ℕ) (from n : ℕ) (r : Option (ℤ × ℕ × ℕ)) : Type 0 where
   pub is : got_counter text n r ≡ counter_line version n (drop from text)
   pub inside : behind_counter r ≤ length text
   pub lines_most : lines_counter r ≤ n + 1
 
 -- that of a kind
-pub record ReadsKind (text : List ℕ) (from : ℕ) (r : KindLine) : Type 0 where
+pub record ReadsKind (text : List ℕ) (from : ℕ) (r : Option (Kind × ℕ)) : Type 0 where
   pub is : (n : ℕ) → got_kind text n r ≡ line (bytes "kind=") (λ t. kind_said (kind_named t)) n (drop from text)
   pub inside : behind_kind r ≤ length text
 
 -- that of a value
-pub record ReadsValue (kind : Kind) (text : List ℕ) (from : ℕ) (r : ValueLine) : Type 0 where
+pub record ReadsValue (kind : Kind) (text : List ℕ) (from : ℕ) (r : Option (Value × ℕ)) : Type 0 where
   pub is : (n : ℕ) → got_value text n r ≡ line (bytes "value=") (λ t. value_said (value_of kind t)) n (drop from text)
   pub inside : behind_value r ≤ length text
 
 -- ---- Marks
--- the mark before the first is none
-abbrev pub mark_before : Bool → Mark → Option Mark
-mark_before first before = cond first none (some before)
-
--- whether it has this key and this lamport
-abbrev pub tied_to : Option Mark → ℕ → ℕ → Bool
-tied_to none key lamport = false
-tied_to (some p) key lamport = eqb key p.key && eqb lamport p.lamport
-
 -- the lines of an identity, as the code says them
-abbrev pub got_identity : List ℕ → ℕ → IdentityLine → Got Identity
-got_identity text n (IdentityLine.Bad line) = bad line
-got_identity text n (IdentityLine.Identity i at) = got i (n + 3) (drop at text)
+abbrev pub got_identity : List ℕ → ℕ → Result (Identity × ℕ) ℕ → Got Identity
+got_identity text n (Err line) = bad line
+got_identity text n (Ok (i, at)) = got i (n + 3) (drop at text)
 
 -- where they end
-abbrev pub behind_identity : IdentityLine → ℕ
-behind_identity (IdentityLine.Bad line) = 0
-behind_identity (IdentityLine.Identity i at) = at
+abbrev pub behind_identity : Result (Identity × ℕ) ℕ → ℕ
+behind_identity (Err line) = 0
+behind_identity (Ok (i, at)) = at
 
 -- the line that is wrong, and 1 where none is
-abbrev pub wrong_identity : IdentityLine → ℕ
-wrong_identity (IdentityLine.Bad line) = line
-wrong_identity (IdentityLine.Identity i at) = 1
+abbrev pub wrong_identity : Result (Identity × ℕ) ℕ → ℕ
+wrong_identity (Err line) = line
+wrong_identity (Ok (i, at)) = 1
 
 -- an identity read from a place of a text on
-pub record ReadsIdentity (before : Option Mark) (who : Party) (text : List ℕ) (from n : ℕ) (r : IdentityLine) : Type 0 where
+pub record ReadsIdentity (before : Option Mark) (who : Party) (text : List ℕ) (from n : ℕ) (r : Result (Identity × ℕ) ℕ) : Type 0 where
   pub is : got_identity text n r ≡ identity_lines before who n (drop from text)
   pub inside : behind_identity r ≤ length text
   pub counted : 1 ≤ wrong_identity r
 
 -- the lines of a mark, as the code says them
-abbrev pub got_mark : List ℕ → MarkLine → Got Mark
-got_mark text (MarkLine.Bad line) = bad line
-got_mark text (MarkLine.Mark m lines at) = got m lines (drop at text)
+abbrev pub got_mark : List ℕ → Result (Mark × ℕ × ℕ) ℕ → Got Mark
+got_mark text (Err line) = bad line
+got_mark text (Ok (m, lines, at)) = got m lines (drop at text)
 
 -- where they end
-abbrev pub behind_mark : MarkLine → ℕ
-behind_mark (MarkLine.Bad line) = 0
-behind_mark (MarkLine.Mark m lines at) = at
+abbrev pub behind_mark : Result (Mark × ℕ × ℕ) ℕ → ℕ
+behind_mark (Err line) = 0
+behind_mark (Ok (m, lines, at)) = at
 
 -- how many lines were read with them
-abbrev pub lines_mark : MarkLine → ℕ
-lines_mark (MarkLine.Bad line) = 0
-lines_mark (MarkLine.Mark m lines at) = lines
+abbrev pub lines_mark : Result (Mark × ℕ × ℕ) ℕ → ℕ
+lines_mark (Err line) = 0
+lines_mark (Ok (m, lines, at)) = lines
 
 -- the line that is wrong, and 1 where none is
-abbrev pub wrong_mark : MarkLine → ℕ
-wrong_mark (MarkLine.Bad line) = line
-wrong_mark (MarkLine.Mark m lines at) = 1
+abbrev pub wrong_mark : Result (Mark × ℕ × ℕ) ℕ → ℕ
+wrong_mark (Err line) = line
+wrong_mark (Ok (m, lines, at)) = 1
 
 -- the rest of a mark read from a place of a text on, behind its identity
-pub record ReadsContent (version : ℕ) (i : Identity) (text : List ℕ) (from n : ℕ) (r : MarkLine) : Type 0 where
+pub record ReadsContent (version : ℕ) (i : Identity) (text : List ℕ) (from n : ℕ) (r : Result (Mark × ℕ × ℕ) ℕ) : Type 0 where
   pub is : got_mark text r ≡ content_lines version i n (drop from text)
   pub inside : behind_mark r ≤ length text
   pub counted : 1 ≤ wrong_mark r
   pub lines_most : lines_mark r ≤ n + 4
 
 -- a mark
-pub record ReadsMark (version : ℕ) (before : Option Mark) (text : List ℕ) (from n : ℕ) (r : MarkLine) : Type 0 where
+pub record ReadsMark (version : ℕ) (before : Option Mark) (text : List ℕ) (from n : ℕ) (r : Result (Mark × ℕ × ℕ) ℕ) : Type 0 where
   pub is : got_mark text r ≡ mark_lines version before n (drop from text)
   pub inside : behind_mark r ≤ length text
   pub counted : 1 ≤ wrong_mark r
@@ -209,27 +192,23 @@ pub record ReadsMarks (version : ℕ) (text : List ℕ) (from n count : ℕ) (r 
   pub blanks : (i : ℕ) → count ≤ i → get_or r.table i blank ≡ blank
 
 -- ---- Runs
--- the set before the first run is none
-abbrev pub before_by : Bool → ℕ → Option ℕ
-before_by first set = cond first none (some set)
-
 -- the two lines of a run, as the code says them
-abbrev pub got_run : List ℕ → ℕ → RunLine → Got Run
-got_run text n (RunLine.Bad line) = bad line
-got_run text n (RunLine.Run len set at) = got (run len set) (n + 2) (drop at text)
+abbrev pub got_run : List ℕ → ℕ → Result (ℕ × ℕ × ℕ) ℕ → Got Run
+got_run text n (Err line) = bad line
+got_run text n (Ok (len, set, at)) = got (run len set) (n + 2) (drop at text)
 
 -- where they end
-abbrev pub behind_run : RunLine → ℕ
-behind_run (RunLine.Bad line) = 0
-behind_run (RunLine.Run len set at) = at
+abbrev pub behind_run : Result (ℕ × ℕ × ℕ) ℕ → ℕ
+behind_run (Err line) = 0
+behind_run (Ok (len, set, at)) = at
 
 -- the line that is wrong, and 1 where none is
-abbrev pub wrong_run : RunLine → ℕ
-wrong_run (RunLine.Bad line) = line
-wrong_run (RunLine.Run len set at) = 1
+abbrev pub wrong_run : Result (ℕ × ℕ × ℕ) ℕ → ℕ
+wrong_run (Err line) = line
+wrong_run (Ok (len, set, at)) = 1
 
 -- a run read from a place of a text on
-pub record ReadsRun (before : Option ℕ) (most : ℕ) (text : List ℕ) (from n : ℕ) (r : RunLine) : Type 0 where
+pub record ReadsRun (before : Option ℕ) (most : ℕ) (text : List ℕ) (from n : ℕ) (r : Result (ℕ × ℕ × ℕ) ℕ) : Type 0 where
   pub is : got_run text n r ≡ run_lines most before n (drop from text)
   pub inside : behind_run r ≤ length text
   pub counted : 1 ≤ wrong_run r

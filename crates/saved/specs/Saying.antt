@@ -1,9 +1,7 @@
 -- What a saved text says, and which of its lines is the first that is wrong, in itself or against those before it. A line's bounds are those that
 -- the lines before it leave; a sum and an unused mark are looked at when the last line of the settings or of the tank has been read. Earlier versions
 -- have fewer lines: what they do not say of a mark is the plant for its party and 0 for its counter.
-use Rattle.std.specs.Prelude.{Bool, true, cond, ◌&&◌, not, List, [], ◌∷◌, ◌++◌, map, ℕ, zero, suc, ◌+◌, ◌-◌, ◌^◌, max, leb, eqb, ℤ, pos, length, get_or}
-use Rattle.std.proofs.Math.Option.{Option, none, some}
-use Rattle.text.specs.declared.Signed32.{Signed32}
+use Rattle.std.specs.Prelude.{Bool, true, cond, ◌&&◌, not, List, [], ◌∷◌, ◌++◌, map, ℕ, zero, suc, ◌+◌, ◌-◌, ◌^◌, max, leb, eqb, ℤ, pos, length, get_or, Option, Some, None}
 use Rattle.text.specs.Bytes.{bytes, same_of}
 use Rattle.text.specs.Signed.{signed32_of}
 use Rattle.text_lines.specs.Lines.{Got, got, then, provided, ended, line, number_line, hex_line}
@@ -24,8 +22,6 @@ use Rattle.tanks.specs.declared.Setting.{Setting}
 use Rattle.tanks.specs.Settings.{share_of, limit_of, shares}
 use Rattle.tanks.specs.House.{House}
 use Rattle.script.specs.declared.Kind.{Kind}
-use Rattle.script.specs.declared.ReadKind.{ReadKind}
-use Rattle.script.specs.declared.ReadValue.{ReadValue}
 use Rattle.script.specs.Reading.{kind_named, value_of}
 use Rattle.settings_text.specs.Text.{version_name, pairs_lines}
 use Rattle.saved.specs.Saved.{Saved, party_name}
@@ -37,17 +33,17 @@ since_line first version missing reading n text = cond (leb first version) (read
 
 -- a party by its name
 abbrev pub party_named : List ℕ → Option Party
-party_named t = cond (same_of t (party_name Plant)) (some Plant) (cond (same_of t (party_name Lab)) (some Lab) none)
+party_named t = cond (same_of t (party_name Plant)) (Some Plant) (cond (same_of t (party_name Lab)) (Some Lab) None)
 
 -- behind a mark of the lab's comes none of the plant's
 abbrev pub party_least : Option Mark → ℕ
-party_least none = 0
-party_least (some p) = rank p.party
+party_least None = 0
+party_least (Some p) = rank p.party
 
 -- a party that is at least so much in their order
 abbrev pub party_from : ℕ → Option Party → Option Party
-party_from least none = none
-party_from least (some who) = cond (leb least (rank who)) (some who) none
+party_from least None = None
+party_from least (Some who) = cond (leb least (rank who)) (Some who) None
 
 -- the line of a party
 abbrev pub party_line : ℕ → ℕ → ℕ → List ℕ → Got Party
@@ -55,23 +51,23 @@ party_line version least n text = since_line 2 version Plant (line (bytes "party
 
 -- the mark before, if it is of this party: each party's marks ascend by themselves
 abbrev pub own_before : Option Mark → Party → Option Mark
-own_before none who = none
-own_before (some p) who = cond (same_party who p.party) (some p) none
+own_before None who = None
+own_before (Some p) who = cond (same_party who p.party) (Some p) None
 
 -- the least that a key may be behind the mark before it
 abbrev pub key_least : Option Mark → ℕ
-key_least none = 0
-key_least (some p) = p.key
+key_least None = 0
+key_least (Some p) = p.key
 
 -- a lamport behind that mark and this key
 abbrev pub lamport_least : Option Mark → ℕ → ℕ
-lamport_least none key = 0
-lamport_least (some p) key = cond (eqb key p.key) p.lamport 0
+lamport_least None key = 0
+lamport_least (Some p) key = cond (eqb key p.key) p.lamport 0
 
 -- a peer behind that mark, this key and this lamport: with both equal it must be greater
 abbrev pub peer_least : Option Mark → ℕ → ℕ → ℕ
-peer_least none key lamport = 0
-peer_least (some p) key lamport = cond (eqb key p.key && eqb lamport p.lamport) (p.peer + 1) 0
+peer_least None key lamport = 0
+peer_least (Some p) key lamport = cond (eqb key p.key && eqb lamport p.lamport) (p.peer + 1) 0
 
 -- the lines of a party's identity, behind the mark of that party before it
 unfoldable pub identity_lines : Option Mark → Party → ℕ → List ℕ → Got Identity
@@ -82,23 +78,23 @@ identity_lines before who n text =
     got (record { party = who; key = key; lamport = lamport; peer = peer }) n text
 
 -- a counter of signed 32 bits
-abbrev pub counter_said : Signed32 → Option ℤ
-counter_said Signed32.Bad = none
-counter_said (Signed32.Number z) = some z
+abbrev pub counter_said : Option ℤ → Option ℤ
+counter_said None = None
+counter_said (Some z) = Some z
 
 -- the line of a counter
 abbrev pub counter_line : ℕ → ℕ → List ℕ → Got ℤ
 counter_line version n text = since_line 3 version (pos 0) (line (bytes "cnt=") (λ t. counter_said (signed32_of t))) n text
 
 -- a kind by its name
-abbrev pub kind_said : ReadKind → Option Kind
-kind_said ReadKind.Bad = none
-kind_said (ReadKind.Kind k) = some k
+abbrev pub kind_said : Option Kind → Option Kind
+kind_said None = None
+kind_said (Some k) = Some k
 
 -- a value that is no NaN
-abbrev pub value_said : ReadValue → Option Value
-value_said ReadValue.Bad = none
-value_said (ReadValue.Value v) = cond (value_nan v) none (some v)
+abbrev pub value_said : Option Value → Option Value
+value_said None = None
+value_said (Some v) = cond (value_nan v) None (Some v)
 
 -- a mark by its identity and the rest of it
 abbrev pub mark_with : Identity → ℤ → ℕ → Value → Mark
@@ -122,8 +118,8 @@ mark_lines version before n text =
 
 -- the last of some marks
 abbrev pub last_of : List Mark → Option Mark
-last_of [] = none
-last_of (m ∷ []) = some m
+last_of [] = None
+last_of (m ∷ []) = Some m
 last_of (m ∷ x ∷ xs) = last_of (x ∷ xs)
 
 -- k marks more behind those that were read
@@ -135,13 +131,13 @@ marks_lines version ms (suc k) n text = then (mark_lines version (last_of ms) n 
 -- ---- A run
 -- the set of the run before, if there is one
 abbrev pub set_before : List Run → Option ℕ
-set_before [] = none
-set_before (r ∷ rs) = some r.set
+set_before [] = None
+set_before (r ∷ rs) = Some r.set
 
 -- another set than that
 abbrev pub other_than : ℕ → Option ℕ → Bool
-other_than s none = true
-other_than s (some x) = not (eqb s x)
+other_than s None = true
+other_than s (Some x) = not (eqb s x)
 
 -- the two lines of a run behind one with that set; a set is at most so much
 unfoldable pub run_lines : ℕ → Option ℕ → ℕ → List ℕ → Got Run

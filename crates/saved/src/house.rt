@@ -8,7 +8,6 @@ ghost use Rattle.saved.specs.Reads.{ReadsTanks, Begins};
 use super::one_tank::tank_lines;
 use super::{Begun, Filled};
 use tanks::{Setting, Tanks};
-use text_lines::Taken as Line;
 
 fn limit_of(settings: [Setting; 8], t: usize) -> u64
     requires { (length settings ≡ 8) × (t < 8) }
@@ -36,23 +35,19 @@ pub fn tanks_lines(bytes: &[u8], from: usize, version: u64, start: Tanks) -> Fil
     let mut tanks = start;
     let mut at = from;
     let mut lines = 17;
-    let mut t = 0;
-    while t < 8 {
+    for t in 0..8 {
         let settings = tanks.settings;
         let r = tank_lines(bytes, at, lines, version, t, limit_of(settings, t));
         if 0 < r.line {
             return filled_to(r.line, 0, 0, tanks);
         }
         let x = r.tank;
-        let p = tanks.put(t, x);
-        let next = p.tanks;
-        if 0 < p.number {
-            return filled_to(r.lines, 0, 0, next);
+        match tanks.put(t, x) {
+            Ok(()) => {}
+            Err(_) => return filled_to(r.lines, 0, 0, tanks),
         }
-        tanks = next;
         at = r.at;
         lines = r.lines;
-        t += 1;
     }
     filled_to(0, at, lines, tanks)
 }
@@ -74,7 +69,7 @@ fn nothing_opened(line: u64) -> Begun
 pub fn begin_lines(bytes: &[u8]) -> Begun
     ensures { Begins bytes.now result }
 {
-    let Line::Number(version, start) = text_lines::number(bytes, 0, b"version=", 1, 3) else {
+    let Some((version, start)) = text_lines::number(bytes, 0, b"version=", 1, 3) else {
         return nothing_opened(1);
     };
     let p = settings_text::pairs_lines(true, bytes, start, 1);

@@ -19,47 +19,8 @@ use tank::Tank;
 use tanks::Tanks;
 pub use writing::{MOST, needed, write};
 
-// A party that was read, how many lines were read with it, and the place behind them; or that the line is wrong.
-#[derive(Clone, Copy)]
-enum PartyLine {
-    Bad,
-    Party(Party, u64, usize),
-}
-
-// The same of a counter.
-#[derive(Clone, Copy)]
-enum CounterLine {
-    Bad,
-    Counter(i32, u64, usize),
-}
-
-// A kind that was read with the place behind its line, or that the line is wrong.
-#[derive(Clone, Copy)]
-enum KindLine {
-    Bad,
-    Kind(Kind, usize),
-}
-
-// The same of a value.
-#[derive(Clone, Copy)]
-enum ValueLine {
-    Bad,
-    Value(Value, usize),
-}
-
-// An identity that was read with the place behind its lines, or the number of the line that is wrong.
-#[derive(Clone, Copy)]
-enum IdentityLine {
-    Bad(u64),
-    Identity(Identity, usize),
-}
-
-// A mark that was read, how many lines were read with it, and the place behind them; or the number of the line that is wrong.
-#[derive(Clone, Copy)]
-enum MarkLine {
-    Bad(u64),
-    Mark(Mark, u64, usize),
-}
+// In the five structs here `line` is 0 where all was read well, and no `Result` holds them: memory is fixed, tables and tanks lie in them by
+// value, and a `?` would hand 3 to 25 KB on once more.
 
 // Marks that were read, how many lines were read with them, and the place behind them; or the number of the line that is wrong.
 #[derive(Clone, Copy)]
@@ -68,13 +29,6 @@ struct ReadMarks {
     at: usize,
     lines: u64,
     table: [Mark; 64],
-}
-
-// A run that was read with the place behind its lines, or the number of the line that is wrong.
-#[derive(Clone, Copy)]
-enum RunLine {
-    Bad(u64),
-    Run(u64, u64, usize),
 }
 
 // Runs that were read, and the place behind their lines: the sum of their lengths as far as 2^63, and all their sets together. Or the number

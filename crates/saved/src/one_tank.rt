@@ -1,5 +1,5 @@
 // The lines of one tank.
-ghost use Rattle.std.specs.Prelude.{◌≡◌, cond, ◌&&◌, ◌-◌, ◌^◌, ◌≤◌, ◌<◌, max, eqb, length, replicate, take};
+ghost use Rattle.std.specs.Prelude.{◌≡◌, cond, ◌&&◌, ◌-◌, ◌^◌, ◌≤◌, ◌<◌, eqb, length, replicate, take};
 ghost use Rattle.text.specs.Bytes.{bytes};
 ghost use Rattle.text_lines.specs.Lines.{decimal_from, taken_by};
 ghost use Rattle.styles.specs.Marks.{blank};
@@ -12,7 +12,6 @@ use super::spans::runs_lines;
 use super::{ReadMarks, ReadRuns, TankHead, TankLine};
 use styles::{Mark, Party};
 use tank::Tank;
-use text_lines::Taken as Line;
 
 // The bounds of an untouched tank's lines, and of a touched one's.
 fn least_length(touched: bool) -> u64
@@ -60,12 +59,6 @@ fn all_of(marks: usize) -> u64
     18446744073709551615
 }
 
-fn larger(a: usize, b: usize) -> usize
-    ensures { result ≡ max a b }
-{
-    if a < b { b } else { a }
-}
-
 // Whether the parties' marks have room: where the lab has one, the plant is assured 32 of the 64 places and the lab 16.
 fn have_room(table: [Mark; 64], n: usize) -> bool
     requires { n ≤ 64 }
@@ -76,20 +69,14 @@ fn have_room(table: [Mark; 64], n: usize) -> bool
     if lab == 0 {
         return true;
     }
-    larger(plant, 32) + larger(lab, 16) <= 64
+    plant.max(32) + lab.max(16) <= 64
 }
 
 // Whether the lengths sum to the tank's, each mark is in some run, and there is room for the marks.
 fn adds_up(sum: u64, len: u64, all: u64, want: u64, room: bool) -> bool
     ensures { result ≡ (eqb sum len && (eqb all want && room)) }
 {
-    if sum == len {
-        if all == want {
-            return room;
-        }
-        return false;
-    }
-    false
+    sum == len && all == want && room
 }
 
 fn wrong_head(line: u64) -> TankHead
@@ -122,7 +109,7 @@ fn head_with(m: ReadMarks, flag: u64, length: u64, marks: usize) -> TankHead
 }
 
 // The line of a tank's length.
-fn length_line(t: &[u8], from: usize, touched: bool) -> Line
+fn length_line(t: &[u8], from: usize, touched: bool) -> Option<(u64, usize)>
     requires { from ≤ length t.now }
     ensures { result ≡ taken_by (bytes "length=") (decimal_from (cond touched 0 fresh_length) (cond touched largest fresh_length)) t.now from }
 {
@@ -141,17 +128,16 @@ fn tank_head(bytes: &[u8], from: usize, n: u64, version: u64, t: usize) -> TankH
     ensures { ReadsHead version bytes.now from t n result }
 {
     let w = text::wide(t);
-    let Line::Number(_, a) = text_lines::number(bytes, from, b"tank=", w, w) else {
+    let Some((_, a)) = text_lines::number(bytes, from, b"tank=", w, w) else {
         return wrong_head(n + 1);
     };
-    let Line::Number(flag, b) = text_lines::number(bytes, a, b"touched=", 0, 1) else {
+    let Some((flag, b)) = text_lines::number(bytes, a, b"touched=", 0, 1) else {
         return wrong_head(n + 2);
     };
-    let Line::Number(len, c) = length_line(bytes, b, flag == 1) else {
+    let Some((len, c)) = length_line(bytes, b, flag == 1) else {
         return wrong_head(n + 3);
     };
-    let Line::Number(k, d) = text_lines::number(bytes, c, b"marks=", 0, most_marks(flag == 1))
-    else {
+    let Some((k, d)) = text_lines::number(bytes, c, b"marks=", 0, most_marks(flag == 1)) else {
         return wrong_head(n + 4);
     };
     let marks = k as usize;
@@ -192,7 +178,7 @@ fn tank_with(h: TankHead, x: ReadRuns, runs: usize) -> Tank
 }
 
 // The line that says how many runs there are.
-fn count_line(t: &[u8], from: usize, touched: bool, limit: u64) -> Line
+fn count_line(t: &[u8], from: usize, touched: bool, limit: u64) -> Option<(u64, usize)>
     requires { from ≤ length t.now }
     ensures { result ≡ taken_by (bytes "runs=") (decimal_from (cond touched 0 1) (cond touched limit 1)) t.now from }
 {
@@ -214,7 +200,7 @@ pub fn tank_lines(bytes: &[u8], from: usize, n: u64, version: u64, t: usize, lim
     if 0 < h.line {
         return wrong_tank(h.line);
     }
-    let Line::Number(j, a) = count_line(bytes, h.at, h.flag == 1, limit) else {
+    let Some((j, a)) = count_line(bytes, h.at, h.flag == 1, limit) else {
         return wrong_tank(h.lines + 1);
     };
     let all = all_of(h.marks);

@@ -1,50 +1,37 @@
 // The lines of a tank's runs.
 ghost use Rattle.std.specs.Prelude.{◌≡◌, min, ◌+◌, ◌^◌, ◌≤◌, ◌<◌, length, replicate};
-ghost use Rattle.saved.specs.Saying.{other_than};
-ghost use Rattle.saved.specs.Reads.{before_by, ReadsRun, ReadsRuns};
+ghost use Rattle.saved.specs.Reads.{ReadsRun, ReadsRuns};
 
-use super::{ReadRuns, RunLine};
-use text_lines::Taken as Line;
+use super::ReadRuns;
 
 // A sum of lengths, as far as it matters: 2^63 and more are past every tank's length.
 fn capped(a: u64, b: u64) -> u64
     ensures { result ≡ min (2 ^ 63) (a + b) }
 {
-    if a > 9223372036854775808 {
-        return 9223372036854775808;
-    }
-    if b > 9223372036854775808 - a {
-        return 9223372036854775808;
-    }
-    a + b
-}
-
-// Whether a set is another than the one before it.
-fn other(first: bool, before: u64, set: u64) -> bool
-    ensures { result ≡ other_than set (before_by first before) }
-{
-    if first {
-        return true;
-    }
-    set != before
+    a.saturating_add(b).min(9223372036854775808)
 }
 
 // The two lines of a run, behind n lines and a run with that set.
-fn run_lines(bytes: &[u8], from: usize, n: u64, most: u64, first: bool, before: u64) -> RunLine
+fn run_lines(
+    bytes: &[u8],
+    from: usize,
+    n: u64,
+    most: u64,
+    before: Option<u64>,
+) -> Result<(u64, u64, usize), u64>
     requires { (n < 2 ^ 32) × (from ≤ length bytes.now) }
-    ensures { ReadsRun (before_by first before) most bytes.now from n result }
+    ensures { ReadsRun before most bytes.now from n result }
 {
-    let Line::Number(len, next) = text_lines::number(bytes, from, b"len=", 1, 18446744073709551615)
-    else {
-        return RunLine::Bad(n + 1);
+    let Some((len, next)) = text_lines::number(bytes, from, b"len=", 1, 18446744073709551615) else {
+        return Err(n + 1);
     };
-    let Line::Number(set, last) = text_lines::digits(bytes, next, b"set=", 0, most) else {
-        return RunLine::Bad(n + 2);
+    let Some((set, last)) = text_lines::digits(bytes, next, b"set=", 0, most) else {
+        return Err(n + 2);
     };
-    if other(first, before, set) {
-        return RunLine::Run(len, set, last);
+    if Some(set) != before {
+        return Ok((len, set, last));
     }
-    RunLine::Bad(n + 2)
+    Err(n + 2)
 }
 
 fn wrong_runs(line: u64) -> ReadRuns
@@ -68,24 +55,21 @@ pub fn runs_lines(bytes: &[u8], from: usize, n: u64, count: usize, most: u64) ->
     let mut lens = [0u64; 514];
     let mut sets = [0u64; 514];
     let mut at = from;
-    let mut before = 0;
+    let mut before = None;
     let mut sum = 0;
     let mut all = 0;
-    let mut j = 0;
-    while j < count {
-        let r = run_lines(bytes, at, n + 2 * text::wide(j), most, j == 0, before);
-        match r {
-            RunLine::Bad(line) => {
+    for j in 0..count {
+        match run_lines(bytes, at, n + 2 * text::wide(j), most, before) {
+            Err(line) => {
                 return wrong_runs(line);
             }
-            RunLine::Run(len, set, next) => {
+            Ok((len, set, next)) => {
                 lens[j] = len;
                 sets[j] = set;
                 at = next;
-                before = set;
+                before = Some(set);
                 sum = capped(sum, len);
                 all = set | all;
-                j += 1;
             }
         }
     }

@@ -154,11 +154,8 @@ fn lay_marks(out: &mut [u8], at: usize, table: [Mark; 64], n: usize) -> usize
     ensures fits_marks { FitsMarks (take n table) }
 {
     let mut k = at;
-    let mut j = 0;
-    while j < n {
-        let m = table[j];
-        k = lay_mark(out, k, m);
-        j += 1;
+    for j in 0..n {
+        k = lay_mark(out, k, table[j]);
     }
     k
 }
@@ -169,10 +166,8 @@ fn lay_runs(out: &mut [u8], at: usize, lens: &[u64], sets: &[u64], n: usize) -> 
     ensures { Lays out.old at (runs_text (run_list lens.now sets.now n)) (46 * n) result out.new }
 {
     let mut k = at;
-    let mut j = 0;
-    while j < n {
+    for j in 0..n {
         k = lay_run(out, k, lens[j], sets[j]);
-        j += 1;
     }
     k
 }
@@ -183,11 +178,8 @@ fn lay_pairs(out: &mut [u8], at: usize, settings: [Setting; 8]) -> usize
     ensures { Lays out.old at (pairs_text 0 settings) 448 result out.new }
 {
     let mut k = at;
-    let mut t = 0;
-    while t < 8 {
-        let s = settings[t];
-        k = lay_pair(out, k, t, s);
-        t += 1;
+    for (t, s) in settings.iter().enumerate() {
+        k = lay_pair(out, k, t, *s);
     }
     k
 }
@@ -231,11 +223,9 @@ fn lay_tanks(out: &mut [u8], at: usize, s: Tanks) -> usize
     ensures fits_house { FitsHouse (meaning s) }
 {
     let mut k = at;
-    let mut t = 0;
-    while t < 8 {
+    for t in 0..8 {
         let x = s.take(t);
         k = lay_tank(out, k, t, x);
-        t += 1;
     }
     k
 }

@@ -1,32 +1,13 @@
 -- A counter in a local is the number of its bits.
 use mathlib.Core.Path.{◌≡◌, ap, ◌∙◌}
-use mathlib.Core.List.{List}
-use Prim.Native.Nat.{ℕ, ◌+◌, ◌%◌, ◌^◌}
+use Prim.Native.Nat.{ℕ, ◌%◌, ◌^◌}
 use lib.IntN.{ℤ}
 use mir.Syntax.{w32, w64}
 use mir.Val.{SFits, to_z, of_z}
 use mir.Facts.{to_z-of_z, sfits_widen}
 use Rattle.styles.specs.declared.Party.{Party}
-use Rattle.styles.specs.declared.Value.{Value}
 use Rattle.script.specs.declared.Call.{Call}
-use Rattle.script.specs.declared.Kind.{Kind}
-use Rattle.script.specs.declared.Op.{Op}
-use Rattle.script.specs.declared.Progress.{Progress}
-use Rattle.script.specs.declared.Read.{Read}
-use Rattle.script.specs.Grammar.{field_at, progress_of}
-use Rattle.script.specs.Reading.{moved_of}
 use Rattle.script.specs.Args.{number_at, key_at, mark_of}
-
--- a call with one field more, whose counter is in a local
-module _ (op : Op) (row place : ℕ) (numbers : List ℕ) (cnt : ℤ) (kind : Kind) (value : Value) (fits : SFits w32 cnt) where
-  pub moved_as : {p : Progress} → p ≡ progress_of (field_at row (place + 1)).holds
-      → record { call = record { op = op; row = row; place = place + 1; numbers = numbers; cnt = to_z w32 (of_z w32 cnt); kind = kind; value = value }; progress = p } ≡ moved_of op row place numbers cnt kind value
-  unfolding moved_of
-  moved_as e =
-      λ i. record { call = record { op = op; row = row; place = place + 1; numbers = numbers; cnt = to_z-of_z fits i; kind = kind; value = value }; progress = e i }
-
-  pub same_moved : {r : Read} → r ≡ moved_of op row place numbers (to_z w32 (of_z w32 cnt)) kind value → r ≡ moved_of op row place numbers cnt kind value
-  same_moved e = e ∙ ap (λ (z : ℤ). moved_of op row place numbers z kind value) (to_z-of_z fits)
 
 -- the mark of a call
 pub marked : (who : Party) (c : Call) → SFits w32 c.cnt → {key flags lamport : ℕ} → key ≡ key_at c 3 → flags ≡ number_at c 7 % 2 ^ 8 → lamport ≡ number_at c 4 % 2 ^ 32

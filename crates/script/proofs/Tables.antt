@@ -1,4 +1,5 @@
 -- The rules of the tables: a text of cells is compared with a table once, by computing, and each cell is then its row's, whatever the number.
+use Rattle.std.specs.Prelude.{Some}
 use mathlib.Core.Path.{◌≡◌, refl, sym, ap, ◌∙◌}
 use mathlib.Core.Bool.{Bool, true, cond}
 use mathlib.Core.List.{List, [], ◌∷◌, ◌++◌, map}
@@ -14,7 +15,6 @@ use Rattle.laws.proofs.Lists.{get_d_blank, get_d_padding}
 use Rattle.text.specs.Bytes.{up_to, same_of}
 use Rattle.script.specs.declared.Kind.{Kind}
 use Rattle.script.specs.declared.Name.{Name}
-use Rattle.script.specs.declared.ReadOp.{ReadOp}
 use Rattle.script.specs.Grammar.{Field, no_field, spelling, kind_name, OpRow, no_row, op_rows, op_count, row_at, field_at}
 use Rattle.script.specs.Cells.{letters, letter_count, field_of, cells, in_places, Names, Letters}
 use Rattle.script.specs.Reading.{op_from}
@@ -68,7 +68,7 @@ op_name_at all i s e All-right =
     ∙ ap spelling (in_cells (up_to 32) (λ (r : OpRow). r.name) no_row op_rows 16 all All-right.right i)
 
 -- rows that are tried from a number on: the first of them, and then the rest
-pub from_row : (i : ℕ) → i < op_count → (t : List ℕ) → op_from i (drop i op_rows) t ≡ cond (same_of t (row_at i).name) (ReadOp.Row i) (op_from (suc i) (drop (suc i) op_rows) t)
+pub from_row : (i : ℕ) → i < op_count → (t : List ℕ) → op_from i (drop i op_rows) t ≡ cond (same_of t (row_at i).name) (Some i) (op_from (suc i) (drop (suc i) op_rows) t)
 from_row i h t = ap (λ (rs : List OpRow). op_from i rs t) (drop_row no_row op_rows i h)
 
 -- ---- Fields
@@ -100,10 +100,6 @@ field_name_at all letter s e All-right =
     s
     ∙ ap (λ (k : ℕ). spelling (up_to 32 (take 8 (drop (k * 8) all)))) e
     ∙ ap spelling (in_cells (up_to 32) (λ (f : Field). f.name) no_field letters 8 all All-right (letter - 47))
-
--- ---- Kinds
-pub kind_arm : {k l : Kind} {n : Name} → k ≡ l → n ≡ spelling (kind_name l) → n ≡ spelling (kind_name k)
-kind_arm e s = s ∙ sym (ap (λ (x : Kind). spelling (kind_name x)) e)
 
 -- a choice by a test of a name, whichever way the name is written
 pub by_name : {A : Type 0} (test : List ℕ → Bool) (n m : List ℕ) (a b : A) (q : Bool) → n ≡ m → q ≡ test n → cond q a b ≡ cond (test m) a b

@@ -1,11 +1,11 @@
 -- Closed examples: what the definitions say of a few lines.
+use Rattle.std.specs.Prelude.{Some, None}
 use mathlib.Core.Path.{◌≡◌, refl}
 use mathlib.Core.Bool.{true}
 use mathlib.Core.List.{List, [], ◌∷◌, ◌++◌, map}
 use Prim.Native.Nat.{ℕ, suc}
 use lib.IntN.{pos, negsuc}
 use lib.ListN.{replicate}
-use Rattle.text.specs.declared.Parsed.{Parsed}
 use Rattle.text.specs.Number.{all_digits, value_in, number_in, decimal_of}
 use Rattle.text.specs.Signed.{signed_of, signed32_of, plus_of, minus_of}
 use Rattle.text.specs.Bytes.{bytes, up_to, holds, starts_of, same_of}
@@ -15,8 +15,6 @@ use Rattle.script.specs.declared.Change.{Change}
 use Rattle.script.specs.declared.Kind.{Kind}
 use Rattle.script.specs.declared.Op.{Op}
 use Rattle.script.specs.declared.Progress.{Progress}
-use Rattle.script.specs.declared.ReadOp.{ReadOp}
-use Rattle.script.specs.declared.ReadValue.{ReadValue}
 use Rattle.script.specs.declared.Reader.{Reader}
 use Rattle.script.specs.Grammar.{key, OpRow, ops, spelling}
 use Rattle.script.specs.Reading.{number_of, party_of, op_named, value_of, fresh_of, moved_of, held_line, line_of}
@@ -27,28 +25,28 @@ numbered i [] = []
 numbered i (r ∷ rs) = i ∷ numbered (suc i) rs
 
 -- every op is known by its name
-names_known : map (λ (r : OpRow). op_named r.name) ops ≡ map ReadOp.Row (numbered 1 ops)
+names_known : map (λ (r : OpRow). op_named r.name) ops ≡ map Some (numbered 1 ops)
 unfolding op_named same_of starts_of numbered
 names_known = refl
 
 -- a key has 16 bits, and another field's line is not taken for it
-most_key : number_of key 65535 (bytes "key=65535") ≡ Parsed.Number 65535
+most_key : number_of key 65535 (bytes "key=65535") ≡ Some 65535
 unfolding number_of starts_of decimal_of number_in all_digits value_in
 most_key = refl
 
-wide_key : number_of key 65535 (bytes "key=65536") ≡ Parsed.Bad
+wide_key : number_of key 65535 (bytes "key=65536") ≡ None
 unfolding number_of starts_of decimal_of number_in all_digits value_in
 wide_key = refl
 
-leading_zero : number_of key 65535 (bytes "key=07") ≡ Parsed.Bad
+leading_zero : number_of key 65535 (bytes "key=07") ≡ None
 unfolding number_of starts_of decimal_of number_in all_digits value_in
 leading_zero = refl
 
-other_field : number_of key 65535 (bytes "tank=7") ≡ Parsed.Bad
+other_field : number_of key 65535 (bytes "tank=7") ≡ None
 unfolding number_of starts_of decimal_of number_in all_digits value_in
 other_field = refl
 
-minus_zero : value_of Kind.Whole (bytes "-0") ≡ ReadValue.Bad
+minus_zero : value_of Kind.Whole (bytes "-0") ≡ None
 unfolding value_of signed_of minus_of decimal_of number_in all_digits value_in
 minus_zero = refl
 

@@ -1,10 +1,7 @@
 -- What a line gives to a call.
-use Rattle.std.specs.Prelude.{true, false, cond, List, [], ◌∷◌, ℕ, suc, ◌+◌, ltb, leb, eqb, ℤ, pos, length, get_or, drop, set, replicate}
+use Rattle.std.specs.Prelude.{◌≡◌, true, false, cond, List, [], ◌∷◌, ℕ, suc, ◌+◌, ltb, leb, eqb, ℤ, pos, length, get_or, drop, set, replicate, Option, Some, None}
 use Rattle.std.specs.Float.Ieee.{of_bits}
 use Rattle.std.specs.Float.{binary64}
-use Rattle.text.specs.declared.Parsed.{Parsed}
-use Rattle.text.specs.declared.Signed.{Signed}
-use Rattle.text.specs.declared.Signed32.{Signed32}
 use Rattle.text.specs.Number.{decimal_of, hex_of}
 use Rattle.text.specs.Signed.{signed_of, signed32_of}
 use Rattle.text.specs.Bytes.{bytes, starts_of, same_of}
@@ -17,36 +14,41 @@ use Rattle.script.specs.declared.Kind.{Kind}
 use Rattle.script.specs.declared.Op.{Op}
 use Rattle.script.specs.declared.Progress.{Progress}
 use Rattle.script.specs.declared.Read.{Read}
-use Rattle.script.specs.declared.ReadKind.{ReadKind}
-use Rattle.script.specs.declared.ReadOp.{ReadOp}
-use Rattle.script.specs.declared.ReadValue.{ReadValue}
-use Rattle.script.specs.declared.Start.{Start}
 use Rattle.script.specs.Grammar.{Field, OpRow, ops, row_at, kind_name, field_at, progress_of}
 
 -- where the value starts in a field's line
-unfoldable pub start_of : Field → List ℕ → Start
-start_of f line = cond (starts_of line f.name) (Start.At (length f.name)) Start.Nowhere
+unfoldable pub start_of : Field → List ℕ → Option ℕ
+start_of f line = cond (starts_of line f.name) (Some (length f.name)) None
 
 -- what follows a field's name in its line, read in a way
 abbrev pub after_name : {A : Type 0} → Field → A → (List ℕ → A) → List ℕ → A
 after_name f bad way line = cond (starts_of line f.name) (way (drop (length f.name) line)) bad
 
+-- a line that does not begin with a field's name is bad in whatever way it would be read
+abbrev pub NoValue : Field → List ℕ → Type 0
+NoValue f line = starts_of line f.name ≡ false
+
+-- what stands behind the name
+pub record HasValue (f : Field) (line value : List ℕ) : Type 0 where
+  pub starts : starts_of line f.name ≡ true
+  pub is : value ≡ drop (length f.name) line
+
 -- a number that is at most so much
-abbrev pub within_of : ℕ → Parsed → Parsed
-within_of most Parsed.Bad = Parsed.Bad
-within_of most (Parsed.Number n) = cond (leb n most) (Parsed.Number n) Parsed.Bad
+abbrev pub within_of : ℕ → Option ℕ → Option ℕ
+within_of most None = None
+within_of most (Some n) = cond (leb n most) (Some n) None
 
 -- the number of a field's line
-unfoldable pub number_of : Field → ℕ → List ℕ → Parsed
-number_of f most line = after_name f Parsed.Bad (λ t. within_of most (decimal_of t)) line
+unfoldable pub number_of : Field → ℕ → List ℕ → Option ℕ
+number_of f most line = after_name f None (λ t. within_of most (decimal_of t)) line
 
 -- one byte, as its number
-unfoldable pub byte_of : List ℕ → Parsed
-byte_of t = cond (eqb (length t) 1) (Parsed.Number (get_or t 0 0)) Parsed.Bad
+unfoldable pub byte_of : List ℕ → Option ℕ
+byte_of t = cond (eqb (length t) 1) (Some (get_or t 0 0)) None
 
 -- a party by its name, as its number in the order of marks
-unfoldable pub party_of : List ℕ → Parsed
-party_of t = cond (same_of t (bytes "plant")) (Parsed.Number (rank Plant)) (cond (same_of t (bytes "lab")) (Parsed.Number (rank Lab)) Parsed.Bad)
+unfoldable pub party_of : List ℕ → Option ℕ
+party_of t = cond (same_of t (bytes "plant")) (Some (rank Plant)) (cond (same_of t (bytes "lab")) (Some (rank Lab)) None)
 
 -- the first of a list whose name is t, as `gives` says it, or what there is otherwise
 abbrev pub among : {A R : Type 0} → (A → List ℕ) → (A → R) → List A → List ℕ → R → R
@@ -54,36 +56,36 @@ among name gives [] t other = other
 among name gives (x ∷ xs) t other = cond (same_of t (name x)) (gives x) (among name gives xs t other)
 
 -- the first row of a list that has a name, by its number, where the list begins with row i
-abbrev pub op_from : ℕ → List OpRow → List ℕ → ReadOp
-op_from i [] t = ReadOp.Bad
-op_from i (r ∷ rs) t = cond (same_of t r.name) (ReadOp.Row i) (op_from (suc i) rs t)
+abbrev pub op_from : ℕ → List OpRow → List ℕ → Option ℕ
+op_from i [] t = None
+op_from i (r ∷ rs) t = cond (same_of t r.name) (Some i) (op_from (suc i) rs t)
 
 -- the op with a name, by its row
-unfoldable pub op_named : List ℕ → ReadOp
+unfoldable pub op_named : List ℕ → Option ℕ
 op_named t = op_from 1 ops t
 
 -- of kinds
-abbrev pub kind_among : List Kind → List ℕ → ReadKind → ReadKind
-kind_among = among kind_name ReadKind.Kind
+abbrev pub kind_among : List Kind → List ℕ → Option Kind → Option Kind
+kind_among = among kind_name Some
 
 -- the kind with a name
-unfoldable pub kind_named : List ℕ → ReadKind
-kind_named t = kind_among (Kind.Null ∷ Kind.Bool ∷ Kind.Whole ∷ Kind.Decimal ∷ []) t ReadKind.Bad
+unfoldable pub kind_named : List ℕ → Option Kind
+kind_named t = kind_among (Kind.Null ∷ Kind.Bool ∷ Kind.Whole ∷ Kind.Decimal ∷ []) t None
 
 -- a whole number as a value
-abbrev pub whole_of : Signed → ReadValue
-whole_of Signed.Bad = ReadValue.Bad
-whole_of (Signed.Number z) = ReadValue.Value (Value.Whole z)
+abbrev pub whole_of : Option ℤ → Option Value
+whole_of None = None
+whole_of (Some z) = Some (Value.Whole z)
 
 -- a decimal as a value, from its bits
-abbrev pub decimal_of_bits : Parsed → ReadValue
-decimal_of_bits Parsed.Bad = ReadValue.Bad
-decimal_of_bits (Parsed.Number n) = ReadValue.Value (Value.Decimal (of_bits binary64 n))
+abbrev pub decimal_of_bits : Option ℕ → Option Value
+decimal_of_bits None = None
+decimal_of_bits (Some n) = Some (Value.Decimal (of_bits binary64 n))
 
 -- a value of a kind: nothing, 0 or 1, a signed number, the sixteen hexadecimal digits of its bits
-unfoldable pub value_of : Kind → List ℕ → ReadValue
-value_of Kind.Null t = cond (eqb (length t) 0) (ReadValue.Value Value.Null) ReadValue.Bad
-value_of Kind.Bool t = cond (same_of t (bytes "0")) (ReadValue.Value (Value.Flag false)) (cond (same_of t (bytes "1")) (ReadValue.Value (Value.Flag true)) ReadValue.Bad)
+unfoldable pub value_of : Kind → List ℕ → Option Value
+value_of Kind.Null t = cond (eqb (length t) 0) (Some Value.Null) None
+value_of Kind.Bool t = cond (same_of t (bytes "0")) (Some (Value.Flag false)) (cond (same_of t (bytes "1")) (Some (Value.Flag true)) None)
 value_of Kind.Whole t = whole_of (signed_of t)
 value_of Kind.Decimal t = decimal_of_bits (hex_of t)
 
@@ -104,40 +106,40 @@ abbrev pub bad_of : Call → Read
 bad_of c = record { call = c; progress = Progress.Bad }
 
 -- what is read goes into the call: an op begins it anew, and one without fields is whole with its line
-abbrev pub with_op : Call → ReadOp → Read
-with_op c ReadOp.Bad = bad_of c
-with_op c (ReadOp.Row row) = record { call = fresh_of row; progress = progress_of (field_at row 0).holds }
+abbrev pub with_op : Call → Option ℕ → Read
+with_op c None = bad_of c
+with_op c (Some row) = record { call = fresh_of row; progress = progress_of (field_at row 0).holds }
 
 -- a number goes to its field's place
-abbrev pub with_number : Call → Parsed → Read
-with_number c Parsed.Bad = bad_of c
-with_number c (Parsed.Number n) = moved_of c.op c.row c.place (set c.numbers c.place n) c.cnt c.kind c.value
+abbrev pub with_number : Call → Option ℕ → Read
+with_number c None = bad_of c
+with_number c (Some n) = moved_of c.op c.row c.place (set c.numbers c.place n) c.cnt c.kind c.value
 
 -- a counter is the call's counter
-abbrev pub with_counter : Call → Signed32 → Read
-with_counter c Signed32.Bad = bad_of c
-with_counter c (Signed32.Number z) = moved_of c.op c.row c.place c.numbers z c.kind c.value
+abbrev pub with_counter : Call → Option ℤ → Read
+with_counter c None = bad_of c
+with_counter c (Some z) = moved_of c.op c.row c.place c.numbers z c.kind c.value
 
 -- a kind says how the value's line is read
-abbrev pub with_kind : Call → ReadKind → Read
-with_kind c ReadKind.Bad = bad_of c
-with_kind c (ReadKind.Kind k) = moved_of c.op c.row c.place c.numbers c.cnt k c.value
+abbrev pub with_kind : Call → Option Kind → Read
+with_kind c None = bad_of c
+with_kind c (Some k) = moved_of c.op c.row c.place c.numbers c.cnt k c.value
 
 -- a value is the call's value
-abbrev pub with_value : Call → ReadValue → Read
-with_value c ReadValue.Bad = bad_of c
-with_value c (ReadValue.Value v) = moved_of c.op c.row c.place c.numbers c.cnt c.kind v
+abbrev pub with_value : Call → Option Value → Read
+with_value c None = bad_of c
+with_value c (Some v) = moved_of c.op c.row c.place c.numbers c.cnt c.kind v
 
 -- a line that gives what the field holds
 unfoldable pub held_line : Call → Field → Holds → List ℕ → Read
 held_line c f Holds.Nothing line = bad_of c
-held_line c f Holds.Op line = with_op c (after_name f ReadOp.Bad op_named line)
+held_line c f Holds.Op line = with_op c (after_name f None op_named line)
 held_line c f (Holds.Number most) line = with_number c (number_of f most line)
-held_line c f Holds.Counter line = with_counter c (after_name f Signed32.Bad signed32_of line)
-held_line c f Holds.Kind line = with_kind c (after_name f ReadKind.Bad kind_named line)
-held_line c f Holds.Value line = with_value c (after_name f ReadValue.Bad (value_of c.kind) line)
-held_line c f Holds.Byte line = with_number c (after_name f Parsed.Bad byte_of line)
-held_line c f Holds.Party line = with_number c (after_name f Parsed.Bad party_of line)
+held_line c f Holds.Counter line = with_counter c (after_name f None signed32_of line)
+held_line c f Holds.Kind line = with_kind c (after_name f None kind_named line)
+held_line c f Holds.Value line = with_value c (after_name f None (value_of c.kind) line)
+held_line c f Holds.Byte line = with_number c (after_name f None byte_of line)
+held_line c f Holds.Party line = with_number c (after_name f None party_of line)
 
 -- a line of at most 64 bytes gives the field that comes next
 unfoldable pub line_of : Call → List ℕ → Read

@@ -1,8 +1,8 @@
 // Bodies between the lines: behind some calls come as many bytes as their line says, whatever they are.
-ghost use Rattle.std.specs.Prelude.{◌≡◌, cond, ◌+◌, ◌≤◌, ◌<◌, eqb, length};
+ghost use Rattle.std.specs.Prelude.{◌≡◌, ◌+◌, ◌≤◌, ◌<◌, length};
 ghost use Rattle.script.specs.Grammar.{most_body};
 ghost use Rattle.script.specs.Reading.{fresh_of};
-ghost use Rattle.script.specs.Lines.{reader_at, state_of, counted_of};
+ghost use Rattle.script.specs.Lines.{reader_at, state_of};
 ghost use Rattle.script.specs.Bodies.{body_of, counted_in, ending_in, Fits, resting, end_taken, part_taken, Takes};
 
 use super::lines::{begin, counted, ended, feed, least};
@@ -35,8 +35,8 @@ fn in_lines(reader: Reader) -> Inlet
 {
     let call = idle();
     Inlet {
-        reader: reader,
-        call: call,
+        reader,
+        call,
         have: 0,
         left: 0,
     }
@@ -55,11 +55,11 @@ fn in_lines_with(reader: Reader, e: Event, call: Call, size: usize, at: usize) -
 {
     let inlet = in_lines(reader);
     Taken {
-        inlet: inlet,
+        inlet,
         event: e,
-        call: call,
-        size: size,
-        at: at,
+        call,
+        size,
+        at,
     }
 }
 
@@ -68,17 +68,17 @@ fn in_body(reader: Reader, call: Call, have: usize, left: usize, at: usize) -> T
     ensures { result ≡ record { inlet = record { reader = reader; call = call; have = have; left = left }; event = Event.Nothing; call = call; size = 0; at = at } }
 {
     let inlet = Inlet {
-        reader: reader,
-        call: call,
-        have: have,
-        left: left,
+        reader,
+        call,
+        have,
+        left,
     };
     Taken {
-        inlet: inlet,
+        inlet,
         event: Event::Nothing,
-        call: call,
+        call,
         size: 0,
-        at: at,
+        at,
     }
 }
 
@@ -114,25 +114,15 @@ fn after_part(reader: Reader, call: Call, have: usize, left: usize, at: usize) -
     in_body(reader, call, have, left, at)
 }
 
-// A newline counts.
-fn counted_byte(n: u64, byte: u8) -> u64
-    ensures { result ≡ cond (eqb byte 10) (counted_of n) n }
-{
-    if byte == b'\n' {
-        return counted(n);
-    }
-    n
-}
-
 // The newlines of a part of a body, counted on from n.
 fn counted_in(n: u64, part: &[u8]) -> u64
     ensures { result ≡ counted_in n part.now }
 {
     let mut count = n;
-    let mut i = 0;
-    while i < part.len() {
-        count = counted_byte(count, part[i]);
-        i += 1;
+    for byte in part {
+        if *byte == b'\n' {
+            count = counted(count);
+        }
     }
     count
 }
@@ -141,13 +131,9 @@ fn counted_in(n: u64, part: &[u8]) -> u64
 fn behind(r: Reader, part: &[u8]) -> Reader
     ensures { result ≡ record { line = r.line; call = r.call; newlines = counted_in r.newlines part.now } }
 {
-    let line = r.line;
-    let call = r.call;
-    let newlines = counted_in(r.newlines, part);
     Reader {
-        line: line,
-        call: call,
-        newlines: newlines,
+        newlines: counted_in(r.newlines, part),
+        ..r
     }
 }
 

@@ -140,12 +140,6 @@ pub fn progress(h: Holds) -> Progress
 {
     match h {
         Holds::Nothing => Progress::Ready,
-        Holds::Op => Progress::More,
-        Holds::Number(_) => Progress::More,
-        Holds::Counter => Progress::More,
-        Holds::Kind => Progress::More,
-        Holds::Value => Progress::More,
-        Holds::Byte => Progress::More,
-        Holds::Party => Progress::More,
+        _ => Progress::More,
     }
 }

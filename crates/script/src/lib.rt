@@ -18,7 +18,7 @@ pub use bodies::{begin_inlet, inlet_ended, take};
 pub use fields::{field_at, field_holds};
 pub use lines::{begin, cut_line, empty_line, ended, feed, kept, kept_read, line_number};
 pub use names::{field_name, is_name, kind_name, op_name};
-pub use reading::{idle, kind_named, read_line, value_of, value_start};
+pub use reading::{idle, kind_named, read_line, value_in, value_of, value_start};
 use styles::Value;
 pub use writing::{
     emit, flushed, hand_over, put_counter, put_field, put_line, put_mark, put_name, put_value,
@@ -157,32 +157,6 @@ pub enum Progress {
 pub struct Read {
     pub call: Call,
     pub progress: Progress,
-}
-
-// An op by its row.
-#[derive(Clone, Copy)]
-pub enum ReadOp {
-    Bad,
-    Row(usize),
-}
-
-#[derive(Clone, Copy)]
-pub enum ReadKind {
-    Bad,
-    Kind(Kind),
-}
-
-#[derive(Clone, Copy)]
-pub enum ReadValue {
-    Bad,
-    Value(Value),
-}
-
-// Where the value of a line starts.
-#[derive(Clone, Copy)]
-pub enum Start {
-    Nowhere,
-    At(usize),
 }
 
 // A line that is being read: its first 65 bytes, which is one more than a line may have.

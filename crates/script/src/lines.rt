@@ -10,7 +10,7 @@ use super::{Call, Cut, Ending, Event, Fed, Holds, Line, Progress, Read, Reader};
 pub fn least(a: usize, b: usize) -> usize
     ensures { result ≡ min a b }
 {
-    if a < b { a } else { b }
+    a.min(b)
 }
 
 pub fn empty_line() -> Line
@@ -40,10 +40,7 @@ pub fn cut_line(bytes: &[u8], from: usize, line: Line) -> Cut
     let stop = from + more;
     let mut text = line.text;
     let n = text::put(&mut text, count, &bytes[from..stop]);
-    let grown = Line {
-        text: text,
-        count: n,
-    };
+    let grown = Line { text, count: n };
     if end < bytes.len() {
         return Cut {
             line: grown,
@@ -71,10 +68,7 @@ pub fn kept_read(call: Call, line: Line) -> Read
 pub fn counted(n: u64) -> u64
     ensures { result ≡ counted_of n }
 {
-    if n < 18446744073709551615 {
-        return n + 1;
-    }
-    n
+    n.saturating_add(1)
 }
 
 fn event(p: Progress) -> Event
@@ -91,11 +85,10 @@ fn event(p: Progress) -> Event
 fn at_line(call: Call, newlines: u64) -> Reader
     ensures { result ≡ reader_at call newlines }
 {
-    let line = empty_line();
     Reader {
-        line: line,
-        call: call,
-        newlines: newlines,
+        line: empty_line(),
+        call,
+        newlines,
     }
 }
 
@@ -142,8 +135,8 @@ pub fn feed(r: Reader, bytes: &[u8], from: usize) -> Fed
     }
     let next = Reader {
         line: grown,
-        call: call,
-        newlines: newlines,
+        call,
+        newlines,
     };
     Fed {
         reader: next,
@@ -164,14 +157,8 @@ fn ending(h: Holds) -> Ending
     ensures { result ≡ ending_by h }
 {
     match h {
-        Holds::Nothing => Ending::Cut,
         Holds::Op => Ending::Clean,
-        Holds::Number(_) => Ending::Cut,
-        Holds::Counter => Ending::Cut,
-        Holds::Kind => Ending::Cut,
-        Holds::Value => Ending::Cut,
-        Holds::Byte => Ending::Cut,
-        Holds::Party => Ending::Cut,
+        _ => Ending::Cut,
     }
 }
 

@@ -10,7 +10,7 @@ ghost use Rattle.script.specs.Reading.{op_named};
 ghost use Rattle.script.specs.Grammar.{spelled_of, spelling, row_at, kind_name};
 
 use super::lines::least;
-use super::{Kind, Name, ReadOp};
+use super::{Kind, Name};
 
 // How many rows there are: one for each op, and one for the time between two groups.
 pub const OPS: usize = 38;
@@ -24,7 +24,7 @@ fn named(word: &[u8]) -> Name
 {
     let mut text = [0u8; 16];
     let n = text::put(&mut text, 0, word);
-    Name { text: text, len: n }
+    Name { text, len: n }
 }
 
 // The name in a cell, up to the first blank.
@@ -32,9 +32,8 @@ fn cell_name(cell: &[u8]) -> Name
     requires { length cell.now ≤ 16 }
     ensures { result ≡ spelling (up_to 32 cell.now) }
 {
-    let from = 0;
-    let to = text::find(cell, from, b' ');
-    named(&cell[from..to])
+    let to = text::find(cell, 0, b' ');
+    named(&cell[..to])
 }
 
 // Does a line begin with a name?
@@ -85,23 +84,20 @@ pub fn op_name(row: usize) -> Name
 }
 
 // The row of the op that a word names, out of the text of all names: the rows are tried in their order.
-fn row_in(all: &[u8], word: &[u8]) -> ReadOp
+fn row_in(all: &[u8], word: &[u8]) -> Option<usize>
     requires { Names all.now }
     ensures { result ≡ op_named word.now }
 {
-    let mut i = 1;
-    while i < OPS {
-        let n = op_name_at(all, i * 16);
-        if is_name(word, n) {
-            return ReadOp::Row(i);
+    for i in 1..OPS {
+        if is_name(word, op_name_at(all, i * 16)) {
+            return Some(i);
         }
-        i += 1;
     }
-    ReadOp::Bad
+    None
 }
 
 // The op that a word names. The text of all names is laid out once, and not for each row that is tried.
-pub fn op_named(word: &[u8]) -> ReadOp
+pub fn op_named(word: &[u8]) -> Option<usize>
     ensures { result ≡ op_named word.now }
 {
     let all =
@@ -113,11 +109,7 @@ pub fn op_named(word: &[u8]) -> ReadOp
 pub fn field_spot(f: u8) -> usize
     ensures { result ≡ min (f - 47) letter_count }
 {
-    let n = f as usize;
-    if n < 47 {
-        return 0;
-    }
-    least(n - 47, LETTERS)
+    least(usize::from(f).saturating_sub(47), LETTERS)
 }
 
 // How a field's line begins.

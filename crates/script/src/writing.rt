@@ -103,7 +103,7 @@ pub fn put_counter(out: &mut [u8], at: usize, cnt: i32) -> usize
     ensures { Puts out.old at (counter_text cnt) 26 result out.new }
 {
     let a = text::put(out, at, b"cnt=");
-    let b = text::put_integer(out, a, text::wide_signed(cnt));
+    let b = text::put_integer(out, a, i64::from(cnt));
     text::put(out, b, b"\n")
 }
 
@@ -112,8 +112,8 @@ fn put_origin(out: &mut [u8], at: usize, m: Mark) -> usize
     requires { at + 106 ≤ length out.old }
     ensures { Puts out.old at (origin_text m) 106 result out.new }
 {
-    let a = put_field(out, at, b"key=", text::wide16(m.key));
-    let b = put_field(out, a, b"lamport=", text::wide32(m.lamport));
+    let a = put_field(out, at, b"key=", u64::from(m.key));
+    let b = put_field(out, a, b"lamport=", u64::from(m.lamport));
     let c = put_field(out, b, b"peer=", m.peer);
     put_counter(out, c, m.cnt)
 }
@@ -124,7 +124,7 @@ pub fn put_mark(out: &mut [u8], at: usize, m: Mark) -> usize
     ensures { Puts out.old at (mark_text m) 183 result out.new }
 {
     let a = put_origin(out, at, m);
-    let b = put_field(out, a, b"flags=", text::wide8(m.flags));
+    let b = put_field(out, a, b"flags=", u64::from(m.flags));
     let v = m.value;
     put_value(out, b, v)
 }

@@ -53,17 +53,15 @@ fn put_place(out: &mut [u8], at: usize, call: Call, place: usize) -> usize
     let f = script::field_at(call.row, place);
     let numbers = call.numbers;
     match script::field_holds(f) {
-        Holds::Number(_) => put_numbered(out, free, script::field_name(f), numbers[place]),
-        Holds::Byte => put_numbered(out, free, script::field_name(f), numbers[place]),
-        Holds::Party => put_numbered(out, free, script::field_name(f), numbers[place]),
+        Holds::Number(_) | Holds::Byte | Holds::Party => {
+            put_numbered(out, free, script::field_name(f), numbers[place])
+        }
         Holds::Counter => script::put_counter(out, free, call.cnt),
         Holds::Kind => {
             let v = call.value;
             script::put_value(out, free, v)
         }
-        Holds::Nothing => free,
-        Holds::Op => free,
-        Holds::Value => free,
+        Holds::Nothing | Holds::Op | Holds::Value => free,
     }
 }
 
@@ -73,10 +71,8 @@ fn put_call(out: &mut [u8], at: usize, call: Call) -> usize
 {
     let free = script::flushed(out, at, 64);
     let mut k = put_named(out, free, b"op=", script::op_name(call.row));
-    let mut i = 0;
-    while i < 16 {
+    for i in 0..16 {
         k = put_place(out, k, call, i);
-        i += 1;
     }
     k
 }
@@ -121,7 +117,7 @@ fn answered(out: &mut [u8], at: usize, f: Fed) -> State
     }
 }
 
-// The bytes of one read, a line to a turn.
+// The bytes of one read, a line to a turn: the reader says where the next one begins.
 fn eat(bytes: &[u8], s: State, out: &mut [u8]) -> State
     requires { 64 ≤ length out.old }
 {
@@ -144,10 +140,7 @@ fn heard(input: Stdin, buf: &mut [u8]) -> usize
     ensures { result ≤ length buf.new }
 {
     let mut from = input;
-    match from.read(buf) {
-        Ok(n) => n,
-        Err(_) => 0,
-    }
+    from.read(buf).unwrap_or(0)
 }
 
 // One read; at the end of the input the run is over.
@@ -190,13 +183,11 @@ fn all(input: Stdin, s: State, out: &mut [u8]) -> State
     requires { 64 ≤ length out.old }
 {
     let mut now = s;
-    let mut turns: u64 = 18446744073709551615;
-    while turns > 0 {
+    for _ in 0..u64::MAX {
         now = turn(input, now, out);
         if now.over {
             return now;
         }
-        turns -= 1;
     }
     now
 }

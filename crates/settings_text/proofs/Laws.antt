@@ -1,4 +1,5 @@
 -- The lines of pairs, one after another, as the code reads them.
+use Rattle.std.specs.Prelude.{Option, Some, None, Result, Ok, Err}
 use mathlib.Core.Path.{◌≡◌, refl, sym, ap, ap₂, ◌∙◌}
 use mathlib.Core.Bool.{Bool, false}
 use mathlib.Core.List.{List, [], ◌∷◌, ◌++◌, append_assoc, append-nil}
@@ -7,16 +8,14 @@ use native.Mathlib.Omega.{arith}
 use native.Mathlib.Numerals.{add-one}
 use lib.ListN.{length, drop, take, set, length-set, drop_of_length-le}
 use lib.Seq.{take-suc-set, take_all, drop-cons}
-use Rattle.text_lines.specs.declared.Taken.{Taken}
 use Rattle.text_lines.specs.Lines.{Got, bad, got, then, ended, number_line, decimal_from, taken_by, got_by}
 use Rattle.text_lines.proofs.Laws.{taken_is, taken_inside}
 use Rattle.tanks.specs.declared.Setting.{Setting}
-use Rattle.settings_text.specs.declared.Pair.{Pair}
 use Rattle.settings_text.specs.declared.Pairs.{Pairs}
 use Rattle.settings_text.specs.Text.{share_name, limit_name, version_name, least_limit, pair_lines, ahead, pairs_lines, settings_of, reading_of, no_settings, got_pair, got_pairs, ReadsPair, ReadsPairs}
 
 -- a line that the code has read is the one that the text has there
-pub line_of : (name : List ℕ) (least most : ℕ) (text : List ℕ) (from n : ℕ) (r : Taken) → r ≡ taken_by name (decimal_from least most) text from → number_line name least most n (drop from text) ≡ got_by text n r
+pub line_of : (name : List ℕ) (least most : ℕ) (text : List ℕ) (from n : ℕ) (r : Option (ℕ × ℕ)) → r ≡ taken_by name (decimal_from least most) text from → number_line name least most n (drop from text) ≡ got_by text n r
 line_of name least most text from n r e = sym (taken_is name (decimal_from least most) text from n) ∙ ap (got_by text n) (sym e)
 
 -- ---- One pair
@@ -24,31 +23,31 @@ module _ (ordered : Bool) (text : List ℕ) (from t n : ℕ) where
   more : ℕ → ℕ → List ℕ → Got Setting
   more s m x = then (number_line (limit_name t) (least_limit ordered s) 512 m x) λ l m x. got (record { share = s; limit = l }) m x
 
-  share_read : (r : Taken) → r ≡ taken_by (share_name t) (decimal_from 1 512) text from → pair_lines ordered t n (drop from text) ≡ then (got_by text n r) more
+  share_read : (r : Option (ℕ × ℕ)) → r ≡ taken_by (share_name t) (decimal_from 1 512) text from → pair_lines ordered t n (drop from text) ≡ then (got_by text n r) more
   unfolding pair_lines more
   share_read r e = ap (λ (g : Got ℕ). then g more) (line_of (share_name t) 1 512 text from n r e)
 
-  pub share_wrong : Taken.Bad ≡ taken_by (share_name t) (decimal_from 1 512) text from → ReadsPair ordered text from t n (Pair.Bad (n + 1))
-  share_wrong e = record { is = sym (share_read Taken.Bad e); inside = omega arith; counted = omega arith }
+  pub share_wrong : None ≡ taken_by (share_name t) (decimal_from 1 512) text from → ReadsPair ordered text from t n (Err (n + 1))
+  share_wrong e = record { is = sym (share_read None e); inside = omega arith; counted = omega arith }
 
-  module _ (s next : ℕ) (e : Taken.Number s next ≡ taken_by (share_name t) (decimal_from 1 512) text from) where
-    limit_read : (r : Taken) → r ≡ taken_by (limit_name t) (decimal_from (least_limit ordered s) 512) text next
+  module _ (s next : ℕ) (e : Some (s, next) ≡ taken_by (share_name t) (decimal_from 1 512) text from) where
+    limit_read : (r : Option (ℕ × ℕ)) → r ≡ taken_by (limit_name t) (decimal_from (least_limit ordered s) 512) text next
         → pair_lines ordered t n (drop from text) ≡ then (got_by text (n + 1) r) λ l m x. got (record { share = s; limit = l }) m x
     unfolding more
     limit_read r f =
-        share_read (Taken.Number s next) e
+        share_read (Some (s, next)) e
         ∙ ap (λ (g : Got ℕ). then g λ l m x. got (record { share = s; limit = l }) m x) (line_of (limit_name t) (least_limit ordered s) 512 text next (n + 1) r f)
 
-    pub limit_wrong : Taken.Bad ≡ taken_by (limit_name t) (decimal_from (least_limit ordered s) 512) text next → ReadsPair ordered text from t n (Pair.Bad (n + 2))
+    pub limit_wrong : None ≡ taken_by (limit_name t) (decimal_from (least_limit ordered s) 512) text next → ReadsPair ordered text from t n (Err (n + 2))
     limit_wrong f =
         let k : n + 2 ≡ n + 1 + 1 = omega arith in
-        record { is = ap bad k ∙ sym (limit_read Taken.Bad f); inside = omega arith; counted = omega arith }
+        record { is = ap bad k ∙ sym (limit_read None f); inside = omega arith; counted = omega arith }
 
-    pub both_read : (l last : ℕ) → Taken.Number l last ≡ taken_by (limit_name t) (decimal_from (least_limit ordered s) 512) text next → ReadsPair ordered text from t n (Pair.Pair s l last)
+    pub both_read : (l last : ℕ) → Some (l, last) ≡ taken_by (limit_name t) (decimal_from (least_limit ordered s) 512) text next → ReadsPair ordered text from t n (Ok (s, l, last))
     both_read l last f =
         let k : n + 2 ≡ n + 1 + 1 = omega arith in
         record {
-          is = ap (λ (m : ℕ). got (record { share = s; limit = l }) m (drop last text)) k ∙ sym (limit_read (Taken.Number l last) f);
+          is = ap (λ (m : ℕ). got (record { share = s; limit = l }) m (drop last text)) k ∙ sym (limit_read (Some (l, last)) f);
           inside = taken_inside (limit_name t) (decimal_from (least_limit ordered s) 512) text next l last (sym f);
           counted = omega arith;
         }
@@ -91,14 +90,14 @@ module _ (ordered : Bool) (text : List ℕ) (from n : ℕ) (settings : List Sett
       let k : 8 - t ≡ suc (8 - suc t) = omega arith in
       u.is ∙ ap (λ (j : ℕ). ahead (take t settings) (pairs_lines ordered t j (n + 2 * t) (drop at text))) k
 
-  after_pair : (r : Pair) → ReadsPair ordered text at t (n + 2 * t) r
+  after_pair : (r : Result (ℕ × ℕ × ℕ) ℕ) → ReadsPair ordered text at t (n + 2 * t) r
       → pairs_lines ordered 0 8 n (drop from text) ≡ ahead (take t settings) (then (got_pair text (n + 2 * t) r) λ s m x. ahead (s ∷ []) (pairs_lines ordered (suc t) (8 - suc t) m x))
   after_pair r p = next_pair ∙ ap (λ (g : Got Setting). ahead (take t settings) (then g λ s m x. ahead (s ∷ []) (pairs_lines ordered (suc t) (8 - suc t) m x))) (sym p.is)
 
-  pub pair_wrong : (line : ℕ) → ReadsPair ordered text at t (n + 2 * t) (Pair.Bad line) → ReadsPairs ordered text from n (record { line = line; at = 0; settings = no_settings })
-  pair_wrong line p = record { is = pairs_bad text (n + 16) (record { line = line; at = 0; settings = no_settings }) line p.counted ∙ sym (after_pair (Pair.Bad line) p); inside = omega arith }
+  pub pair_wrong : (line : ℕ) → ReadsPair ordered text at t (n + 2 * t) (Err line) → ReadsPairs ordered text from n (record { line = line; at = 0; settings = no_settings })
+  pair_wrong line p = record { is = pairs_bad text (n + 16) (record { line = line; at = 0; settings = no_settings }) line p.counted ∙ sym (after_pair (Err line) p); inside = omega arith }
 
-  pub pair_read : (s l next : ℕ) → ReadsPair ordered text at t (n + 2 * t) (Pair.Pair s l next) → Underway ordered text from n (set settings t (record { share = s; limit = l })) next (t + 1)
+  pub pair_read : (s l next : ℕ) → ReadsPair ordered text at t (n + 2 * t) (Ok (s, l, next)) → Underway ordered text from n (set settings t (record { share = s; limit = l })) next (t + 1)
   pair_read s l next p =
       let new : Setting = record { share = s; limit = l } in
       let k : n + 2 * t + 2 ≡ n + 2 * (t + 1) = omega arith in
@@ -106,7 +105,7 @@ module _ (ordered : Bool) (text : List ℕ) (from n : ℕ) (settings : List Sett
         few = omega arith;
         eight = length-set settings t new ∙ u.eight;
         inside = p.inside;
-        is = after_pair (Pair.Pair s l next) p
+        is = after_pair (Ok (s, l, next)) p
             ∙ ahead_ahead (take t settings) (new ∷ []) (pairs_lines ordered (suc t) (8 - suc t) (n + 2 * t + 2) (drop next text))
             ∙ rw (add-one t) (ap₂ (λ (xs : List Setting) (m : ℕ). ahead xs (pairs_lines ordered (suc t) (8 - suc t) m (drop next text))) (sym (take-suc-set settings t new (omega (arith, u.eight)))) (rw (add-one t) at k));
       }
@@ -129,19 +128,19 @@ module _ (text : List ℕ) where
   rest : ℕ → ℕ → List ℕ → Got (List Setting)
   rest v n x = then (pairs_lines false 0 8 n x) λ st n x. ended st n x
 
-  first_line_lem : (r : Taken) → r ≡ taken_by version_name (decimal_from 1 1) text 0 → settings_of text ≡ then (got_by text 0 r) rest
+  first_line_lem : (r : Option (ℕ × ℕ)) → r ≡ taken_by version_name (decimal_from 1 1) text 0 → settings_of text ≡ then (got_by text 0 r) rest
   unfolding settings_of rest
   first_line_lem r e = ap (λ (g : Got ℕ). then g rest) (line_of version_name 1 1 text 0 0 r e)
 
-  pub version_wrong : Taken.Bad ≡ taken_by version_name (decimal_from 1 1) text 0 → record { number = 12; line = 1; settings = no_settings } ≡ reading_of (settings_of text)
+  pub version_wrong : None ≡ taken_by version_name (decimal_from 1 1) text 0 → record { number = 12; line = 1; settings = no_settings } ≡ reading_of (settings_of text)
   unfolding reading_of
-  version_wrong e = ap reading_of (sym (first_line_lem Taken.Bad e))
+  version_wrong e = ap reading_of (sym (first_line_lem None e))
 
-  module _ (v start : ℕ) (e : Taken.Number v start ≡ taken_by version_name (decimal_from 1 1) text 0) (p : Pairs) (r : ReadsPairs false text start 1 p) where
+  module _ (v start : ℕ) (e : Some (v, start) ≡ taken_by version_name (decimal_from 1 1) text 0) (p : Pairs) (r : ReadsPairs false text start 1 p) where
     pairs_line : (k : ℕ) → p.line ≡ k → settings_of text ≡ then (got_pairs text 17 p k) λ st n x. ended st n x
     unfolding rest
     pairs_line k h =
-        first_line_lem (Taken.Number v start) e
+        first_line_lem (Some (v, start)) e
         ∙ ap (λ (g : Got (List Setting)). then g λ st n x. ended st n x) (sym r.is ∙ ap (got_pairs text 17 p) h)
 
     pub pairs_wrong : 0 < p.line → record { number = 12; line = p.line; settings = no_settings } ≡ reading_of (settings_of text)

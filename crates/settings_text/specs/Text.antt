@@ -1,11 +1,10 @@
 -- Settings as a text: `version=1`, then share and limit of tank 0 to tank 7, a line each. What the text of eight pairs is, what a text says, and
 -- which of its lines is the first that is wrong.
-use Rattle.std.specs.Prelude.{◌≡◌, Bool, false, cond, List, [], ◌∷◌, ◌++◌, ℕ, zero, suc, ◌+◌, ◌≤◌, length, drop, replicate}
+use Rattle.std.specs.Prelude.{◌≡◌, Bool, false, cond, List, [], ◌∷◌, ◌++◌, ℕ, zero, suc, ◌+◌, ◌≤◌, length, drop, replicate, Result, Ok, Err}
 use Rattle.text.specs.Bytes.{bytes}
 use Rattle.text_lines.specs.Lines.{Got, bad, got, then, ended, number_line, number_text}
 use Rattle.tanks.specs.declared.Setting.{Setting}
 use Rattle.tanks.specs.Settings.{no_setting}
-use Rattle.settings_text.specs.declared.Pair.{Pair}
 use Rattle.settings_text.specs.declared.Pairs.{Pairs}
 use Rattle.settings_text.specs.declared.Reading.{Reading}
 
@@ -90,22 +89,22 @@ reading_of (bad n) = record { number = 12; line = n; settings = no_settings }
 reading_of (got st n text) = record { number = 0; line = 0; settings = st }
 
 -- the two lines of a pair, as the code says them
-abbrev pub got_pair : List ℕ → ℕ → Pair → Got Setting
-got_pair text n (Pair.Bad line) = bad line
-got_pair text n (Pair.Pair s l at) = got (record { share = s; limit = l }) (n + 2) (drop at text)
+abbrev pub got_pair : List ℕ → ℕ → Result (ℕ × ℕ × ℕ) ℕ → Got Setting
+got_pair text n (Err line) = bad line
+got_pair text n (Ok (s, l, at)) = got (record { share = s; limit = l }) (n + 2) (drop at text)
 
 -- where a pair's lines end
-abbrev pub behind_pair : Pair → ℕ
-behind_pair (Pair.Bad line) = 0
-behind_pair (Pair.Pair s l at) = at
+abbrev pub behind_pair : Result (ℕ × ℕ × ℕ) ℕ → ℕ
+behind_pair (Err line) = 0
+behind_pair (Ok (s, l, at)) = at
 
 -- the line that is wrong, and 1 where none is
-abbrev pub wrong_in : Pair → ℕ
-wrong_in (Pair.Bad line) = line
-wrong_in (Pair.Pair s l at) = 1
+abbrev pub wrong_in : Result (ℕ × ℕ × ℕ) ℕ → ℕ
+wrong_in (Err line) = line
+wrong_in (Ok (s, l, at)) = 1
 
 -- a pair read from a place of a text on; lines count from 1
-pub record ReadsPair (ordered : Bool) (text : List ℕ) (from t n : ℕ) (r : Pair) : Type 0 where
+pub record ReadsPair (ordered : Bool) (text : List ℕ) (from t n : ℕ) (r : Result (ℕ × ℕ × ℕ) ℕ) : Type 0 where
   pub is : got_pair text n r ≡ pair_lines ordered t n (drop from text)
   pub inside : behind_pair r ≤ length text
   pub counted : 1 ≤ wrong_in r

@@ -6,14 +6,6 @@ ghost use Rattle.settings_text.specs.Text.{share_name, limit_name, least_limit, 
 ghost use Rattle.settings_text.specs.Kept.{kept_none, taken_of, asked_of, Sound};
 
 use tanks::Setting;
-use text_lines::Taken as Line;
-
-// A pair that was read with the place behind its lines, or the number of the line that is wrong.
-#[derive(Clone, Copy)]
-enum Pair {
-    Bad(u64),
-    Pair(u64, u64, usize),
-}
 
 // Eight pairs that were read, and the place behind their lines; or the number of the line that is wrong.
 #[derive(Clone, Copy)]
@@ -82,32 +74,33 @@ fn least_limit(ordered: bool, share: u64) -> u64
 }
 
 // The two lines of tank t's pair, behind n lines.
-fn pair_lines(ordered: bool, bytes: &[u8], from: usize, t: usize, n: u64) -> Pair
+fn pair_lines(
+    ordered: bool,
+    bytes: &[u8],
+    from: usize,
+    t: usize,
+    n: u64,
+) -> Result<(u64, u64, usize), u64>
     requires { (t < 8) × (n < 512) × (from ≤ length bytes.now) }
     ensures { ReadsPair ordered bytes.now from t n result }
 {
     let share = share_name(t);
-    let Line::Number(s, next) = text_lines::number(bytes, from, &share, 1, 512) else {
-        return Pair::Bad(n + 1);
+    let Some((s, next)) = text_lines::number(bytes, from, &share, 1, 512) else {
+        return Err(n + 1);
     };
     let limit = limit_name(t);
-    let Line::Number(l, last) = text_lines::number(
-        bytes,
-        next,
-        &limit,
-        least_limit(ordered, s),
-        512,
-    ) else {
-        return Pair::Bad(n + 2);
+    let Some((l, last)) = text_lines::number(bytes, next, &limit, least_limit(ordered, s), 512)
+    else {
+        return Err(n + 2);
     };
-    Pair::Pair(s, l, last)
+    Ok((s, l, last))
 }
 
 fn wrong_pairs(line: u64) -> Pairs
     ensures { result ≡ record { line = line; at = 0; settings = no_settings } }
 {
     Pairs {
-        line: line,
+        line,
         at: 0,
         settings: [Setting { share: 0, limit: 0 }; 8],
     }
@@ -120,24 +113,19 @@ pub fn pairs_lines(ordered: bool, bytes: &[u8], from: usize, n: u64) -> Pairs
 {
     let mut settings = [Setting { share: 0, limit: 0 }; 8];
     let mut at = from;
-    let mut t = 0;
-    while t < 8 {
-        let p = pair_lines(ordered, bytes, at, t, n + 2 * text::wide(t));
-        match p {
-            Pair::Bad(line) => {
-                return wrong_pairs(line);
-            }
-            Pair::Pair(s, l, next) => {
-                settings[t] = Setting { share: s, limit: l };
+    for t in 0..8 {
+        match pair_lines(ordered, bytes, at, t, n + 2 * text::wide(t)) {
+            Err(line) => return wrong_pairs(line),
+            Ok((share, limit, next)) => {
+                settings[t] = Setting { share, limit };
                 at = next;
-                t += 1;
             }
         }
     }
     Pairs {
         line: 0,
-        at: at,
-        settings: settings,
+        at,
+        settings,
     }
 }
 
@@ -146,7 +134,7 @@ fn wrong(line: u64) -> Reading
 {
     Reading {
         number: 12,
-        line: line,
+        line,
         settings: [Setting { share: 0, limit: 0 }; 8],
     }
 }
@@ -155,7 +143,7 @@ fn wrong(line: u64) -> Reading
 pub fn read(bytes: &[u8]) -> Reading
     ensures { result ≡ reading_of (settings_of bytes.now) }
 {
-    let Line::Number(_, start) = text_lines::number(bytes, 0, b"version=", 1, 1) else {
+    let Some((_, start)) = text_lines::number(bytes, 0, b"version=", 1, 1) else {
         return wrong(1);
     };
     let p = pairs_lines(false, bytes, start, 1);
@@ -169,7 +157,7 @@ pub fn read(bytes: &[u8]) -> Reading
     Reading {
         number: 0,
         line: 0,
-        settings: settings,
+        settings,
     }
 }
 
@@ -227,7 +215,7 @@ impl Kept {
         requires { Sound self }
         ensures { result ≡ asked_of self n }
     {
-        let last = text::wide32(self.number);
+        let last = u64::from(self.number);
         if n < 1 {
             return nothing();
         }
@@ -240,7 +228,7 @@ impl Kept {
             let settings = set.settings;
             return Asked {
                 found: true,
-                settings: settings,
+                settings,
             };
         }
         nothing()

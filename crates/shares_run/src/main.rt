@@ -4,8 +4,9 @@
 ghost use Rattle.std.specs.Prelude.{◌≤◌};
 ghost use Rattle.tanks.specs.Pool.{Sound};
 
+use refusal::Refusal;
 use styles::{Identity, Mark, Party, Value};
-use tanks::{Count, Edited, Setting, Tanks};
+use tanks::{Count, Edit, Setting, Tanks};
 
 // The long run: calls by the number they got, how often the sum was 512 after a call, and how often something was amiss.
 #[derive(Clone, Copy)]
@@ -24,13 +25,27 @@ struct Run {
 
 fn mark(key: u16) -> Mark {
     Mark {
-        key: key,
+        key,
         flags: 0x84,
         party: Party::Plant,
         lamport: 5,
         cnt: 0,
         peer: 1,
         value: Value::Flag(true),
+    }
+}
+
+// What a call comes to: 0 or the refusal's number, and the tanks after it.
+#[derive(Clone, Copy)]
+struct Edited {
+    number: u64,
+    tanks: Tanks,
+}
+
+fn number_in(answer: Result<(), Refusal>) -> u64 {
+    match answer {
+        Ok(()) => 0,
+        Err(refusal) => refusal.number(),
     }
 }
 
@@ -57,8 +72,7 @@ fn claim(s: Tanks, t: u64) -> u64
     requires { Sound s }
     ensures { result ≤ 1000 }
 {
-    let n = runs(s, t);
-    if n < 40 { 40 } else { n }
+    runs(s, t).max(40)
 }
 
 fn four(s: Tanks, t: u64) -> u64
@@ -89,11 +103,8 @@ fn filled(s: Tanks, tank: u64, start: u64, n: u64) -> Tanks
     ensures { Sound result }
 {
     let mut u = s;
-    let mut i = 0;
-    while i < n {
-        let e = u.annotate(tank, start + 20 * i, start + 20 * i + 10, mark(1));
-        u = e.tanks;
-        i += 1;
+    for i in 0..n {
+        let _done = u.annotate(tank, start + 20 * i, start + 20 * i + 10, mark(1));
     }
     u
 }
@@ -118,7 +129,12 @@ fn one_more(s: Tanks, tank: u64) -> Edited
     requires { Sound s }
     ensures { Sound result.tanks }
 {
-    s.annotate(tank, 4611686018427387893, 4611686018427387903, mark(1))
+    let mut tanks = s;
+    let done = tanks.annotate(tank, 4611686018427387893, 4611686018427387903, mark(1));
+    Edited {
+        number: number_in(done),
+        tanks: tanks,
+    }
 }
 
 fn show_runs(s: Tanks)
@@ -145,13 +161,11 @@ fn part(x: u64, n: u64) -> u64
 }
 
 fn key_of(n: u64) -> u16 {
-    if n < 4 {
-        return 1;
+    match n {
+        0..=3 => 1,
+        4..=5 => 2,
+        _ => 3,
     }
-    if n < 6 {
-        return 2;
-    }
-    3
 }
 
 fn more(n: u64) -> u64 {
@@ -164,34 +178,28 @@ fn called(s: Tanks, kind: u64, tank: u64, at: u64, n: u64, key: u16) -> Edited
     requires at_bound { (at ≤ 10000) × (n ≤ 100) }
     ensures { Sound result.tanks }
 {
-    if kind < 4 {
-        return s.annotate(tank, at, at + n, mark(key));
-    }
-    if kind < 5 {
-        return s.delete(tank, Party::Plant, at, at + n);
-    }
-    if kind < 6 {
-        let i = s.insert(tank, Party::Plant, at, n);
-        let t = i.tanks;
-        return Edited {
-            number: i.number,
-            tanks: t,
-        };
-    }
-    let r = s.remove_style_scanning_backward(
-        tank,
-        Identity {
-            party: Party::Plant,
-            key: key,
-            lamport: 5,
-            peer: 1,
-        },
-        at,
-    );
-    let t = r.tanks;
+    let call = match kind {
+        0..=3 => Edit::Annotate(at, at + n, mark(key)),
+        4 => Edit::Delete(Party::Plant, at, at + n),
+        5 => Edit::Insert(Party::Plant, at, n),
+        _ => Edit::Remove(
+            Identity {
+                party: Party::Plant,
+                key,
+                lamport: 5,
+                peer: 1,
+            },
+            at,
+        ),
+    };
+    let mut tanks = s;
+    let number = match tanks.apply(tank, call) {
+        Ok(_) => 0,
+        Err(refusal) => refusal.number(),
+    };
     Edited {
-        number: r.number,
-        tanks: t,
+        number: number,
+        tanks: tanks,
     }
 }
 
@@ -276,10 +284,8 @@ fn long_run(s: Tanks, turns: u64) -> Run
         },
         seed: 1,
     };
-    let mut i = 0;
-    while i < turns {
+    for _ in 0..turns {
         r = turn(r);
-        i += 1;
     }
     r
 }

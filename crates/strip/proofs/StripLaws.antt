@@ -5,7 +5,7 @@ use mathlib.Core.Bool.{Bool, true, false, cond}
 use mathlib.Core.List.{List, ◌∷◌, ◌++◌, append-nil}
 use native.Mathlib.Omega.{arith}
 use lib.Dec.{ltb, leb, eqb}
-use lib.ListN.{length, get_or, drop, set, length-set, drop_of_length-le}
+use lib.ListN.{length, get_or, drop, drop_of_length-le}
 use borrow.Author.Tests.{le-leb, lt-leb, lt-ltb, le-ltb, eq-eqb, ne_eqb}
 use Rattle.laws.proofs.Lists.{stored}
 use Rattle.runs.specs.Positions.{seek_from}
@@ -63,29 +63,10 @@ cells_are v keys letters start k =
     ap (letter_of letters) (at_from (window_at v keys start k) 0 96 i (omega arith) ∙ ap (window_at v keys start k) z)
     ∙ letter_is v keys letters (start + i * k) (start + suc i * k))
 
--- ---- a turn of the spelling: i cells stand at the front of the buffer
-pub record Spelt (f : ℕ → ℕ) (first out : List ℕ) (i : ℕ) : Type 0 where
-  pub few : i ≤ 96
-  pub room : length out ≡ length first
-  pub is : out ≡ stored f first i
-
-pub spelt_none : (f : ℕ → ℕ) (first : List ℕ) → Spelt f first first 0
-spelt_none f first = record { few = omega arith; room = refl; is = refl }
-
-pub spelt_on : {f : ℕ → ℕ} {first out : List ℕ} {i x : ℕ} → Spelt f first out i → i < 96 → x ≡ f i → Spelt f first (set out i x) (i + 1)
-spelt_on {f} {first} {out} {i} {x} inv h e =
-    let s : suc i ≡ i + 1 = omega arith in
-    record {
-      few = omega arith;
-      room = length-set out i x ∙ inv.room;
-      is = ap₂ (λ (xs : List ℕ) (y : ℕ). set xs i y) inv.is e ∙ ap (stored f first) s;
-    }
-
-pub spelt_all : {f : ℕ → ℕ} {first out : List ℕ} {i : ℕ} → Spelt f first out i → 96 ≤ i → 96 ≤ length first → out ≡ in_front (list_from f 0 96) first
-spelt_all {f} {first} {out} {i} inv h r =
-    let w = inv.few in
-    let e : i ≡ 96 = omega arith in
-    inv.is ∙ ap (stored f first) e ∙ stored_front f first 96 r ∙ ap (λ (n : ℕ). list_from f 0 96 ++ drop n first) (sym (length_from f 0 96))
+-- ---- the spelling: all cells stand at the front of the buffer
+pub spelt_all : (f : ℕ → ℕ) (first out : List ℕ) (i : ℕ) → out ≡ stored f first i → i ≡ 96 → 96 ≤ length first → out ≡ in_front (list_from f 0 96) first
+spelt_all f first out i is e r =
+    is ∙ ap (stored f first) e ∙ stored_front f first 96 r ∙ ap (λ (n : ℕ). list_from f 0 96 ++ drop n first) (sym (length_from f 0 96))
 
 -- ---- the number
 module _ (t k room : ℕ) where

@@ -15,7 +15,7 @@ pub fn digits() -> Legend
 {
     Legend {
         keys: [0, 1, 2, 3, 4, 5, 6, 7],
-        letters: [48, 49, 50, 51, 52, 53, 54, 55],
+        letters: [b'0', b'1', b'2', b'3', b'4', b'5', b'6', b'7'],
     }
 }
 
@@ -28,8 +28,5 @@ pub fn with_letter(legend: Legend, place: u64, key: u16, letter: u8) -> Legend
     let i = (place % 8) as usize;
     keys[i] = key;
     letters[i] = letter;
-    Legend {
-        keys: keys,
-        letters: letters,
-    }
+    Legend { keys, letters }
 }

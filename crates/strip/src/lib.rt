@@ -25,7 +25,7 @@ fn letter(letters: [u8; 8], first: u64) -> u8
     if first < 8 {
         return letters[first as usize];
     }
-    46
+    b'.'
 }
 
 // A letter for each cell, by the place of the first key that shows a value there, in the first 96 bytes of `out`.
@@ -33,10 +33,8 @@ fn spell(firsts: &[u64; 96], letters: [u8; 8], out: &mut [u8])
     requires { 96 ≤ length out.old }
     ensures { out.new ≡ in_front (letters_of letters firsts.now) out.old }
 {
-    let mut i = 0;
-    while i < 96 {
+    for i in 0..96 {
         out[i] = letter(letters, firsts[i]);
-        i += 1;
     }
 }
 

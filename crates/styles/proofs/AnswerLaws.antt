@@ -1,8 +1,7 @@
 -- A set as an answer: it tells the marks and their order, and a rank finds each of them.
-use Rattle.std.proofs.Common.{◌≡◌, ℕ, zero, suc, ◌+◌, ◌-◌, ◌<◌, ◌≤◌, List, [], ◌∷◌, ◌++◌, length, get_or, take, drop, set, replicate, sym, refl, ap, ◌∙◌, add-one, arith, take_all, drop-cons, take_at}
+use Rattle.std.proofs.Common.{◌≡◌, ℕ, zero, suc, ◌+◌, ◌-◌, ◌<◌, ◌≤◌, List, [], ◌∷◌, ◌++◌, length, get_or, None, Some, take, drop, set, replicate, sym, refl, ap, ◌∙◌, add-one, arith, take_all, drop-cons, take_at}
 use Rattle.laws.proofs.Lists.{filled_step}
 use Rattle.styles.specs.declared.Mark.{Mark}
-use Rattle.styles.specs.declared.Ranked.TheVariants.{Nothing, Found}
 use Rattle.styles.specs.declared.Styles.{Styles}
 use Rattle.styles.specs.Marks.{blank}
 use Rattle.styles.specs.Answers.{styles_of, rank_of}
@@ -17,13 +16,13 @@ styles_inj a b e =
     ∙ take_at b (replicate (64 - length b) blank) (length a) (sym n)
 
 -- ---- by rank
-pub rank_here : (l : List Mark) (j : ℕ) (d : Mark) → j < length l → rank_of l j ≡ Found (get_or l j d)
+pub rank_here : (l : List Mark) (j : ℕ) (d : Mark) → j < length l → rank_of l j ≡ Some (get_or l j d)
 unfolding rank_of
 rank_here [] j d h = absurd (omega arith)
 rank_here (m ∷ ms) zero d h = refl
 rank_here (m ∷ ms) (suc j) d h = rank_here ms j d (omega arith)
 
-pub rank_past : (l : List Mark) (j : ℕ) → length l ≤ j → rank_of l j ≡ Nothing
+pub rank_past : (l : List Mark) (j : ℕ) → length l ≤ j → rank_of l j ≡ None
 unfolding rank_of
 rank_past [] j h = refl
 rank_past (m ∷ ms) zero h = absurd (omega arith)

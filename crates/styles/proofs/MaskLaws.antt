@@ -1,5 +1,5 @@
 -- A question on marks as a mask over the table: one pass over the table, and then numbers alone.
-use Rattle.std.proofs.Common.{◌≡◌, ℕ, zero, suc, ◌+◌, ◌-◌, ◌*◌, ◌/◌, ◌%◌, ◌^◌, ◌<◌, ◌≤◌, min, Bool, true, false, cond, ◌||◌, eqb, ltb, List, [], ◌∷◌, ◌++◌, length, get_or, take, drop, sym, refl, ap, ◌∙◌, subst, pow-suc, div-one, add-one, arith, length-drop, drop_of_length-le, length-take, drop-cons, get_or-take, pow_pos, pow_mono, le-ltb, lt-ltb, eq-eqb, ne_eqb, eqb-true}
+use Rattle.std.proofs.Common.{◌≡◌, ℕ, zero, suc, ◌+◌, ◌-◌, ◌*◌, ◌/◌, ◌%◌, ◌^◌, ◌<◌, ◌≤◌, min, Bool, true, false, cond, ◌||◌, eqb, ltb, List, [], ◌∷◌, ◌++◌, length, get_or, Option, None, Some, take, drop, sym, refl, ap, ◌∙◌, subst, pow-suc, div-one, add-one, arith, length-drop, drop_of_length-le, length-take, drop-cons, get_or-take, pow_pos, pow_mono, le-ltb, lt-ltb, eq-eqb, ne_eqb, eqb-true}
 use native.Mathlib.Nat.{zero-min, min-zero, div-eq_of_lt-le}
 use native.Mathlib.Decide.{dec_lt, ℕ_discrete}
 use lib.Bits.{bit_and, and_step, and_le_r}
@@ -7,8 +7,6 @@ use lib.Count.{leading_top}
 use Rattle.styles.specs.declared.Identity.{Identity}
 use Rattle.styles.specs.declared.Mark.{Mark}
 use Rattle.styles.specs.declared.Value.{Value}
-use Rattle.styles.specs.declared.Winner.{Winner}
-use Rattle.styles.specs.declared.Winner.TheVariants.{Nothing, Shows}
 use Rattle.styles.specs.Order.{id_of}
 use Rattle.styles.specs.Marks.{Above, Sorted, member, only, key_is, value_is, has_key, better, winner, shown_by, shows_value, blank}
 use Rattle.styles.specs.Bits.{keep_bit, pick, has_bit, MaskOf, top_in}
@@ -89,7 +87,7 @@ pub mask_is : (f : Mark → Bool) (t : List Mark) → MaskOf f t (mask_of f t)
 mask_is f t = record { bits = λ i h. mask_digit f t i blank h; past = mask_less f t }
 
 -- ---- a key is there, and its winner, by the mask of the key
-winner_skip : (k : ℕ) (a : Bool) (m : Mark) (l : List Mark) (w : Winner) → key_is k m ≡ a → winner k l ≡ w → cond a (better m w) w ≡ winner k (cond a (m ∷ l) l)
+winner_skip : (k : ℕ) (a : Bool) (m : Mark) (l : List Mark) (w : Option Mark) → key_is k m ≡ a → winner k l ≡ w → cond a (better m w) w ≡ winner k (cond a (m ∷ l) l)
 unfolding winner
 winner_skip k true m l w e h = rw (e, h)
 winner_skip k false m l w e h = sym h
@@ -128,12 +126,12 @@ module _ (t : List Mark) (s key : ℕ) (d : Mark) (sorted : Sorted t) where
   unfolding keyed
   picks = winner_only key (pick t s) ∙ ap (winner key) (sym (pick_mask (key_is key) t s))
 
-  pub no_winner : bit_and s (mask_of (key_is key) t) ≡ 0 → winner key (pick t s) ≡ Nothing
+  pub no_winner : bit_and s (mask_of (key_is key) t) ≡ 0 → winner key (pick t s) ≡ None
   unfolding keyed winner
   no_winner e = picks ∙ ap (λ (x : ℕ). winner key (pick t x)) e ∙ ap (winner key) (pick_none t)
 
   -- the highest bit of the set with the key is the winner
-  pub top_winner : (j : ℕ) → 2 ^ j ≤ bit_and s (mask_of (key_is key) t) → bit_and s (mask_of (key_is key) t) < 2 ^ suc j → winner key (pick t s) ≡ Shows (get_or t j d)
+  pub top_winner : (j : ℕ) → 2 ^ j ≤ bit_and s (mask_of (key_is key) t) → bit_and s (mask_of (key_is key) t) < 2 ^ suc j → winner key (pick t s) ≡ Some (get_or t j d)
   unfolding keyed
   top_winner j h k =
       let low : 2 ^ j < 2 ^ length t = omega (arith, and_le_r s (mask_of (key_is key) t), mask_less (key_is key) t) in

@@ -1,5 +1,5 @@
 -- The operations on sets are what their names say: they keep sets sorted, carry what they should, and the winner is the greatest.
-use Rattle.std.proofs.Common.{◌≡◌, ℕ, zero, suc, ◌-◌, ◌^◌, ◌<◌, Bool, true, false, not, ◌&&◌, ◌||◌, eqb, List, [], ◌∷◌, length, get_or, sym, refl, ap, ◌∙◌, subst, true≢false, arith, eqb-true}
+use Rattle.std.proofs.Common.{◌≡◌, ℕ, zero, suc, ◌-◌, ◌^◌, ◌<◌, Bool, true, false, not, ◌&&◌, ◌||◌, eqb, List, [], ◌∷◌, length, get_or, Option, None, Some, sym, refl, ap, ◌∙◌, subst, true≢false, arith, eqb-true}
 use mathlib.Core.Bool.{false≢true, and-false, or_assoc, or_comm, or_self_left}
 use borrow.Author.Tests.{eqb-false}
 use Rattle.laws.proofs.Cases.{cond_cases}
@@ -7,8 +7,6 @@ use Rattle.styles.specs.declared.Identity.{Identity}
 use Rattle.styles.specs.declared.Mark.{Mark}
 use Rattle.styles.specs.declared.Stand.{Stand}
 use Rattle.styles.specs.declared.Stand.TheVariants.{Before, Same, After}
-use Rattle.styles.specs.declared.Winner.{Winner}
-use Rattle.styles.specs.declared.Winner.TheVariants.{Nothing, Shows}
 use Rattle.styles.specs.Order.{stands, id_of, is_before, is_same, less, same_id}
 use Rattle.styles.specs.Marks.{Above, Sorted, member, insert_step, insert_mark, either_of, only, remove_mark, common, later, better, winner}
 use Rattle.styles.proofs.OrderLaws.{is_before_of, is_same_of, less_trans, less_flip, more_flip, same_flip, same_eq, same_self}
@@ -108,9 +106,9 @@ not_less After Same a b c e f h k = refl
 not_less After After a b c e f h k = refl
 
 -- the best of a set for a key: a mark with the key than which no mark with the key is later, or nothing where no mark has it
-unfoldable pub Best : ℕ → List Mark → Winner → Type 0
-Best k l Nothing = (i : ℕ) (d : Mark) → i < length l → (get_or l i d).key ≡ k → ⊥
-Best k l (Shows w) = (w.key ≡ k) × ((i : ℕ) (d : Mark) → i < length l → (get_or l i d).key ≡ k → later w (get_or l i d) ≡ false)
+unfoldable pub Best : ℕ → List Mark → Option Mark → Type 0
+Best k l None = (i : ℕ) (d : Mark) → i < length l → (get_or l i d).key ≡ k → ⊥
+Best k l (Some w) = (w.key ≡ k) × ((i : ℕ) (d : Mark) → i < length l → (get_or l i d).key ≡ k → later w (get_or l i d) ≡ false)
 
 not_self : (m : Mark) → later m m ≡ false
 not_self m = later_of m m refl ∙ ap is_before (same_self (id_of m))
@@ -121,15 +119,15 @@ each_cons : (P : Mark → Type 0) (x : Mark) (xs : List Mark) → P x → ((i : 
 each_cons P x xs h g zero d l = h
 each_cons P x xs h g (suc i) d l = g i d (omega arith)
 
-best_other : (k : ℕ) (x : Mark) (xs : List Mark) (v : Winner) → eqb x.key k ≡ false → Best k xs v → Best k (x ∷ xs) v
+best_other : (k : ℕ) (x : Mark) (xs : List Mark) (v : Option Mark) → eqb x.key k ≡ false → Best k xs v → Best k (x ∷ xs) v
 unfolding Best
-best_other k x xs Nothing e h = each_cons (λ m. m.key ≡ k → ⊥) x xs (eqb-false x.key k e) h
-best_other k x xs (Shows w) e h = (h.0, each_cons (λ m. m.key ≡ k → later w m ≡ false) x xs (λ f. absurd (eqb-false x.key k e f)) h.1)
+best_other k x xs None e h = each_cons (λ m. m.key ≡ k → ⊥) x xs (eqb-false x.key k e) h
+best_other k x xs (Some w) e h = (h.0, each_cons (λ m. m.key ≡ k → later w m ≡ false) x xs (λ f. absurd (eqb-false x.key k e f)) h.1)
 
-best_key : (k : ℕ) (x : Mark) (xs : List Mark) (v : Winner) → x.key ≡ k → Best k xs v → Best k (x ∷ xs) (better x v)
+best_key : (k : ℕ) (x : Mark) (xs : List Mark) (v : Option Mark) → x.key ≡ k → Best k xs v → Best k (x ∷ xs) (better x v)
 unfolding Best
-best_key k x xs Nothing e h = (e, each_cons (λ m. m.key ≡ k → later x m ≡ false) x xs (λ g. not_self x) (λ i d l g. absurd (h i d l g)))
-best_key k x xs (Shows y) e h =
+best_key k x xs None e h = (e, each_cons (λ m. m.key ≡ k → later x m ≡ false) x xs (λ g. not_self x) (λ i d l g. absurd (h i d l g)))
+best_key k x xs (Some y) e h =
     let xy : x.key ≡ y.key = e ∙ sym h.0 in
     cond_cases (Best k (x ∷ xs)) (later x y)
     (λ f. (

@@ -1,5 +1,5 @@
 -- The sorted table: where an identity stands, and a mark put in at its place.
-use Rattle.std.proofs.Common.{◌≡◌, ℕ, zero, suc, ◌+◌, ◌<◌, ◌≤◌, true, false, cond, ◌&&◌, ◌||◌, ltb, leb, List, [], ◌∷◌, ◌++◌, length, get_or, take, drop, set, sym, refl, ap, ◌∙◌, ap₂, true≢false, suc-add, add-one, arith, take-append-drop, drop_of_length-le, length-take, drop-cons, get_or-take, drop-drop, take_at, drop-set-lt, drop_at, le-ltb, lt-ltb, le-leb}
+use Rattle.std.proofs.Common.{◌≡◌, ℕ, zero, suc, ◌+◌, ◌<◌, ◌≤◌, true, false, cond, ◌&&◌, ◌||◌, ltb, leb, List, [], ◌∷◌, ◌++◌, length, get_or, take, drop, set, sym, refl, ap, ◌∙◌, ap₂, true≢false, suc-add, add-one, arith, take-append-drop, drop_of_length-le, length-take, drop-cons, get_or-take, drop-drop, take_at, drop-set-lt, drop_at, le-ltb, lt-ltb, le-leb, Result, Ok, Err, Bool}
 use mathlib.Core.Bool.{and-false}
 use lib.Dec.{leb-suc-suc}
 use borrow.Author.Tests.{lt-leb}
@@ -9,6 +9,7 @@ use Rattle.styles.specs.declared.Stand.{Stand}
 use Rattle.styles.specs.declared.Stand.TheVariants.{Before, Same, After}
 use Rattle.styles.specs.Order.{stands, id_of, is_before, less, same_id}
 use Rattle.styles.specs.Marks.{Above, Sorted, member, insert_at, place_of, table_with}
+use Rattle.styles.specs.Answers.{placed}
 use Rattle.styles.proofs.OrderLaws.{less_flip, more_flip, same_flip}
 use Rattle.styles.proofs.PickLaws.{not_member, above_trans}
 
@@ -72,6 +73,21 @@ module _ (j : Identity) (t : List Mark) (n i : ℕ) (d : Mark) (long : n ≤ len
 
   pub carried_not : n ≤ i → member j (take n t) ≡ false
   carried_not h = member_at j (take n t) d sorted ∙ (rw (← found, full, le-ltb i n h))
+
+-- what is told of that place says whether the identity is there
+placed_by : (b : Bool) (p i : ℕ) → ◌≡◌ {A = Result ℕ ℕ} (cond b (Ok p) (Err p)) (Ok i) → (i ≡ p) × (b ≡ true)
+placed_by true p i e = (cc, refl)
+placed_by false p i e = absurd cc
+
+not_placed_by : (b : Bool) (p i : ℕ) → ◌≡◌ {A = Result ℕ ℕ} (cond b (Ok p) (Err p)) (Err i) → (i ≡ p) × (b ≡ false)
+not_placed_by true p i e = absurd cc
+not_placed_by false p i e = (cc, refl)
+
+pub placed_there : (j : Identity) (t : List Mark) (i : ℕ) → Ok i ≡ placed j t → (i ≡ place_of j t) × (member j t ≡ true)
+placed_there j t i e = placed_by (member j t) (place_of j t) i (sym e)
+
+pub placed_not : (j : Identity) (t : List Mark) (i : ℕ) → Err i ≡ placed j t → (i ≡ place_of j t) × (member j t ≡ false)
+placed_not j t i e = not_placed_by (member j t) (place_of j t) i (sym e)
 
 -- ---- a mark put in
 above_put_all : (j : Identity) (i : ℕ) (m : Mark) (t : List Mark) → stands j (id_of m) ≡ Before → Above j t → Above j (insert_at i m t)

@@ -1,11 +1,9 @@
 -- The table walked mark by mark: the marks kept, and the winner for a key.
-use Rattle.std.proofs.Common.{◌≡◌, ℕ, zero, suc, ◌+◌, ◌/◌, ◌%◌, ◌^◌, ◌<◌, ◌≤◌, Bool, true, false, cond, eqb, List, [], ◌∷◌, ◌++◌, length, get_or, take, sym, refl, ap, ◌∙◌, subst, append_assoc, append-nil, div-one, add-one, arith, length-take, take-suc, eq-eqb, ne_eqb, eqb-true}
+use Rattle.std.proofs.Common.{◌≡◌, ℕ, zero, suc, ◌+◌, ◌/◌, ◌%◌, ◌^◌, ◌<◌, ◌≤◌, Bool, true, false, cond, eqb, List, [], ◌∷◌, ◌++◌, length, get_or, Option, None, Some, take, sym, refl, ap, ◌∙◌, subst, append_assoc, append-nil, div-one, add-one, arith, length-take, take-suc, eq-eqb, ne_eqb, eqb-true}
 use borrow.Author.Tests.{eqb-false}
 use Rattle.styles.specs.declared.Identity.{Identity}
 use Rattle.styles.specs.declared.Mark.{Mark}
 use Rattle.styles.specs.declared.Stand.TheVariants.{Before}
-use Rattle.styles.specs.declared.Winner.{Winner}
-use Rattle.styles.specs.declared.Winner.TheVariants.{Nothing, Shows}
 use Rattle.styles.specs.Order.{stands, id_of, less}
 use Rattle.styles.specs.Marks.{Above, Sorted, later, better, winner}
 use Rattle.styles.specs.Bits.{keep_bit, pick, has_bit}
@@ -50,8 +48,8 @@ pub later_of : (a b : Mark) → a.key ≡ b.key → later a b ≡ less (id_of a)
 unfolding stands
 later_of a b e = rw (num_same a.key b.key e)
 
-winner_step : (k : ℕ) (x m : Mark) (w : Winner) (a b : Bool) → eqb x.key k ≡ a → eqb m.key k ≡ b → stands (id_of x) (id_of m) ≡ Before
-    → cond a (better x (cond b (Shows m) w)) (cond b (Shows m) w) ≡ cond b (Shows m) (cond a (better x w) w)
+winner_step : (k : ℕ) (x m : Mark) (w : Option Mark) (a b : Bool) → eqb x.key k ≡ a → eqb m.key k ≡ b → stands (id_of x) (id_of m) ≡ Before
+    → cond a (better x (cond b (Some m) w)) (cond b (Some m) w) ≡ cond b (Some m) (cond a (better x w) w)
 winner_step k x m w true true e f h =
     rw (later_of x m (omega (arith, eqb-true x.key k e, eqb-true m.key k f)), h)
 winner_step k x m w true false e f h = refl
@@ -63,11 +61,11 @@ unfolding Above
 above_last j [] m h = h.0
 above_last j (x ∷ xs) m h = above_last j xs m h.1
 
-pub winner_last : (k : ℕ) (xs : List Mark) (m : Mark) → Sorted (xs ++ m ∷ []) → winner k (xs ++ m ∷ []) ≡ cond (eqb m.key k) (Shows m) (winner k xs)
+pub winner_last : (k : ℕ) (xs : List Mark) (m : Mark) → Sorted (xs ++ m ∷ []) → winner k (xs ++ m ∷ []) ≡ cond (eqb m.key k) (Some m) (winner k xs)
 unfolding winner Sorted
 winner_last k [] m h = refl
 winner_last k (x ∷ xs) m h =
-    ap (λ (w : Winner). cond (eqb x.key k) (better x w) w) (winner_last k xs m h.1)
+    ap (λ (w : Option Mark). cond (eqb x.key k) (better x w) w) (winner_last k xs m h.1)
     ∙ winner_step k x m (winner k xs) (eqb x.key k) (eqb m.key k) refl refl (above_last (id_of x) xs m h.0)
 
 pub sorted_pick : (t : List Mark) (s : ℕ) → Sorted t → Sorted (pick t s)
@@ -87,27 +85,27 @@ sorted_front [] ys h = tt
 sorted_front (x ∷ xs) ys h = (above_front (id_of x) xs ys h.0, sorted_front xs ys h.1)
 
 -- of a set's marks some are passed and some are left, and `best` is the winner of the passed ones
-pub record Walked (key : ℕ) (marks left : List Mark) (best : Winner) : Type 0 where
+pub record Walked (key : ℕ) (marks left : List Mark) (best : Option Mark) : Type 0 where
   pub passed : List Mark
   pub split : passed ++ left ≡ marks
   pub best_is : best ≡ winner key passed
 
-pub walk_begun : (key : ℕ) (marks : List Mark) → Walked key marks marks Nothing
+pub walk_begun : (key : ℕ) (marks : List Mark) → Walked key marks marks None
 unfolding winner
 walk_begun key marks = record { passed = []; split = refl; best_is = refl }
 
-module _ {key : ℕ} {marks rest : List Mark} {best : Winner} {m : Mark} (sorted : Sorted marks) (w : Walked key marks (m ∷ rest) best) where
+module _ {key : ℕ} {marks rest : List Mark} {best : Option Mark} {m : Mark} (sorted : Sorted marks) (w : Walked key marks (m ∷ rest) best) where
   on : (w.passed ++ m ∷ []) ++ rest ≡ marks
   on = append_assoc w.passed (m ∷ []) rest ∙ w.split
 
-  then_best : winner key (w.passed ++ m ∷ []) ≡ cond (eqb m.key key) (Shows m) (winner key w.passed)
+  then_best : winner key (w.passed ++ m ∷ []) ≡ cond (eqb m.key key) (Some m) (winner key w.passed)
   then_best = winner_last key w.passed m (sorted_front (w.passed ++ m ∷ []) rest (subst Sorted (sym on) sorted))
 
-  pub walk_here : m.key ≡ key → Walked key marks rest (Shows m)
+  pub walk_here : m.key ≡ key → Walked key marks rest (Some m)
   walk_here e = record { passed = w.passed ++ m ∷ []; split = on; best_is = sym (rw (eq-eqb m.key key e) at then_best) }
 
   pub walk_other : (m.key ≡ key → ⊥) → Walked key marks rest best
   walk_other e = record { passed = w.passed ++ m ∷ []; split = on; best_is = w.best_is ∙ sym (rw (ne_eqb m.key key e) at then_best) }
 
-pub walk_over : {key : ℕ} {marks : List Mark} {best : Winner} → Walked key marks [] best → best ≡ winner key marks
+pub walk_over : {key : ℕ} {marks : List Mark} {best : Option Mark} → Walked key marks [] best → best ≡ winner key marks
 walk_over {key} w = w.best_is ∙ ap (winner key) (sym (append-nil w.passed) ∙ w.split)

@@ -1,6 +1,6 @@
 -- A set of marks is a list of them, sorted by identity: what it carries, what edits make of it, and the winner for a key; and
 -- a table of marks at numbered places.
-use Rattle.std.specs.Prelude.{◌≡◌, ℕ, zero, suc, ◌+◌, Bool, true, false, cond, not, ◌&&◌, ◌||◌, List, [], ◌∷◌, ◌++◌, take, drop, pos, ◌==◌, nat_le, nat_lt}
+use Rattle.std.specs.Prelude.{◌≡◌, ℕ, zero, suc, ◌+◌, Bool, true, false, cond, not, ◌&&◌, ◌||◌, List, [], ◌∷◌, ◌++◌, take, drop, pos, Option, None, Some, ◌==◌, nat_le, nat_lt}
 use Rattle.styles.specs.declared.Identity.{Identity}
 use Rattle.styles.specs.declared.Mark.{Mark}
 use Rattle.styles.specs.declared.Party.{Party}
@@ -9,8 +9,6 @@ use Rattle.styles.specs.declared.Stand.{Stand}
 use Rattle.styles.specs.declared.Stand.TheVariants.{Before, Same, After}
 use Rattle.styles.specs.declared.Value.{Value}
 use Rattle.styles.specs.declared.Value.TheVariants.{Null}
-use Rattle.styles.specs.declared.Winner.{Winner}
-use Rattle.styles.specs.declared.Winner.TheVariants.{Nothing, Shows}
 use Rattle.styles.specs.Values.{same_whole, same_value, shows_as}
 use Rattle.styles.specs.Order.{stands, then, numbers, parties, rank, is_before, id_of, less, same_id}
 
@@ -89,13 +87,13 @@ abbrev pub later : Mark → Mark → Bool
 later a b = is_before (then (parties a.party b.party) (then (numbers a.lamport b.lamport) (numbers a.peer b.peer)))
 
 -- a mark with the key against the winner of the others
-abbrev pub better : Mark → Winner → Winner
-better m Nothing = Shows m
-better m (Shows x) = cond (later m x) (Shows x) (Shows m)
+abbrev pub better : Mark → Option Mark → Option Mark
+better m None = Some m
+better m (Some x) = cond (later m x) (Some x) (Some m)
 
 -- the mark that shows for a key: the greatest lamport, then the greatest peer
-unfoldable pub winner : ℕ → List Mark → Winner
-winner k [] = Nothing
+unfoldable pub winner : ℕ → List Mark → Option Mark
+winner k [] = None
 winner k (m ∷ ms) = cond (key_is k m) (better m (winner k ms)) (winner k ms)
 
 -- the mark's value shows as w
@@ -103,9 +101,9 @@ abbrev pub value_is : Value → Mark → Bool
 value_is w m = shows_as m.value w
 
 -- a winner's value shows as w; no mark shows nothing
-abbrev pub shown_by : Value → Winner → Bool
-shown_by w Nothing = false
-shown_by w (Shows m) = value_is w m
+abbrev pub shown_by : Value → Option Mark → Bool
+shown_by w None = false
+shown_by w (Some m) = value_is w m
 
 -- the value shown for a key shows as w
 abbrev pub shows_value : ℕ → Value → List Mark → Bool

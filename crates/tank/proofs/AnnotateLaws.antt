@@ -9,6 +9,9 @@ use lib.Bits.{bit_or, or_comm, and_mask}
 use lib.ListN.{length, get_or}
 use lib.Pow.{pow-lt}
 use borrow.Author.Tests.{lt-leb, le-leb, lt-ltb, le-ltb}
+use Rattle.refusal.specs.declared.Refusal.{Refusal}
+use Rattle.refusal.specs.Numbers.{number_of}
+use Rattle.refusal.proofs.NumberLaws.{positive}
 use Rattle.styles.specs.declared.Mark.{Mark}
 use Rattle.styles.specs.Order.{id_of}
 use Rattle.styles.specs.Values.{value_nan}
@@ -97,6 +100,9 @@ module _ {t : Tank} (s : Sound t) (start end : ℕ) (m : Mark) where
       unfolding own_number
       refused_own zero e h = absurd (omega arith)
       refused_own (suc n) e h = refused s n (number_own (annotating start end m) (view t) allowed some inside not_long (omega arith) ∙ sym e)
+
+      pub refused_as : (r : Refusal) → number_of r ≡ mark_number m → Called (annotating start end m) t (number_of r) t
+      refused_as r e = refused_own (number_of r) e (positive r)
 
       module _ (own : mark_number m ≡ 0) where
         is_good : own_number (annotating start end m) ≡ 0

@@ -13,7 +13,6 @@ use Rattle.styles.specs.Marks.{of_party}
 use Rattle.runs.specs.Gather.{gather}
 use Rattle.runs.specs.Scan.{common_at}
 use Rattle.tank.specs.declared.Tank.{Tank}
-use Rattle.tank.specs.declared.Inserted.{Inserted}
 use Rattle.tank.specs.Rules.{View, inserting, is_lab, shown_to, after, for_insert, after_insert, barred, empty, over, largest, long, own_number, clashes, full, refusal, when_accepted, inserted_set}
 use Rattle.tank.specs.State.{runs_of, table_of, view, Sound, Called}
 use Rattle.tank.specs.Steps.{Stepped, CanGrow}
@@ -38,7 +37,13 @@ insert_touched : (pos len : ℕ) (v : View) → v.touched ≡ true → (after_in
 unfolding after_insert
 insert_touched pos len v e = rw e
 
--- what an insertion hands back
+-- what an insertion comes to: 0 or the refusal's number, the set that it answers, and the tank after it
+pub record Inserted : Type 0 where
+  pub number : ℕ
+  pub styles : Styles
+  pub tank : Tank
+
+-- by the rules
 abbrev pub Gives : Tank → Party → ℕ → ℕ → Inserted → Type 0
 Gives t who pos len r = (Called (inserting who pos len) t r.number r.tank) × (r.styles ≡ styles_of (inserted_set who pos len (view t)))
 

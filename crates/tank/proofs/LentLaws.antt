@@ -15,14 +15,12 @@ use Rattle.styles.proofs.UnionLaws.{pick_none}
 use Rattle.runs.specs.Gather.{gather, Renumbered}
 use Rattle.tank.specs.declared.Tank.{Tank}
 use Rattle.tank.specs.declared.lent.Outline.{Outline}
-use Rattle.tank.specs.declared.lent.Left.{Left}
 use Rattle.tank.specs.declared.lent.Tabled.TheVariants.{Same, Carried}
-use Rattle.tank.specs.declared.Inserted.{Inserted}
 use Rattle.tank.specs.Rules.{Edit, inserting, inserted_set}
 use Rattle.tank.specs.State.{runs_of, table_of, view, Laid, Called}
 use Rattle.tank.specs.Steps.{Trimmed}
-use Rattle.tank.specs.Lending.{tank_on, Fitting, tank_made, kept_as, Leaves, TrimsTo}
-use Rattle.tank.proofs.InsertLaws.{Gives, Kept}
+use Rattle.tank.specs.Lending.{Leaving, tank_on, Fitting, tank_made, kept_as, Leaves, TrimsTo}
+use Rattle.tank.proofs.InsertLaws.{Inserted, Gives, Kept}
 use Rattle.tank.proofs.TrimLaws.{trim_none, trim_done}
 use Rattle.tank.proofs.Unique.{inside_table}
 
@@ -31,7 +29,7 @@ none_shown : (ms : List Mark) → styles_of (pick ms 0) ≡ styles_of []
 none_shown ms = ap styles_of (pick_none ms)
 
 -- ---- nothing has changed
-module _ {e : Edit} {h : Outline} {lens sets olens osets : List ℕ} {table : List Mark} {marks : List Mark} {n first : ℕ} {r : Left} where
+module _ {e : Edit} {h : Outline} {lens sets olens osets : List ℕ} {table : List Mark} {marks : List Mark} {n first : ℕ} {r : Leaving} where
   pub kept_leaves : r ≡ kept_as n first h → Called e (tank_on h lens sets table) n (tank_on h lens sets table) → styles_of [] ≡ styles_of marks
       → {f : ℕ} → first ≡ f → Leaves e (tank_on h lens sets table) olens osets marks f r
   kept_leaves q c s {f} g =
@@ -46,7 +44,7 @@ module _ {e : Edit} {h : Outline} {lens sets olens osets : List ℕ} {table : Li
       })
 
 -- ---- something has
-module _ {e : Edit} {t : Tank} {olens osets : List ℕ} {r : Left} where
+module _ {e : Edit} {t : Tank} {olens osets : List ℕ} {r : Leaving} where
   pub made_leaves : {marks : List Mark} {first : ℕ} → r.number ≡ 0 → r.changed ≡ true → Called e t 0 (tank_made t olens osets r)
       → Fitting t.marks r.table → r.shown < 2 ^ t.marks → styles_of (pick (table_of t) r.shown) ≡ styles_of marks → r.first ≡ first
       → Leaves e t olens osets marks first r

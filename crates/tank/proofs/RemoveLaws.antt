@@ -21,7 +21,6 @@ use Rattle.runs.specs.Positions.{stretch_to}
 use Rattle.runs.specs.Scan.{meets, CanScan}
 use Rattle.runs.proofs.ScanLaws.{stretch_le, stretch_end, stretch_ext}
 use Rattle.tank.specs.declared.Tank.{Tank}
-use Rattle.tank.specs.declared.Removed.{Removed}
 use Rattle.tank.specs.Rules.{View, removing, after, back_from, stripped, after_remove, barred, empty, over, long, own_number, clashes, full, refusal, removed_first}
 use Rattle.tank.specs.State.{runs_of, table_of, view, Laid, Formed, Sound, Called}
 use Rattle.tank.specs.Steps.{Trimmed, CanStrip}
@@ -32,7 +31,13 @@ use Rattle.tank.proofs.StripLaws.{meets_mark}
 use Rattle.tank.proofs.Unique.{table_length}
 use Rattle.tank.proofs.ViewLaws.{view_ext, range_before, range_past}
 
--- what a removal hands back
+-- what a removal comes to: 0 or the refusal's number, the first position of the stretch, and the tank after it
+pub record Removed : Type 0 where
+  pub number : ℕ
+  pub first : ℕ
+  pub tank : Tank
+
+-- by the rules
 abbrev pub Gives : Tank → Identity → ℕ → Removed → Type 0
 Gives t id last r = (Called (removing id last) t r.number r.tank) × (r.first ≡ removed_first id last (view t))
 

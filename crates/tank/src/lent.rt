@@ -7,9 +7,10 @@ ghost use Rattle.runs.specs.Positions.{altered_at};
 ghost use Rattle.runs.specs.Runs.{runs, set_at, SameBehind, changing, Canon};
 ghost use Rattle.tank.specs.Rules.{annotating, inserting, deleting, removing, inserted_set, removed_first};
 ghost use Rattle.tank.specs.State.{view};
-ghost use Rattle.tank.specs.Lending.{tank_on, table_left, Fitting, kept_as, CanLend, Leaves, Trims};
+ghost use Rattle.tank.specs.Lending.{tank_on, table_left, Fitting, kept_as, CanLend, Leaves, Trims, done_as, left_as};
 
-use super::{Room, is_lab, mark_number, room_for, shown_bits};
+use super::{Room, is_lab, judge_mark, room_for, shown_bits};
+use refusal::Refusal;
 use styles::{Identity, Mark, Party};
 
 // A tank but for its runs and its marks, which are so many.
@@ -29,11 +30,10 @@ pub enum Tabled {
     Carried(u64),
 }
 
-// What an edit leaves beside the runs, and what it answers: 0 or the refusal's number, whether anything has changed, the first position of a
-// removal, and the bits of an insertion's set in the table before the call.
+// What an edit leaves beside the runs, and what it answers: whether anything has changed, the first position of a removal, and the bits of an
+// insertion's set in the table before the call.
 #[derive(Clone, Copy)]
 pub struct Left {
-    pub number: u64,
     pub changed: bool,
     pub first: u64,
     pub shown: u64,
@@ -60,11 +60,10 @@ pub fn table_left(table: [Mark; 64], n: usize, change: Tabled) -> [Mark; 64]
 }
 
 // Nothing has changed.
-fn kept(number: u64, first: u64, h: Outline) -> Left
-    ensures { result ≡ kept_as number first h }
+fn kept(first: u64, h: Outline) -> Left
+    ensures { done_as result ≡ kept_as 0 first h }
 {
     Left {
-        number: number,
         changed: false,
         first: first,
         shown: 0,
@@ -98,13 +97,12 @@ fn lay(
 // The marks that no position carries leave the table, and their bits leave the sets.
 fn trim(sets: &mut [u64], h: Outline, first: u64) -> Left
     requires { h.runs ≤ length sets.old }
-    ensures { Trims h first sets.old sets.new result }
+    ensures { Trims h first sets.old sets.new (done_as result) }
 {
     let carried = runs::sets::union_of(sets, h.runs);
     let held = styles::bits::count(carried);
     if held == h.marks {
         return Left {
-            number: 0,
             changed: true,
             first: first,
             shown: 0,
@@ -116,7 +114,6 @@ fn trim(sets: &mut [u64], h: Outline, first: u64) -> Left
     }
     runs::sets::squeeze_sets(sets, h.runs, carried);
     Left {
-        number: 0,
         changed: true,
         first: first,
         shown: 0,
@@ -138,26 +135,22 @@ pub fn annotate(
     start: u64,
     end: u64,
     mark: Mark,
-) -> Left
+) -> Result<Left, Refusal>
     requires { CanLend (tank_on h lens.now sets.old table) olens.old osets.old }
-    ensures { Leaves (annotating start end mark) (tank_on h lens.now sets.old table) olens.new osets.new [] 0 result }
+    ensures { Leaves (annotating start end mark) (tank_on h lens.now sets.old table) olens.new osets.new [] 0 (left_as h result) }
 {
     if end <= start {
-        return kept(3, 0, h);
+        return Err(Refusal::EmptyRange);
     }
     if h.length < end {
-        return kept(4, 0, h);
+        return Err(Refusal::PastEnd);
     }
-    let own = mark_number(mark);
-    if 0 < own {
-        return kept(own, 0, h);
-    }
+    judge_mark(mark)?;
     let room = room_for(table, h.marks, mark);
     match room {
-        Room::Clash => kept(7, 0, h),
-        Room::Full => kept(8, 0, h),
-        Room::Known(i) => Left {
-            number: 0,
+        Room::Clash => Err(Refusal::OtherContent),
+        Room::Full => Err(Refusal::NoRoomForMark),
+        Room::Known(i) => Ok(Left {
             changed: true,
             first: 0,
             shown: 0,
@@ -165,11 +158,10 @@ pub fn annotate(
             runs: lay(olens, osets, lens, sets, h.runs, h.length, start, end, i),
             marks: h.marks,
             table: Tabled::Same,
-        },
+        }),
         Room::New(i) => {
             runs::sets::open_sets(sets, h.runs, i);
-            Left {
-                number: 0,
+            Ok(Left {
                 changed: true,
                 first: 0,
                 shown: 0,
@@ -177,7 +169,7 @@ pub fn annotate(
                 runs: lay(olens, osets, lens, sets, h.runs, h.length, start, end, i),
                 marks: h.marks + 1,
                 table: Tabled::Entered(i, mark),
-            }
+            })
         }
     }
 }
@@ -193,21 +185,21 @@ pub fn delete(
     who: Party,
     start: u64,
     end: u64,
-) -> Left
+) -> Result<Left, Refusal>
     requires { CanLend (tank_on h lens.now sets.now table) olens.old osets.old }
-    ensures { Leaves (deleting who start end) (tank_on h lens.now sets.now table) olens.new osets.new [] 0 result }
+    ensures { Leaves (deleting who start end) (tank_on h lens.now sets.now table) olens.new osets.new [] 0 (left_as h result) }
 {
     if is_lab(who) {
-        return kept(16, 0, h);
+        return Err(Refusal::PlantsWork);
     }
     if end <= start {
-        return kept(3, 0, h);
+        return Err(Refusal::EmptyRange);
     }
     if h.length < end {
-        return kept(4, 0, h);
+        return Err(Refusal::PastEnd);
     }
     if !h.touched {
-        return kept(0, 0, h);
+        return Ok(kept(0, h));
     }
     let n = runs::joined::delete(olens, osets, lens, sets, h.runs, h.length, start, end);
     let u = Outline {
@@ -216,7 +208,7 @@ pub fn delete(
         runs: n,
         marks: h.marks,
     };
-    trim(osets, u, 0)
+    Ok(trim(osets, u, 0))
 }
 
 // `len` positions more before `pos`, with the marks that both its neighbours carry: the answer is the bits of those that are the party's. An
@@ -231,30 +223,29 @@ pub fn insert(
     who: Party,
     pos: u64,
     len: u64,
-) -> Left
+) -> Result<Left, Refusal>
     requires { CanLend (tank_on h lens.now sets.now table) olens.old osets.old }
-    ensures { Leaves (inserting who pos len) (tank_on h lens.now sets.now table) olens.new osets.new (inserted_set who pos len (view (tank_on h lens.now sets.now table))) 0 result }
+    ensures { Leaves (inserting who pos len) (tank_on h lens.now sets.now table) olens.new osets.new (inserted_set who pos len (view (tank_on h lens.now sets.now table))) 0 (left_as h result) }
 {
     if is_lab(who) {
-        return kept(16, 0, h);
+        return Err(Refusal::PlantsWork);
     }
     if len == 0 {
-        return kept(3, 0, h);
+        return Err(Refusal::EmptyRange);
     }
     if h.length < pos {
-        return kept(4, 0, h);
+        return Err(Refusal::PastEnd);
     }
     if !h.touched {
-        return kept(0, 0, h);
+        return Ok(kept(0, h));
     }
     if 9223372036854775807 - h.length < len {
-        return kept(5, 0, h);
+        return Err(Refusal::TooLong);
     }
     let set = runs::scan::common_at(lens, sets, h.runs, h.length, pos);
     let shown = shown_bits(table, h.marks, set, who);
     let n = runs::joined::insert(olens, osets, lens, sets, h.runs, h.length, pos, len, set);
-    Left {
-        number: 0,
+    Ok(Left {
         changed: true,
         first: 0,
         shown: shown,
@@ -262,7 +253,7 @@ pub fn insert(
         runs: n,
         marks: h.marks,
         table: Tabled::Same,
-    }
+    })
 }
 
 // The longest stretch ending at `last` whose positions all carry the identity loses it.
@@ -275,18 +266,17 @@ pub fn remove(
     table: [Mark; 64],
     id: Identity,
     last: u64,
-) -> Left
+) -> Result<Left, Refusal>
     requires { CanLend (tank_on h lens.now sets.now table) olens.old osets.old }
-    ensures { Leaves (removing id last) (tank_on h lens.now sets.now table) olens.new osets.new [] (removed_first id last (view (tank_on h lens.now sets.now table))) result }
+    ensures { Leaves (removing id last) (tank_on h lens.now sets.now table) olens.new osets.new [] (removed_first id last (view (tank_on h lens.now sets.now table))) (left_as h result) }
 {
     if h.length <= last {
-        return kept(4, 0, h);
+        return Err(Refusal::PastEnd);
     }
-    let place = styles::table::placed(table, h.marks, id);
-    if !place.there {
-        return kept(0, last + 1, h);
-    }
-    let bit = styles::bits::with_bit(0, place.at);
+    let Ok(place) = styles::table::placed(table, h.marks, id) else {
+        return Ok(kept(last + 1, h));
+    };
+    let bit = styles::bits::with_bit(0, place);
     let first = runs::scan::back(lens, sets, h.runs, bit, last);
     let n = runs::joined::alter(
         olens,
@@ -306,5 +296,5 @@ pub fn remove(
         runs: n,
         marks: h.marks,
     };
-    trim(osets, u, first)
+    Ok(trim(osets, u, first))
 }

@@ -2,6 +2,7 @@
 #![tactic(auto)]
 
 ghost use Rattle.std.specs.Prelude.{◌≡◌, ◌+◌, ◌≤◌, ◌<◌, ◌^◌, max, false, ltb, take, []};
+ghost use Rattle.refusal.specs.Answers.{number_in, given_or};
 ghost use Rattle.styles.specs.Order.{id_of};
 ghost use Rattle.styles.specs.Bits.{pick};
 ghost use Rattle.styles.specs.Marks.{Sorted, member, of_party};
@@ -13,6 +14,7 @@ ghost use Rattle.tank.specs.Steps.{room_for};
 mod steps; // steps.rt: what the edits are made of
 pub mod lent; // lent.rt: the edits of a tank whose runs stand in lent arrays
 
+use refusal::Refusal;
 use richtext::TextStyleInfoFlag;
 use styles::{Identity, Mark, Party, Styles};
 
@@ -28,29 +30,6 @@ pub struct Tank {
     pub table: [Mark; 64],
 }
 
-// What an edit hands back: 0 or the refusal's number, and the tank after the call.
-#[derive(Clone, Copy)]
-pub struct Edited {
-    pub number: u64,
-    pub tank: Tank,
-}
-
-// An insertion's result: besides, the set that the new positions got.
-#[derive(Clone, Copy)]
-pub struct Inserted {
-    pub number: u64,
-    pub styles: Styles,
-    pub tank: Tank,
-}
-
-// A removal's result: besides, the first position of the stretch that lost the mark.
-#[derive(Clone, Copy)]
-pub struct Removed {
-    pub number: u64,
-    pub first: u64,
-    pub tank: Tank,
-}
-
 // How a mark stands to a table: it has its place there, or a place for it; another content stands there; there is no room.
 #[derive(Clone, Copy)]
 enum Room {
@@ -61,51 +40,35 @@ enum Room {
 }
 
 // Is it a flag byte that a type makes?
+#[tactic(auto, unfolding(crate::specs::Rules::made_flag))]
 fn made_flag(flags: u8) -> bool
     ensures { result ≡ made_flag flags }
 {
-    if flags == 0x80 {
-        return true;
-    }
-    if flags == 0x82 {
-        return true;
-    }
-    if flags == 0x84 {
-        return true;
-    }
-    flags == 0x86
+    matches!(flags, 0x80 | 0x82 | 0x84 | 0x86)
 }
 
 // Is the type that it has retired?
+#[tactic(auto, unfolding(crate::specs::Rules::retired_flag))]
 fn retired_flag(flags: u8) -> bool
     ensures { result ≡ retired_flag flags }
 {
-    let flag = TextStyleInfoFlag::from_byte(flags);
-    let expand = flag.expand_type();
-    expand.retired()
+    TextStyleInfoFlag::from_byte(flags).expand_type().retired()
 }
 
-// What a mark is refused by whatever the tank carries: 6 for a NaN, 14 for an odd flag byte, 18 for a retired one, else 0.
-fn mark_number(mark: Mark) -> u64
-    ensures { result ≡ mark_number mark }
+// What a mark is refused for whatever the tank carries: a NaN, a flag byte that no type makes, one of a type that is retired.
+#[tactic(auto, unfolding(crate::specs::Rules::mark_number))]
+fn judge_mark(mark: Mark) -> Result<(), Refusal>
+    ensures { number_in result ≡ mark_number mark }
 {
-    let value = mark.value;
-    if styles::values::value_is_nan(value) {
-        return 6;
+    if styles::values::value_is_nan(mark.value) {
+        Err(Refusal::NotANumber)
+    } else if !made_flag(mark.flags) {
+        Err(Refusal::OddFlags)
+    } else if retired_flag(mark.flags) {
+        Err(Refusal::RetiredType)
+    } else {
+        Ok(())
     }
-    if made_flag(mark.flags) {
-        if retired_flag(mark.flags) {
-            return 18;
-        }
-        return 0;
-    }
-    14
-}
-
-fn larger(a: usize, b: usize) -> usize
-    ensures { result ≡ max a b }
-{
-    if a < b { b } else { a }
 }
 
 // Do the marks of both parties need more than 64 places? The plant is assured 32, the lab 16.
@@ -113,7 +76,7 @@ fn too_many(plant: usize, lab: usize) -> bool
     requires { (plant ≤ 65) × (lab ≤ 65) }
     ensures { result ≡ ltb 64 (max plant 32 + max lab 16) }
 {
-    64 < larger(plant, 32) + larger(lab, 16)
+    64 < plant.max(32) + lab.max(16)
 }
 
 // Would they with a mark more that the table has not?
@@ -123,8 +86,7 @@ fn crowded(table: [Mark; 64], n: usize, mark: Mark) -> bool
 {
     let plant = styles::bits::count(styles::table::party_bits(table, n, Party::Plant));
     let lab = styles::bits::count(styles::table::party_bits(table, n, Party::Lab));
-    let who = mark.party;
-    match who {
+    match mark.party {
         Party::Plant => too_many(plant + 1, lab),
         Party::Lab => too_many(plant, lab + 1),
     }
@@ -134,34 +96,24 @@ fn room_for(table: [Mark; 64], n: usize, mark: Mark) -> Room
     requires { (n ≤ 64) × Sorted (take n table) }
     ensures { result ≡ room_for mark (take n table) }
 {
-    let id = styles::order::id_of(mark);
-    let place = styles::table::placed(table, n, id);
-    let at = place.at;
-    if place.there {
-        let old = table[at];
-        if styles::values::same_content(mark, old) {
-            return Room::Known(at);
+    match styles::table::placed(table, n, styles::order::id_of(mark)) {
+        Ok(at) => {
+            if styles::values::same_content(mark, table[at]) {
+                Room::Known(at)
+            } else {
+                Room::Clash
+            }
         }
-        return Room::Clash;
-    }
-    // Up to 32 marks fit whosever they are.
-    if n < 32 {
-        return Room::New(at);
-    }
-    if crowded(table, n, mark) {
-        return Room::Full;
-    }
-    Room::New(at)
-}
-
-// The tank as it was, beside the refusal's number.
-fn not_inserted(number: u64, tank: Tank) -> Inserted
-    ensures { (result.number ≡ number) × (result.styles ≡ styles_of []) × (result.tank ≡ tank) }
-{
-    Inserted {
-        number: number,
-        styles: styles::table::no_marks(),
-        tank: tank,
+        Err(at) => {
+            // Up to 32 marks fit whosever they are.
+            if n < 32 {
+                return Room::New(at);
+            }
+            if crowded(table, n, mark) {
+                return Room::Full;
+            }
+            Room::New(at)
+        }
     }
 }
 
@@ -179,10 +131,7 @@ fn other(who: Party) -> Party
 pub fn is_lab(who: Party) -> bool
     ensures { result ≡ is_lab who }
 {
-    match who {
-        Party::Plant => false,
-        Party::Lab => true,
-    }
+    matches!(who, Party::Lab)
 }
 
 // The bits of a set whose marks are a party's.
@@ -249,150 +198,107 @@ impl Tank {
     }
 
     // Every position of start .. end gains the mark.
-    pub fn annotate(self, start: u64, end: u64, mark: Mark) -> Edited
-        requires { Sound self }
-        ensures { Called (annotating start end mark) self result.number result.tank }
+    pub fn annotate(&mut self, start: u64, end: u64, mark: Mark) -> Result<(), Refusal>
+        requires { Sound self.old }
+        ensures { Called (annotating start end mark) self.old (number_in result) self.new }
     {
         if end <= start {
-            return Edited {
-                number: 3,
-                tank: self,
-            };
+            return Err(Refusal::EmptyRange);
         }
         if self.length < end {
-            return Edited {
-                number: 4,
-                tank: self,
-            };
+            return Err(Refusal::PastEnd);
         }
-        let own = mark_number(mark);
-        if 0 < own {
-            return Edited {
-                number: own,
-                tank: self,
-            };
-        }
+        judge_mark(mark)?;
         let table = self.table;
         let room = room_for(table, self.marks, mark);
         match room {
-            Room::Clash => Edited {
-                number: 7,
-                tank: self,
-            },
-            Room::Full => Edited {
-                number: 8,
-                tank: self,
-            },
-            Room::Known(i) => Edited {
-                number: 0,
-                tank: steps::lay(self, start, end, i),
-            },
-            Room::New(i) => Edited {
-                number: 0,
-                tank: steps::lay(steps::admit(self, i, mark), start, end, i),
-            },
+            Room::Clash => Err(Refusal::OtherContent),
+            Room::Full => Err(Refusal::NoRoomForMark),
+            Room::Known(i) => {
+                *self = steps::lay(*self, start, end, i);
+                Ok(())
+            }
+            Room::New(i) => {
+                *self = steps::lay(steps::admit(*self, i, mark), start, end, i);
+                Ok(())
+            }
         }
     }
 
     // The positions start .. end go, and later ones move down. An untouched tank stays as it is. The lab deletes nothing.
-    pub fn delete(self, who: Party, start: u64, end: u64) -> Edited
-        requires { Sound self }
-        ensures { Called (deleting who start end) self result.number result.tank }
+    pub fn delete(&mut self, who: Party, start: u64, end: u64) -> Result<(), Refusal>
+        requires { Sound self.old }
+        ensures { Called (deleting who start end) self.old (number_in result) self.new }
     {
         if is_lab(who) {
-            return Edited {
-                number: 16,
-                tank: self,
-            };
+            return Err(Refusal::PlantsWork);
         }
         if end <= start {
-            return Edited {
-                number: 3,
-                tank: self,
-            };
+            return Err(Refusal::EmptyRange);
         }
         if self.length < end {
-            return Edited {
-                number: 4,
-                tank: self,
-            };
+            return Err(Refusal::PastEnd);
         }
         if !self.touched {
-            return Edited {
-                number: 0,
-                tank: self,
-            };
+            return Ok(());
         }
-        Edited {
-            number: 0,
-            tank: steps::trim(steps::cut(self, start, end)),
-        }
+        *self = steps::trim(steps::cut(*self, start, end));
+        Ok(())
     }
 
     // `len` positions more before `pos`, with the marks that both its neighbours carry: the answer is those that are the party's. An untouched
     // tank stays as it is. The lab inserts nothing.
-    pub fn insert(self, who: Party, pos: u64, len: u64) -> Inserted
-        requires { Sound self }
-        ensures called { Called (inserting who pos len) self result.number result.tank }
-        ensures styles_value { result.styles ≡ styles_of (inserted_set who pos len (view self)) }
+    pub fn insert(&mut self, who: Party, pos: u64, len: u64) -> Result<Styles, Refusal>
+        requires { Sound self.old }
+        ensures called { Called (inserting who pos len) self.old (number_in result) self.new }
+        ensures styles_value { given_or (styles_of []) result ≡ styles_of (inserted_set who pos len (view self.old)) }
     {
         if is_lab(who) {
-            return not_inserted(16, self);
+            return Err(Refusal::PlantsWork); // the lab inserts nothing
         }
         if len == 0 {
-            return not_inserted(3, self);
+            return Err(Refusal::EmptyRange);
         }
         if self.length < pos {
-            return not_inserted(4, self);
+            return Err(Refusal::PastEnd);
         }
         if !self.touched {
-            return not_inserted(0, self);
+            return Ok(styles::table::no_marks());
         }
         if 9223372036854775807 - self.length < len {
-            return not_inserted(5, self);
+            return Err(Refusal::TooLong);
         }
         let lens = self.lens;
         let sets = self.sets;
         let table = self.table;
         let set = runs::scan::common_at(&lens, &sets, self.runs, self.length, pos);
         let styles = shown_of(table, self.marks, set, who);
-        Inserted {
-            number: 0,
-            styles: styles,
-            tank: steps::grow(self, pos, len, set),
-        }
+        *self = steps::grow(*self, pos, len, set);
+        Ok(styles)
     }
 
-    // The longest stretch ending at `last` whose positions all carry the identity loses it.
-    pub fn remove_style_scanning_backward(self, id: Identity, last: u64) -> Removed
-        requires { Sound self }
-        ensures called { Called (removing id last) self result.number result.tank }
-        ensures first_value { result.first ≡ removed_first id last (view self) }
+    // The longest stretch ending at `last` whose positions all carry the identity loses it: the answer is its first position.
+    pub fn remove_style_scanning_backward(
+        &mut self,
+        id: Identity,
+        last: u64,
+    ) -> Result<u64, Refusal>
+        requires { Sound self.old }
+        ensures called { Called (removing id last) self.old (number_in result) self.new }
+        ensures first_value { given_or 0 result ≡ removed_first id last (view self.old) }
     {
         if self.length <= last {
-            return Removed {
-                number: 4,
-                first: 0,
-                tank: self,
-            };
+            return Err(Refusal::PastEnd);
         }
         let table = self.table;
-        let place = styles::table::placed(table, self.marks, id);
-        if !place.there {
-            return Removed {
-                number: 0,
-                first: last + 1,
-                tank: self,
-            };
-        }
+        let Ok(place) = styles::table::placed(table, self.marks, id) else {
+            return Ok(last + 1);
+        };
         let lens = self.lens;
         let sets = self.sets;
-        let bit = styles::bits::with_bit(0, place.at);
+        let bit = styles::bits::with_bit(0, place);
         let first = runs::scan::back(&lens, &sets, self.runs, bit, last);
-        Removed {
-            number: 0,
-            first: first,
-            tank: steps::trim(steps::strip(self, first, last + 1, place.at)),
-        }
+        *self = steps::trim(steps::strip(*self, first, last + 1, place));
+        Ok(first)
     }
 }

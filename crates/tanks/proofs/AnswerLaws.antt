@@ -8,11 +8,10 @@ use Rattle.tank.specs.declared.Tank.{Tank}
 use Rattle.tank.specs.Rules.{fresh_view, Edit, annotating, inserting, deleting, removing, shown_to, refusal, inserted_set, removed_first, View, for_insert, back_from, when_accepted}
 use Rattle.tank.specs.State.{view, Sound}
 use Rattle.tank.proofs.Calls.{when_refused}
-use Rattle.tanks.specs.declared.Done.{Done}
 use Rattle.tanks.specs.declared.Tanks.{Tanks}
 use Rattle.tanks.specs.House.{tank_at, own_at, refusal_at, inserted_set_at, removed_first_at}
 use Rattle.tanks.specs.Pool.{meaning}
-use Rattle.tanks.specs.Promises.{CalledAt, Taken, set_beside, first_beside, Performed, PerformedAs, DoneAt}
+use Rattle.tanks.specs.Promises.{Coming, CalledAt, Taken, set_beside, first_beside, Performed, PerformedAs, DoneAt}
 use Rattle.tanks.proofs.SettingLaws.{first_zero, TakenOut}
 use Rattle.tanks.proofs.MeaningLaws.{tank_at_lem, tank_past}
 use Rattle.tanks.proofs.CallLaws.{refusal_in}
@@ -67,7 +66,7 @@ module _ (s : Tanks) (t : ℕ) where
   no_first (removing id last) h = sym (when_refused _ _ _ h)
 
   -- a refused edit
-  pub done_refused : (e : Edit) (v : ℕ) (r : Done) → CalledAt s t e v s → 0 < v → (r.number ≡ v) × (r.styles ≡ styles_of []) × (r.first ≡ 0) × (r.tanks ≡ s) → DoneAt s t e r
+  pub done_refused : (e : Edit) (v : ℕ) (r : Coming) → CalledAt s t e v s → 0 < v → (r.number ≡ v) × (r.styles ≡ styles_of []) × (r.first ≡ 0) × (r.tanks ≡ s) → DoneAt s t e r
   done_refused e v r called h is =
       let l : 0 < refusal_at (meaning s) t e = omega (arith, called.number_is) in
       record {

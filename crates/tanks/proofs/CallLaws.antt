@@ -19,9 +19,6 @@ use Rattle.tanks.specs.Promises.{CalledAt}
 use Rattle.tanks.proofs.SettingLaws.{first_zero, TakenOut}
 use Rattle.tanks.proofs.MeaningLaws.{tank_at_lem, held_is, judged_is, Tail}
 
-pub first_when : (n x y : ℕ) → (n ≡ 0 → x ≡ y) → first_refusal n x ≡ first_refusal n y
-first_when n x y h = cond_when (eqb n 0) x y n (λ e. h (eqb-true n 0 e))
-
 -- two numbers before a third, all by how many runs there are
 pub first_twice : (n : ℕ) (s j : ℕ → ℕ) (x y : ℕ) → (n ≡ 0 → x ≡ y) → first_refusal (first_refusal n (s x)) (j x) ≡ first_refusal (first_refusal n (s y)) (j y)
 first_twice n s j x y h = go (eqb n 0) refl

@@ -6,13 +6,18 @@ use mathlib.Core.List.{List}
 use native.Mathlib.Omega.{arith}
 use lib.ListN.{length, get_or, set, take, replicate}
 use Rattle.laws.proofs.Lists.{stored}
+use Rattle.std.specs.Prelude.{Err}
+use lib.Pow.{pow_pos}
+use Rattle.refusal.specs.declared.Refusal.{Refusal}
+use Rattle.refusal.specs.Numbers.{number_of}
+use Rattle.refusal.proofs.NumberLaws.{positive}
 use Rattle.styles.specs.declared.Mark.{Mark}
 use Rattle.styles.specs.Answers.{styles_of}
 use Rattle.styles.specs.Bits.{pick}
 use Rattle.runs.proofs.SumLaws.{sum_next}
 use Rattle.tank.specs.declared.Tank.{Tank}
-use Rattle.tank.specs.declared.lent.Left.{Left}
-use Rattle.tank.specs.Lending.{tank_on, tank_made, table_left}
+use Rattle.tank.specs.declared.lent.Outline.{Outline}
+use Rattle.tank.specs.Lending.{Leaving, kept_as, tank_on, tank_made, table_left}
 use Rattle.tank.specs.Rules.{Edit, first_refusal, made_by}
 use Rattle.tank.specs.State as state
 use Rattle.tanks.specs.declared.Setting.{Setting}
@@ -22,19 +27,18 @@ use Rattle.tanks.specs.declared.Resize.{Resize}
 use Rattle.tanks.specs.declared.Spots.{Spots}
 use Rattle.tanks.specs.declared.Table.{Table}
 use Rattle.tanks.specs.declared.Tanks.{Tanks}
-use Rattle.tanks.specs.declared.Parts.{Parts}
 use Rattle.tanks.specs.Settings.{share_of, judgement}
 use Rattle.tanks.specs.House.{share_number}
 use Rattle.tanks.specs.Pool.{no_run, no_head, no_table, runs_in, runs_below, lens_in, tank_in, tank_of, spots_of, Sound}
-use Rattle.tanks.specs.Promises.{place_of, PartsOf, PartsOfSome, done_with, PerformsOn, DoneAt, EditsParts, Judged}
+use Rattle.tanks.specs.Promises.{Parting, parted, place_of, PartsOf, PartsOfSome, done_with, PerformsOn, DoneAt, EditsParts, Judged}
 use Rattle.tanks.specs.Resizing.{Resizes, Fits, Which, shown_by}
 use Rattle.tanks.proofs.LaidLaws.{laid, laid_cong, laid_two}
 use Rattle.tanks.proofs.Put.{run_of, run_from, pool_with, puts}
 use Rattle.tanks.proofs.SettingLaws.{sound_held, sound_judged, TakenOut, taken}
 use Rattle.tanks.proofs.CallLaws.{own_by}
 use Rattle.tanks.proofs.WriteLaws.{part, lowest, part_all, run_own, all_written, Inside, inside}
-use Rattle.tanks.proofs.PartsLaws.{place_in, at_place, on_parts, on_state, outlined, lent_tank, outcome, outcome_made, left_same, performed, performed_made, known_by, Unchanged, Known, parts_refused, parts_same, parts_done}
-use Rattle.tanks.proofs.WithinLaws.{Walked, walk_on, walk_room, Placed, tank_sums, tank_small, found, len_of, Did, did_own}
+use Rattle.tanks.proofs.PartsLaws.{first_stays, place_in, at_place, on_parts, on_state, outlined, lent_tank, outcome, outcome_made, left_same, performed, performed_made, known_by, Unchanged, Known, parts_refused, parts_same, parts_done}
+use Rattle.tanks.proofs.WithinLaws.{Walked, walk_on, walk_room, walk_some, asked_some, Placed, tank_sums, tank_small, found, len_of, Did, did_own}
 
 -- the tank whose runs are taken out
 abbrev pub lent_on : List Head → Table → ℕ → List ℕ → List ℕ → Tank
@@ -74,28 +78,36 @@ module _ {st : List Setting} {hs : List Head} {pool : List Run} {table : Table} 
           omega (arith, walk_room w (onward g), len_of hs pool table t whole i (onward g), tank_sums hs pool table t whole, tank_small hs pool table t whole)
 
       -- it is, and the run is found
-      pub run_found : q.to ≤ to → {at before behind one : ℕ} → at ≡ runs_below hs t → before ≡ at + k - 1 → behind ≡ min (at + k) 511 → 0 < one
-          → (0 < one → (Fits q from to) × (Which q to (get_or pool before no_run).set (get_or pool behind no_run).set one)) → Placed e hs pool table t at q k one
-      run_found g i b n some c =
+      pub run_found : q.to ≤ to → {at behind one : ℕ} → at ≡ runs_below hs t → behind ≡ min (at + k) 511
+          → (Fits q from to) × (Which q to (get_or pool (at + k - 1) no_run).set (get_or pool behind no_run).set one) → Placed e hs pool table t at q k one
+      run_found g i n c =
           found hs pool table t whole e q i (own_room i) w asked g
-          (ap (λ (j : ℕ). (get_or pool j no_run).set) b) (ap (λ (j : ℕ). (get_or pool j no_run).set) n) some (c some)
+          refl (ap (λ (j : ℕ). (get_or pool j no_run).set) n) c
+
+      -- a run lies behind the walk
+      pub run_passed : q.to ≤ to → 0 < k
+      run_passed g = walk_some w (omega (arith, asked_some e (get_or hs t no_head) q asked.is))
 
     -- ---- what is left is the edit of every state that they are parts of
-    pub edits_by : (e : Edit) (p : Parts) → p.shown < 2 ^ (get_or hs t no_head).marks → ((s : Tanks) → Sound s → PartsOf s (place_of t) st hs pool table → DoneAt s t e (done_with s t p))
+    pub edits_by : (e : Edit) (p : Parting) → p.shown < 2 ^ (get_or hs t no_head).marks → ((s : Tanks) → Sound s → PartsOf s (place_of t) st hs pool table → DoneAt s t e (done_with s t p))
         → EditsParts st hs pool table t e p
     edits_by e p fits done = record {
       fits = subst (λ (u : ℕ). p.shown < 2 ^ (get_or hs u no_head).marks) (sym (place_in t h)) fits;
       done = λ s ok q. subst (λ (u : ℕ). DoneAt s t e (done_with s u p)) (sym (place_in t h)) (done s ok q);
     }
 
+    -- a refused edit leaves them as they were
+    unchanged_by : (x : Refusal) → Unchanged (number_of x) pool table (get_or hs t no_head) (parted hs pool table t (Err x))
+    unchanged_by x = (refl, refl, ap (λ (u : ℕ). get_or hs u no_head) (place_in t h), refl, refl, refl)
+
     -- one run has changed
-    pub run_changed : (e : Edit) {at k one : ℕ} {q : Resize} → Placed e hs pool table t at q k one → Resizes e (get_or hs t no_head) q → (p : Parts)
-        → p.pool ≡ set pool (at + (k + one - 2)) (record { len = (get_or pool (at + (k + one - 2)) no_run).len - q.less + q.more; set = (get_or pool (at + (k + one - 2)) no_run).set })
+    pub run_changed : (e : Edit) {at k one : ℕ} {q : Resize} → Placed e hs pool table t at q k one → Resizes e (get_or hs t no_head) q → (p : Parting)
+        → p.pool ≡ set pool (at + (k + one - 1)) (record { len = (get_or pool (at + (k + one - 1)) no_run).len - q.less + q.more; set = (get_or pool (at + (k + one - 1)) no_run).set })
         → p.table ≡ table
         → p.head ≡ record { touched = true; length = (get_or hs t no_head).length - q.less + q.more; runs = runs_in hs t; marks = (get_or hs t no_head).marks }
         → p.number ≡ 0
         → p.shown < 2 ^ (get_or hs t no_head).marks
-        → pick (take (get_or hs t no_head).marks table.marks) p.shown ≡ shown_by e (pick (take (get_or hs t no_head).marks table.marks) (get_or pool (at + (k + one - 2)) no_run).set)
+        → pick (take (get_or hs t no_head).marks table.marks) p.shown ≡ shown_by e (pick (take (get_or hs t no_head).marks table.marks) (get_or pool (at + (k + one - 1)) no_run).set)
         → p.first ≡ 0
         → EditsParts st hs pool table t e p
     run_changed e {at} {k} {one} {q} placed asked p pool_is table_is head_is number_is fits shown_is first_is =
@@ -122,7 +134,7 @@ module _ {st : List Setting} {hs : List Head} {pool : List Run} {table : Table} 
           taken r.state r.sound t x h (on_state (at_place t h r.parts) (λ st hs pool table. x ≡ tank_in hs pool table t) is)
 
       -- edited and judged
-      module _ (e : Edit) {olens osets : List ℕ} {p : Left} (d : PerformsOn e (lent_on hs table t lens sets) olens osets p) {v : ℕ}
+      module _ (e : Edit) {olens osets : List ℕ} {p : Leaving} (d : PerformsOn e (lent_on hs table t lens sets) olens osets p) {v : ℕ}
           (verdict : v ≡ first_refusal (first_refusal p.number (share_number (made_by e) (share_of st t) (runs_in hs t) p.runs)) (judgement st (runs_in hs) t p.runs)) where
         -- what is known of the parts is known of every state that they are of
         known : (n : ℕ) → p.runs ≡ n → (s : Tanks) → PartsOf s (place_of t) st hs pool table
@@ -130,7 +142,7 @@ module _ {st : List Setting} {hs : List Head} {pool : List Run} {table : Table} 
         known n g s q = on_state (at_place t h q) (Known t e (lent_on hs table t lens sets) p.number n v) (known_by t e p.number st hs pool table is g verdict)
 
         -- the marks that it shows
-        shown : (s : Tanks) → PartsOf s (place_of t) st hs pool table → (m : Parts) → m.shown ≡ p.shown
+        shown : (s : Tanks) → PartsOf s (place_of t) st hs pool table → (m : Parting) → m.shown ≡ p.shown
             → styles_of (pick (take (get_or s.heads t no_head).marks (get_or s.tables t no_table).marks) m.shown) ≡ styles_of (pick (state.table_of (lent_on hs table t lens sets)) p.shown)
         shown s q m b =
             let x : Tank = lent_on hs table t lens sets in
@@ -138,15 +150,21 @@ module _ {st : List Setting} {hs : List Head} {pool : List Run} {table : Table} 
             (ap (λ (n : ℕ). styles_of (pick (state.table_of x) n)) b)
 
         -- refused
-        pub edit_refused : (m : Parts) → 0 < v → Unchanged v pool table (get_or hs t no_head) m → m.shown < 2 ^ (get_or hs t no_head).marks → EditsParts st hs pool table t e m
+        pub edit_refused : (m : Parting) → 0 < v → Unchanged v pool table (get_or hs t no_head) m → m.shown < 2 ^ (get_or hs t no_head).marks → EditsParts st hs pool table t e m
         edit_refused m g u fits =
             let x : Tank = lent_on hs table t lens sets in
             edits_by e m fits
             (λ s ok q. parts_refused s t e ok h x (outcome x olens osets p) (performed d) v (known _ d.runs_are_lem s q) m g
             (on_state (at_place t h q) (λ st hs pool table. Unchanged v pool table (get_or hs t no_head) m) u))
 
+        -- so it is answered
+        pub refused_by : (x : Refusal) → v ≡ number_of x → EditsParts st hs pool table t e (parted hs pool table t (Err x))
+        refused_by x g =
+            edit_refused (parted hs pool table t (Err x)) (omega (arith, g, positive x))
+            (subst (λ (n : ℕ). Unchanged n pool table (get_or hs t no_head) (parted hs pool table t (Err x))) (sym g) (unchanged_by x)) (pow_pos (get_or hs t no_head).marks)
+
         -- accepted, and nothing has changed
-        pub edit_same : (m : Parts) → v ≡ 0 → p.changed ≡ false → m.pool ≡ pool → m.table ≡ table → m.head ≡ get_or hs t no_head → m.number ≡ 0 → m.shown ≡ p.shown → m.first ≡ p.first
+        pub edit_same : (m : Parting) → v ≡ 0 → p.changed ≡ false → m.pool ≡ pool → m.table ≡ table → m.head ≡ get_or hs t no_head → m.number ≡ 0 → m.shown ≡ p.shown → m.first ≡ p.first
             → EditsParts st hs pool table t e m
         edit_same m z same a b c n b' f =
             let x : Tank = lent_on hs table t lens sets in
@@ -181,7 +199,7 @@ module _ {st : List Setting} {hs : List Head} {pool : List Run} {table : Table} 
                 ∙ ap (λ (s : Spots). laid pool s.at (run_from pool y s.from s.full) (p.runs + s.behind)) spots_are
                 ∙ all_written hs pool t y (sum_next (runs_in hs) t 8 h)
 
-            pub edit_done : (m : Parts) → m.pool ≡ last → m.table.marks ≡ table_left p.table (get_or hs t no_head).marks table.marks
+            pub edit_done : (m : Parting) → m.pool ≡ last → m.table.marks ≡ table_left p.table (get_or hs t no_head).marks table.marks
                 → m.head ≡ record { touched = true; length = p.length; runs = p.runs; marks = p.marks } → m.number ≡ 0 → m.shown ≡ p.shown → m.first ≡ p.first → EditsParts st hs pool table t e m
             unfolding puts
             edit_done m a b c n b' f =
@@ -191,3 +209,8 @@ module _ {st : List Setting} {hs : List Head} {pool : List Run} {table : Table} 
                 (λ s ok o. parts_done s t e ok h x (outcome_made x olens osets p) (performed_made d changed) v (known p.runs refl s o) m z
                 (on_state (at_place t h o) (λ st hs pool table. m.pool ≡ pool_with pool (spots_of hs t p.runs) y) (a ∙ laid_is))
                 (ap (λ (ms : List Mark). record { marks = ms }) b) c n (shown s o m b') f)
+
+      -- refused by the tank's own rules, and not judged
+      pub own_refused : (e : Edit) {olens osets : List ℕ} (o : Outline) (x : Refusal) → PerformsOn e (lent_on hs table t lens sets) olens osets (kept_as (number_of x) 0 o)
+          → EditsParts st hs pool table t e (parted hs pool table t (Err x))
+      own_refused e o x d = refused_by e d (first_stays (number_of x) (share_number (made_by e) (share_of st t) (runs_in hs t) o.runs) (judgement st (runs_in hs) t o.runs) (positive x)) x refl

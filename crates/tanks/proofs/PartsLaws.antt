@@ -5,30 +5,32 @@ use mathlib.Core.Bool.{true, false}
 use mathlib.Core.List.{List, []}
 use native.Mathlib.Omega.{arith}
 use native.Mathlib.Decide.{ℕ_discrete, dec_lt}
-use borrow.Author.Tests.{lt-ltb, le-ltb}
+use borrow.Author.Tests.{lt-ltb, le-ltb, ne_eqb}
 use lib.ListN.{length, get_or, set, take, replicate, length-set}
 use lib.Seq.{get_or-set_same, get_or-set_other, ext_get_or}
 use Rattle.laws.proofs.Lists.{stored}
+use Rattle.std.specs.Prelude.{Ok, Err}
+use Rattle.refusal.specs.declared.Refusal.{Refusal}
+use Rattle.refusal.specs.Numbers.{number_of}
 use Rattle.styles.specs.Answers.{styles_of}
 use Rattle.styles.specs.Bits.{pick}
 use Rattle.styles.proofs.UnionLaws.{pick_none}
 use Rattle.tank.specs.declared.Tank.{Tank}
 use Rattle.tank.specs.declared.lent.Outline.{Outline}
-use Rattle.tank.specs.declared.lent.Left.{Left}
 use Rattle.tank.specs.Rules.{View, fresh_view, Edit, first_refusal, made_by}
 use Rattle.tank.specs.State.{table_of, view, Called}
-use Rattle.tank.specs.Lending.{tank_on, tank_made, tank_left}
+use Rattle.tank.specs.Lending.{Leaving, tank_on, tank_made, tank_left}
 use Rattle.tank.proofs.Unique.{tank_eq}
 use Rattle.tanks.specs.declared.Setting.{Setting}
 use Rattle.tanks.specs.declared.Head.{Head}
 use Rattle.tanks.specs.declared.Run.{Run}
+use Rattle.tanks.specs.declared.Parts.{Parts}
 use Rattle.tanks.specs.declared.Table.{Table}
 use Rattle.tanks.specs.declared.Tanks.{Tanks}
-use Rattle.tanks.specs.declared.Parts.{Parts}
 use Rattle.tanks.specs.Settings.{share_of, judgement}
 use Rattle.tanks.specs.House.{share_number, with_tank}
 use Rattle.tanks.specs.Pool.{no_run, no_head, no_table, runs_in, runs_below, meaning, tank_in, tank_of, head_of, table_in, Sound}
-use Rattle.tanks.specs.Promises.{place_of, PartsOf, PartsOfSome, with_parts, shown_of, done_with, CalledAt, EditsParts, Performed, PerformedAs, PerformsOn, DoneAt}
+use Rattle.tanks.specs.Promises.{AppliedAt, Parting, parted, coming_to, place_of, PartsOf, PartsOfSome, with_parts, shown_of, done_with, CalledAt, EditsParts, Performed, PerformedAs, PerformsOn, DoneAt}
 use Rattle.tanks.proofs.Put.{puts}
 use Rattle.tanks.proofs.SettingLaws.{TakenOut, taken}
 use Rattle.tanks.proofs.SliceLaws.{own_stored}
@@ -75,21 +77,25 @@ set_own d xs u h =
     ])
 
 -- the parts of a refused edit
-abbrev pub Unchanged : ℕ → List Run → Table → Head → Parts → Type 0
+abbrev pub Unchanged : ℕ → List Run → Table → Head → Parting → Type 0
 Unchanged v pool table head r = (r.pool ≡ pool) × (r.table ≡ table) × (r.head ≡ head) × (r.number ≡ v) × (r.shown ≡ 0) × (r.first ≡ 0)
 
-with_same : (s : Tanks) (u : ℕ) (r : Parts) → Sound s → u < 8 → r.pool ≡ s.pool → r.table ≡ get_or s.tables u no_table → r.head ≡ get_or s.heads u no_head → with_parts s u r ≡ s
+with_same : (s : Tanks) (u : ℕ) (r : Parting) → Sound s → u < 8 → r.pool ≡ s.pool → r.table ≡ get_or s.tables u no_table → r.head ≡ get_or s.heads u no_head → with_parts s u r ≡ s
 with_same s u r ok h a b c =
     rw (a, b, c, set_own no_table s.tables u (omega (arith, ok.tables_8)), set_own no_head s.heads u (omega (arith, ok.heads_8)))
 
 -- no bits show no marks
-shown_none : (s : Tanks) (u : ℕ) (r : Parts) → r.shown ≡ 0 → styles_of (shown_of s u r) ≡ styles_of []
+shown_none : (s : Tanks) (u : ℕ) (r : Parting) → r.shown ≡ 0 → styles_of (shown_of s u r) ≡ styles_of []
 shown_none s u r e = ap styles_of (ap (pick (take (get_or s.heads u no_head).marks (get_or s.tables u no_table).marks)) e ∙ pick_none _)
 
 -- what the code knows of an edit of tank t on parts: the tank taken out, and the verdict
 abbrev pub Known : ℕ → Edit → Tank → ℕ → ℕ → ℕ → List Setting → List Head → List Run → Table → Type 0
 Known t e x number n v st hs pool table =
     (x ≡ tank_in hs pool table t) × (v ≡ first_refusal (first_refusal number (share_number (made_by e) (share_of st t) (runs_in hs t) n)) (judgement st (runs_in hs) t n))
+
+-- the first refusal stands
+pub first_stays : (n x y : ℕ) → 0 < n → n ≡ first_refusal (first_refusal n x) y
+first_stays n x y h = let e = ne_eqb n 0 (λ z. omega arith) in rw (e, e) refl
 
 -- a tank put back as it was
 same_house : (s : Tanks) (t : ℕ) → t < 8 → with_tank (meaning s) t (view (tank_of s t)) ≡ meaning s
@@ -116,22 +122,22 @@ lent_tank hs pool table t inside few {lens} {sets} l k =
     (l ∙ own_stored hs pool t inside (λ (r : Run). r.len) few) (k ∙ own_stored hs pool t inside (λ (r : Run). r.set) few) refl
 
 -- what an edit on them comes to, and where it has changed the tank
-abbrev pub outcome : Tank → List ℕ → List ℕ → Left → Performed
+abbrev pub outcome : Tank → List ℕ → List ℕ → Leaving → Performed
 outcome x lens sets r = record { number = r.number; styles = styles_of (pick (table_of x) r.shown); first = r.first; tank = tank_left x lens sets r }
 
-abbrev pub outcome_made : Tank → List ℕ → List ℕ → Left → Performed
+abbrev pub outcome_made : Tank → List ℕ → List ℕ → Leaving → Performed
 outcome_made x lens sets r = record { number = r.number; styles = styles_of (pick (table_of x) r.shown); first = r.first; tank = tank_made x lens sets r }
 
-left_made : (x : Tank) (lens sets : List ℕ) (r : Left) → r.changed ≡ true → tank_left x lens sets r ≡ tank_made x lens sets r
+left_made : (x : Tank) (lens sets : List ℕ) (r : Leaving) → r.changed ≡ true → tank_left x lens sets r ≡ tank_made x lens sets r
 left_made x lens sets r c = rw c refl
 
-pub left_same : (x : Tank) (lens sets : List ℕ) (r : Left) → r.changed ≡ false → tank_left x lens sets r ≡ x
+pub left_same : (x : Tank) (lens sets : List ℕ) (r : Leaving) → r.changed ≡ false → tank_left x lens sets r ≡ x
 left_same x lens sets r c = rw c refl
 
-pub performed : {e : Edit} {x : Tank} {lens sets : List ℕ} {r : Left} → PerformsOn e x lens sets r → PerformedAs e x (outcome x lens sets r)
+pub performed : {e : Edit} {x : Tank} {lens sets : List ℕ} {r : Leaving} → PerformsOn e x lens sets r → PerformedAs e x (outcome x lens sets r)
 performed p = record { called = p.called; styles_are = p.styles_are; first_is = p.first_is }
 
-pub performed_made : {e : Edit} {x : Tank} {lens sets : List ℕ} {r : Left} → PerformsOn e x lens sets r → r.changed ≡ true → PerformedAs e x (outcome_made x lens sets r)
+pub performed_made : {e : Edit} {x : Tank} {lens sets : List ℕ} {r : Leaving} → PerformsOn e x lens sets r → r.changed ≡ true → PerformedAs e x (outcome_made x lens sets r)
 performed_made {e} {x} {lens} {sets} {r} p c =
     record { called = subst (λ (y : Tank). Called e x r.number y) (left_made x lens sets r c) p.called; styles_are = p.styles_are; first_is = p.first_is }
 
@@ -144,7 +150,7 @@ known_by t e number st hs pool table {x} {m} {n} {v} q k w =
 
 module _ (s : Tanks) (t : ℕ) (e : Edit) (ok : Sound s) where
   -- no such tank
-  pub parts_past : (r : Parts) → 8 ≤ t → Unchanged 1 s.pool (get_or s.tables (place_of t) no_table) (get_or s.heads 0 no_head) r → DoneAt s t e (done_with s (place_of t) r)
+  pub parts_past : (r : Parting) → 8 ≤ t → Unchanged 1 s.pool (get_or s.tables (place_of t) no_table) (get_or s.heads 0 no_head) r → DoneAt s t e (done_with s (place_of t) r)
   parts_past r h is =
       let z = place_past t h in
       done_refused s t e 1 (done_with s (place_of t) r) (called_past s t e ok h) (omega arith)
@@ -155,13 +161,13 @@ module _ (s : Tanks) (t : ℕ) (e : Edit) (ok : Sound s) where
     unfolding tank_of
     own = taken s ok t x h known.0
 
-    pub parts_refused : (r : Parts) → 0 < v → Unchanged v s.pool (get_or s.tables t no_table) (get_or s.heads t no_head) r → DoneAt s t e (done_with s t r)
+    pub parts_refused : (r : Parting) → 0 < v → Unchanged v s.pool (get_or s.tables t no_table) (get_or s.heads t no_head) r → DoneAt s t e (done_with s t r)
     parts_refused r g is =
         done_refused s t e v (done_with s t r)
         (called_by s t e x p.number p.tank v s ok h own performed.called (tail_refused s t (own_by s t e p.number p.tank.runs) p.tank v ok known.1 g)) g
         (is.3, shown_none s t r is.4, is.5, with_same s t r ok h is.0 is.1 is.2)
 
-    pub parts_done : (r : Parts) → v ≡ 0 → r.pool ≡ (puts s t p.tank).pool → r.table ≡ table_in p.tank → r.head ≡ head_of p.tank → r.number ≡ 0 → styles_of (shown_of s t r) ≡ p.styles → r.first ≡ p.first
+    pub parts_done : (r : Parting) → v ≡ 0 → r.pool ≡ (puts s t p.tank).pool → r.table ≡ table_in p.tank → r.head ≡ head_of p.tank → r.number ≡ 0 → styles_of (shown_of s t r) ≡ p.styles → r.first ≡ p.first
         → DoneAt s t e (done_with s t r)
     unfolding puts
     parts_done r z a b c n d f =
@@ -173,7 +179,7 @@ module _ (s : Tanks) (t : ℕ) (e : Edit) (ok : Sound s) where
         subst (DoneAt s t e) same (done_by s t e x p (puts s t p.tank) h own performed k)
 
     -- nothing has changed: the parts as they were
-    pub parts_same : (r : Parts) → v ≡ 0 → p.tank ≡ x → r.pool ≡ s.pool → r.table ≡ get_or s.tables t no_table → r.head ≡ get_or s.heads t no_head
+    pub parts_same : (r : Parting) → v ≡ 0 → p.tank ≡ x → r.pool ≡ s.pool → r.table ≡ get_or s.tables t no_table → r.head ≡ get_or s.heads t no_head
         → r.number ≡ 0 → styles_of (shown_of s t r) ≡ p.styles → r.first ≡ p.first → DoneAt s t e (done_with s t r)
     parts_same r z q a b c n d f =
         let k =
@@ -189,11 +195,42 @@ module _ (s : Tanks) (t u : ℕ) (place : u ≡ place_of t) (ok : Sound s) where
   pub parts_some : PartsOfSome (place_of t) s.settings s.heads s.pool (get_or s.tables u no_table)
   parts_some = record { state = s; sound = ok; parts = parts_own }
 
-  pub parts_back : (e : Edit) (r : Parts) → EditsParts s.settings s.heads s.pool (get_or s.tables u no_table) t e r → DoneAt s t e (done_with s u r)
+  pub parts_back : (e : Edit) (r : Parting) → EditsParts s.settings s.heads s.pool (get_or s.tables u no_table) t e r → DoneAt s t e (done_with s u r)
   parts_back e r edits = subst (λ (k : ℕ). DoneAt s t e (done_with s k r)) (sym place) (edits.done s ok parts_own)
 
+  -- an accepted edit, what it shows by its bits
+  pub parts_applied : (e : Edit) (p : Parts) → EditsParts s.settings s.heads s.pool (get_or s.tables u no_table) t e (parted s.heads s.pool (get_or s.tables u no_table) t (Ok p))
+      → AppliedAt s t e (record { settings = s.settings; heads = set s.heads u p.head; tables = set s.tables u p.table; pool = p.pool }) (Ok (record { bits = p.shown; first = p.first }))
+  parts_applied e p edits =
+      let r = parted s.heads s.pool (get_or s.tables u no_table) t (Ok p) in
+      record {
+        done =
+            subst (λ (k : ℕ). DoneAt s t e (record {
+              tanks = with_parts s u r;
+              number = 0;
+              styles = styles_of (pick (take (get_or s.heads k no_head).marks (get_or s.tables k no_table).marks) p.shown);
+              first = p.first;
+            })) place (parts_back e r edits);
+        fits = edits.fits;
+      }
+
+  -- where it is refused, the state stays
+  pub parts_kept : (e : Edit) (x : Refusal) → EditsParts s.settings s.heads s.pool (get_or s.tables u no_table) t e (parted s.heads s.pool (get_or s.tables u no_table) t (Err x))
+      → DoneAt s t e (coming_to s (Err x))
+  parts_kept e x edits =
+      let r = parted s.heads s.pool (get_or s.tables u no_table) t (Err x) in
+      let table : r.table ≡ get_or s.tables (place_of t) no_table = ap (λ (k : ℕ). get_or s.tables k no_table) place in
+      let same : done_with s (place_of t) r ≡ coming_to s (Err x) =
+      λ i. record { tanks = with_same s (place_of t) r ok (place_below t) refl table refl i; number = number_of x; styles = shown_none s (place_of t) r refl i; first = 0 } in
+      subst (DoneAt s t e) same (edits.done s ok parts_own)
+
+  -- bits of the tank's marks are those of a table's
+  pub bits_fit : (x : ℕ) → x < 2 ^ (get_or s.heads (place_of t) no_head).marks → ((get_or s.heads u no_head).marks ≤ 64) × (x < 2 ^ (get_or s.heads u no_head).marks)
+  unfolding tank_of tank_in
+  bits_fit x h = ((ok.each u (omega (arith, place, place_below t))).laid.few, rw place h)
+
   -- the bits that it shows are those of a table's marks
-  pub parts_shown : (e : Edit) (r : Parts) → EditsParts s.settings s.heads s.pool (get_or s.tables u no_table) t e r
+  pub parts_shown : (e : Edit) (r : Parting) → EditsParts s.settings s.heads s.pool (get_or s.tables u no_table) t e r
       → ((get_or s.heads u no_head).marks ≤ 64) × (r.shown < 2 ^ (get_or s.heads u no_head).marks)
   unfolding tank_of tank_in
   parts_shown e r edits = ((ok.each u (omega (arith, place, place_below t))).laid.few, rw place edits.fits)

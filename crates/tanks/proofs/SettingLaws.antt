@@ -6,7 +6,7 @@ use mathlib.Core.List.{List}
 use native.Mathlib.Omega.{arith}
 use native.Mathlib.Decide.{dec_lt, dec_le}
 use lib.Dec.{leb, eqb}
-use borrow.Author.Tests.{leb-true, eqb-true, le-leb, lt-ltb, le-ltb, eqb-false, eq-eqb, ne_eqb}
+use borrow.Author.Tests.{leb-true, eqb-true, lt-ltb, le-ltb, eqb-false, eq-eqb, ne_eqb}
 use lib.ListN.{get_or, length, set}
 use mathlib.Core.Logic.{◌≢◌}
 use lib.Seq.{get_or-set_same, get_or-set_other}
@@ -112,9 +112,6 @@ module _ (s : Tanks) (ok : Sound s) where
   sound_judged = record { rule = ok.rule; limits = ok.limits }
 
 -- ---- the code's branches
-pub keeps_last : (s : Setting) → 1 ≤ s.share → s.share ≤ s.limit → leb s.limit 512 ≡ keeps_rule s
-keeps_last s h g = rw (le-leb 1 s.share h, le-leb s.share s.limit g)
-
 pub accepts_not : (st : List Setting) (u : ℕ) → u < 8 → keeps_rule (get_or st u no_setting) ≡ false → false ≡ accepted st
 unfolding accepted
 accepts_not st u h g = rw (all_keep_not st 8 u h g)

@@ -13,22 +13,22 @@ use Rattle.tanks.specs.declared.Run.{Run}
 use Rattle.tank.specs.declared.Tank.{Tank}
 use Rattle.styles.specs.declared.Identity.{Identity}
 use Rattle.styles.specs.declared.Party.{Party}
+use Rattle.styles.specs.declared.Styles.{Styles}
 use Rattle.styles.specs.Answers.{styles_of}
 use Rattle.styles.proofs.AnswerLaws.{styles_inj}
 use Rattle.styles.proofs.SameLaws.{pick_inj}
 use Rattle.tank.specs.Rules.{fresh_view, Edit, inserting, removing}
 use Rattle.tank.proofs.Unique.{same_tank}
+use Rattle.std.specs.Prelude.{Result, []}
+use Rattle.refusal.specs.declared.Refusal.{Refusal}
+use Rattle.refusal.specs.Answers.{number_in, given_or}
+use Rattle.refusal.proofs.NumberLaws.{one_answer}
 use Rattle.tanks.specs.declared.Tanks.{Tanks}
 use Rattle.tanks.specs.declared.Opened.{Opened}
-use Rattle.tanks.specs.declared.Edited.{Edited}
-use Rattle.tanks.specs.declared.Inserted.{Inserted}
-use Rattle.tanks.specs.declared.Removed.{Removed}
-use Rattle.tanks.specs.declared.Done.{Done}
-use Rattle.tanks.specs.declared.Parts.{Parts}
 use Rattle.tanks.specs.declared.Table.{Table}
 use Rattle.tanks.specs.House.{House, inserted_set_at, removed_first_at}
 use Rattle.tanks.specs.Pool.{no_head, no_run, no_table, runs_in, runs_below, tank_in, tank_of, head_of, table_in, meaning, Sound}
-use Rattle.tanks.specs.Promises.{Opens, CalledAt, place_of, PartsOfSome, done_with, EditsParts, DoneAt, Taken}
+use Rattle.tanks.specs.Promises.{Parting, Coming, Opens, CalledAt, place_of, PartsOfSome, done_with, EditsParts, DoneAt, Taken}
 use Rattle.tanks.proofs.SliceLaws.{array_at}
 use Rattle.tanks.proofs.MeaningLaws.{tank_at_lem}
 use Rattle.tanks.proofs.CallLaws.{after_refused}
@@ -119,28 +119,31 @@ module _ {s : Tanks} {t : ℕ} {e : Edit} {n n' : ℕ} {x x' : Tanks} (p : Calle
   pub one_next : x ≡ x'
   one_next = unique x x' p.sound q.sound (p.is ∙ sym q.is)
 
-pub one_edit : (s : Tanks) (t : ℕ) (e : Edit) (r r' : Edited) → CalledAt s t e r.number r.tanks → CalledAt s t e r'.number r'.tanks → r ≡ r'
-one_edit s t e r r' p q = λ i. record { number = one_number p q i; tanks = one_next p q i }
+-- what the code answers of an annotate or a deletion
+pub one_edit : (s : Tanks) (t : ℕ) (e : Edit) (r r' : Result Unit Refusal) (x x' : Tanks) → CalledAt s t e (number_in r) x → CalledAt s t e (number_in r') x' → (r ≡ r') × (x ≡ x')
+one_edit s t e r r' x x' p q = (one_answer tt r r' (one_number p q) refl, one_next p q)
 
-pub one_insert : (s : Tanks) (t : ℕ) (who : Party) (pos len : ℕ) (r r' : Inserted)
-    → CalledAt s t (inserting who pos len) r.number r.tanks → r.styles ≡ styles_of (inserted_set_at (meaning s) t who pos len)
-    → CalledAt s t (inserting who pos len) r'.number r'.tanks → r'.styles ≡ styles_of (inserted_set_at (meaning s) t who pos len) → r ≡ r'
-one_insert s t who pos len r r' p a q b = let f = a ∙ sym b in λ i. record { number = one_number p q i; styles = f i; tanks = one_next p q i }
+-- of an insertion
+pub one_insert : (s : Tanks) (t : ℕ) (who : Party) (pos len : ℕ) (r r' : Result Styles Refusal) (x x' : Tanks)
+    → CalledAt s t (inserting who pos len) (number_in r) x → given_or (styles_of []) r ≡ styles_of (inserted_set_at (meaning s) t who pos len)
+    → CalledAt s t (inserting who pos len) (number_in r') x' → given_or (styles_of []) r' ≡ styles_of (inserted_set_at (meaning s) t who pos len) → (r ≡ r') × (x ≡ x')
+one_insert s t who pos len r r' x x' p a q b = (one_answer (styles_of []) r r' (one_number p q) (a ∙ sym b), one_next p q)
 
-pub one_remove : (s : Tanks) (t : ℕ) (id : Identity) (last : ℕ) (r r' : Removed)
-    → CalledAt s t (removing id last) r.number r.tanks → r.first ≡ removed_first_at (meaning s) t id last
-    → CalledAt s t (removing id last) r'.number r'.tanks → r'.first ≡ removed_first_at (meaning s) t id last → r ≡ r'
-one_remove s t id last r r' p a q b = let f = a ∙ sym b in λ i. record { number = one_number p q i; first = f i; tanks = one_next p q i }
+-- of a removal
+pub one_remove : (s : Tanks) (t : ℕ) (id : Identity) (last : ℕ) (r r' : Result ℕ Refusal) (x x' : Tanks)
+    → CalledAt s t (removing id last) (number_in r) x → given_or 0 r ≡ removed_first_at (meaning s) t id last
+    → CalledAt s t (removing id last) (number_in r') x' → given_or 0 r' ≡ removed_first_at (meaning s) t id last → (r ≡ r') × (x ≡ x')
+one_remove s t id last r r' x x' p a q b = (one_answer 0 r r' (one_number p q) (a ∙ sym b), one_next p q)
 
 -- whichever edit it is
-pub one_done : (s : Tanks) (t : ℕ) (e : Edit) (r r' : Done) → DoneAt s t e r → DoneAt s t e r' → r ≡ r'
+pub one_done : (s : Tanks) (t : ℕ) (e : Edit) (r r' : Coming) → DoneAt s t e r → DoneAt s t e r' → r ≡ r'
 one_done s t e r r' p q =
     let f = p.styles_are ∙ sym q.styles_are in
     let g = p.first_is ∙ sym q.first_is in
     λ i. record { number = one_number p.called q.called i; styles = f i; first = g i; tanks = one_next p.called q.called i }
 
 -- the parts that an edit leaves
-pub one_parts : (t : ℕ) (e : Edit) (st : List Setting) (hs : List Head) (pool : List Run) (table : Table) (p q : Parts) → PartsOfSome (place_of t) st hs pool table
+pub one_parts : (t : ℕ) (e : Edit) (st : List Setting) (hs : List Head) (pool : List Run) (table : Table) (p q : Parting) → PartsOfSome (place_of t) st hs pool table
     → EditsParts st hs pool table t e p → EditsParts st hs pool table t e q → p ≡ q
 unfolding tank_of tank_in
 one_parts t e st hs pool table p q some l r =
@@ -148,8 +151,8 @@ one_parts t e st hs pool table p q some l r =
     let u = place_of t in
     let h : u < 8 = place_below t in
     let d = one_done s t e (done_with s u p) (done_with s u q) (l.done s some.sound some.parts) (r.done s some.sound some.parts) in
-    let a = ap (λ (x : Done). get_or x.tanks.heads u no_head) d in
-    let b = ap (λ (x : Done). get_or x.tanks.tables u no_table) d in
+    let a = ap (λ (x : Coming). get_or x.tanks.heads u no_head) d in
+    let b = ap (λ (x : Coming). get_or x.tanks.tables u no_table) d in
     let head = sym (get_or-set_same s.heads u p.head no_head (omega (arith, some.sound.heads_8))) ∙ a ∙ get_or-set_same s.heads u q.head no_head (omega (arith, some.sound.heads_8)) in
     let marks = sym (get_or-set_same s.tables u p.table no_table (omega (arith, some.sound.tables_8))) ∙ b ∙ get_or-set_same s.tables u q.table no_table (omega (arith, some.sound.tables_8)) in
     let own = (some.sound.each u h).laid in
@@ -157,7 +160,7 @@ one_parts t e st hs pool table p q some l r =
     let ms = take n (get_or s.tables u no_table).marks in
     let long : length ms ≡ n = omega (arith, length-take n (get_or s.tables u no_table).marks, own.few, own.table_64) in
     let small : (x : ℕ) → x < 2 ^ (get_or hs u no_head).marks → x < 2 ^ length ms = λ x b. rw (long, some.parts.heads_are) b in
-    let shown = pick_inj ms p.shown q.shown own.sorted (small p.shown l.fits) (small q.shown r.fits) (styles_inj _ _ (ap (λ (x : Done). x.styles) d)) in
+    let shown = pick_inj ms p.shown q.shown own.sorted (small p.shown l.fits) (small q.shown r.fits) (styles_inj _ _ (ap (λ (x : Coming). x.styles) d)) in
     λ i. record { pool = (d i).tanks.pool; table = marks i; head = head i; number = (d i).number; shown = shown i; first = (d i).first }
 
 -- a tank taken out

@@ -28,11 +28,10 @@ use Rattle.tanks.specs.declared.Run.{Run}
 use Rattle.tanks.specs.declared.Resize.{Resize}
 use Rattle.tanks.specs.declared.Tanks.{Tanks}
 use Rattle.tanks.specs.declared.Table.{Table}
-use Rattle.tanks.specs.declared.Parts.{Parts}
 use Rattle.tanks.specs.Settings.{share_of, claims, held_after, judgement}
 use Rattle.tanks.specs.House.{share_number}
 use Rattle.tanks.specs.Pool.{no_run, no_head, no_table, runs_in, runs_below, lens_in, sets_in, tank_in, tank_of, spots_of, Sound}
-use Rattle.tanks.specs.Promises.{done_with, DoneAt, Performed, PerformedAs}
+use Rattle.tanks.specs.Promises.{Parting, done_with, DoneAt, Performed, PerformedAs}
 use Rattle.tanks.specs.Resizing.{Within, Resizes, Fits, Which, shown_by}
 use Rattle.tanks.proofs.LaidLaws.{laid, length_laid, laid_out, laid_in}
 use Rattle.tanks.proofs.SliceLaws.{array_at}
@@ -42,9 +41,12 @@ use Rattle.tanks.proofs.SettingLaws.{at_each, claims_cong, judge_0, sound_held, 
 use Rattle.tanks.proofs.PartsLaws.{parts_done}
 
 -- ---- what is said of an edit
--- no run is asked for
-pub none_asked : {e : Edit} {h : Head} {r : Resize} → r.to ≡ 0 → Resizes e h r
-none_asked z = record { reach = omega (arith, z); is = λ g. absurd (omega (arith, z)) }
+-- some position is asked for
+pub asked_some : (e : Edit) (h : Head) (r : Resize) → Within e h r → 0 < r.to
+asked_some (annotating a b m) h r w = absurd w
+asked_some (inserting who pos len) h r w = omega (arith, w.from_is, w.to_is)
+asked_some (deleting who a b) h r w = omega (arith, w.up, w.to_is)
+asked_some (removing id last) h r w = absurd w
 
 -- no length leaves its bounds
 pub within_bounds : (e : Edit) (h : Head) (r : Resize) → h.length ≤ largest → r.to ≤ h.length → Within e h r → (r.less ≤ h.length) × (h.length + r.more ≤ largest)
@@ -146,9 +148,9 @@ module _ (x : Tank) (sound : state.Sound x) (i : ℕ) (there : i < x.runs) where
 -- ---- the run that is chosen, where the walk has stopped
 module _ (x : Tank) (sound : state.Sound x) {k from to here next one : ℕ} (w : Walked x.lens x.runs k from to) (q : Resize) (h : Head) (same : h.length ≡ x.length)
     (here-is : 0 < k → here ≡ get_or x.sets (k - 1) 0) (next_is : k < x.runs → next ≡ get_or x.sets k 0)
-    (f : Fits q from to) (c : Which q to here next one) (some : 0 < one) (reached : q.to ≤ to) where
+    (f : Fits q from to) (c : Which q to here next one) (some : 0 < q.to) (reached : q.to ≤ to) where
   there_is : 0 < to
-  there_is = omega (arith, f.some)
+  there_is = omega (arith, some, reached)
 
   begins_at : (i : ℕ) → total (runs x.lens x.sets i) ≡ sums x.lens i
   begins_at i = total_sums x.lens x.sets i
@@ -157,7 +159,7 @@ module _ (x : Tank) (sound : state.Sound x) {k from to here next one : ℕ} (w :
   more_runs : {pos : ℕ} → to ≤ pos → pos < h.length → k < x.runs
   more_runs g l = walk_on w {goal = h.length} (sound.formed.laid.sum ∙ begins_at x.runs) (omega (arith, same)) (omega arith)
 
-  this_suits : (e : Edit) → Within e h q → one ≡ 1 → Suits e x (k - 1)
+  this_suits : (e : Edit) → Within e h q → one ≡ 0 → Suits e x (k - 1)
   this_suits (annotating a b m) u p = absurd u
   this_suits (removing id last) u p = absurd u
   this_suits (deleting who a b) u p =
@@ -181,7 +183,7 @@ module _ (x : Tank) (sound : state.Sound x) {k from to here next one : ℕ} (w :
         ],
       )
 
-  that_suits : (e : Edit) → Within e h q → one ≡ 2 → (k < x.runs) × Suits e x k
+  that_suits : (e : Edit) → Within e h q → one ≡ 1 → (k < x.runs) × Suits e x k
   that_suits (annotating a b m) u p = absurd u
   that_suits (removing id last) u p = absurd u
   that_suits (deleting who a b) u p = absurd (omega (arith, u.more_is, (c.that p).0))
@@ -202,18 +204,18 @@ module _ (x : Tank) (sound : state.Sound x) {k from to here next one : ℕ} (w :
         ),
       )
 
-  pub chosen : (e : Edit) → Within e h q → (2 ≤ k + one) × (k + one - 2 < x.runs) × Suits e x (k + one - 2)
+  pub chosen : (e : Edit) → Within e h q → (1 ≤ k + one) × (k + one - 1 < x.runs) × Suits e x (k + one - 1)
   chosen e u =
       let o = walk_some w there_is in
       let m = c.most in
-      elim (ℕ_discrete one 2) [
+      elim (ℕ_discrete one 1) [
         | yes p ↦
-            let i : k + one - 2 ≡ k = omega arith in
+            let i : k + one - 1 ≡ k = omega arith in
             let d = that_suits e u p in
             (omega arith, rw i d.0, rw i d.1)
         | no p ↦
-            let y : one ≡ 1 = omega arith in
-            let i : k + one - 2 ≡ k - 1 = omega arith in
+            let y : one ≡ 0 = omega arith in
+            let i : k + one - 1 ≡ k - 1 = omega arith in
             (omega arith, rw i (walk_there w there_is), rw i (this_suits e u y))
       ]
 
@@ -294,14 +296,14 @@ module _ (hs : List Head) (pool : List Run) (t i v : ℕ) (there : i < runs_in h
 
 -- ---- the run that was found
 pub record Placed (e : Edit) (hs : List Head) (pool : List Run) (table : Table) (t at : ℕ) (q : Resize) (k one : ℕ) : Type 0 where
-  pub two : 2 ≤ k + one
-  pub there : k + one - 2 < runs_in hs t
-  pub suits : Suits e (tank_in hs pool table t) (k + one - 2)
+  pub two : 1 ≤ k + one
+  pub there : k + one - 1 < runs_in hs t
+  pub suits : Suits e (tank_in hs pool table t) (k + one - 1)
   pub within : Within e (get_or hs t no_head) q
   pub at_is : at ≡ runs_below hs t
   pub place : at + runs_in hs t ≤ 512
-  pub short : q.less ≤ (get_or pool (at + (k + one - 2)) no_run).len
-  pub long : (get_or pool (at + (k + one - 2)) no_run).len ≤ (get_or hs t no_head).length
+  pub short : q.less ≤ (get_or pool (at + (k + one - 1)) no_run).len
+  pub long : (get_or pool (at + (k + one - 1)) no_run).len ≤ (get_or hs t no_head).length
   pub lesser : q.less ≤ (get_or hs t no_head).length
   pub larger : (get_or hs t no_head).length + q.more ≤ largest
 
@@ -331,16 +333,16 @@ module _ (hs : List Head) (pool : List Run) (table : Table) (t : ℕ) (sound : s
   len_of {at} {i} e h = ap (λ (z : ℕ). (get_or pool (z + i) no_run).len) e ∙ sym (array_at hs pool t (λ (r : Run). r.len) refl i h)
 
   pub found : {at k from to here next one : ℕ} (e : Edit) (q : Resize) → at ≡ runs_below hs t → at + runs_in hs t ≤ 512 → Walked (lens_in hs pool t) (runs_in hs t) k from to → Resizes e (get_or hs t no_head) q
-      → q.to ≤ to → here ≡ (get_or pool (at + k - 1) no_run).set → next ≡ (get_or pool (min (at + k) 511) no_run).set → 0 < one → (Fits q from to) × (Which q to here next one)
+      → q.to ≤ to → here ≡ (get_or pool (at + k - 1) no_run).set → next ≡ (get_or pool (min (at + k) 511) no_run).set → (Fits q from to) × (Which q to here next one)
       → Placed e hs pool table t at q k one
   unfolding tank_in
-  found {at} {k} {from} {to} {here} {next} {one} e q i p w r g a b o c =
+  found {at} {k} {from} {to} {here} {next} {one} e q i p w r g a b c =
       let x : Tank = tank_in hs pool table t in
-      let u = r.is c.0.some in
+      let u = r.is in
       let m = within_bounds e (get_or hs t no_head) q (omega (arith, tank_small)) r.reach u in
       let y : 0 < k → here ≡ get_or x.sets (k - 1) 0 = λ z. a ∙ ap (λ (j : ℕ). (get_or pool j no_run).set) (omega arith) ∙ sym (set_of_lem i (omega (arith, w.most))) in
       let v : k < x.runs → next ≡ get_or x.sets k 0 = λ z. b ∙ ap (λ (j : ℕ). (get_or pool j no_run).set) (omega arith) ∙ sym (set_of_lem i z) in
-      let d = chosen x sound w q (get_or hs t no_head) refl y v c.0 c.1 o g e u in
+      let d = chosen x sound w q (get_or hs t no_head) refl y v c.0 c.1 (asked_some e (get_or hs t no_head) q u) g e u in
       let l = len_of i d.1 in
       record {
         two = d.0;
@@ -349,8 +351,8 @@ module _ (hs : List Head) (pool : List Run) (table : Table) (t : ℕ) (sound : s
         within = u;
         at_is = i;
         place = p;
-        short = omega (arith, l, suits_less e x (k + one - 2) (get_or hs t no_head) q u d.2);
-        long = omega (arith, l, tank_sums, sum_next (λ j. get_or (lens_in hs pool t) j 0) (k + one - 2) (runs_in hs t) d.1);
+        short = omega (arith, l, suits_less e x (k + one - 1) (get_or hs t no_head) q u d.2);
+        long = omega (arith, l, tank_sums, sum_next (λ j. get_or (lens_in hs pool t) j 0) (k + one - 1) (runs_in hs t) d.1);
         lesser = m.0;
         larger = m.1;
       }
@@ -359,12 +361,12 @@ module _ (hs : List Head) (pool : List Run) (table : Table) (t : ℕ) (sound : s
 module _ (s : Tanks) (t : ℕ) (e : Edit) (ok : Sound s) (h : t < 8) where
   abbrev pub Did : List Setting → List Head → List Run → Table → Type 0
   Did st hs pool table =
-      (at k one : ℕ) (q : Resize) → Placed e hs pool table t at q k one → Resizes e (get_or hs t no_head) q → (r : Parts)
-      → r.pool ≡ set pool (at + (k + one - 2)) (record { len = (get_or pool (at + (k + one - 2)) no_run).len - q.less + q.more; set = (get_or pool (at + (k + one - 2)) no_run).set })
+      (at k one : ℕ) (q : Resize) → Placed e hs pool table t at q k one → Resizes e (get_or hs t no_head) q → (r : Parting)
+      → r.pool ≡ set pool (at + (k + one - 1)) (record { len = (get_or pool (at + (k + one - 1)) no_run).len - q.less + q.more; set = (get_or pool (at + (k + one - 1)) no_run).set })
       → r.table ≡ table
       → r.head ≡ record { touched = true; length = (get_or hs t no_head).length - q.less + q.more; runs = runs_in hs t; marks = (get_or hs t no_head).marks }
       → r.number ≡ 0
-      → pick (take (get_or hs t no_head).marks table.marks) r.shown ≡ shown_by e (pick (take (get_or hs t no_head).marks table.marks) (get_or pool (at + (k + one - 2)) no_run).set)
+      → pick (take (get_or hs t no_head).marks table.marks) r.shown ≡ shown_by e (pick (take (get_or hs t no_head).marks table.marks) (get_or pool (at + (k + one - 1)) no_run).set)
       → r.first ≡ 0
       → DoneAt s t e (done_with s t r)
 
@@ -376,7 +378,7 @@ module _ (s : Tanks) (t : ℕ) (e : Edit) (ok : Sound s) (h : t < 8) where
       let table = get_or s.tables t no_table in
       let x : Tank = tank_in hs pool table t in
       let own = taken s ok t x h refl in
-      let i = k + one - 2 in
+      let i = k + one - 1 in
       let u = get_or x.lens i 0 - q.less + q.more in
       let v = (get_or pool (at + i) no_run).len - q.less + q.more in
       let n : v ≡ u = ap (λ (l : ℕ). l - q.less + q.more) (len_of hs pool table t own.sound p.at_is p.there) in

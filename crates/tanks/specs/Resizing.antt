@@ -37,23 +37,22 @@ Within (inserting who pos len) h r = InsertsWithin who pos len h r
 Within (deleting who a b) h r = DeletesWithin who a b h r
 Within (removing id last) h r = ⊥
 
--- what is said of an edit of a tank with this head: where `to` is not 0 it is one of the two
+-- what is said of an edit of a tank with this head that asks for a run: it is one of the two
 pub record Resizes (e : Edit) (h : Head) (r : Resize) : Type 0 where
   pub reach : r.to ≤ h.length
-  pub is : 0 < r.to → Within e h r
+  pub is : Within e h r
 
 -- the run that has the positions start .. end is the one that is asked for, and is not left empty
 pub record Fits (r : Resize) (start end : ℕ) : Type 0 where
-  pub some : 0 < r.to
   pub begins : start ≤ r.from
   pub left : r.less < end - start
 
--- of the run that ends at `end`, with the set `here`, and the next one, with the set `next`, the one that an edit changes: 1 and 2, or 0 for neither.
+-- of the run that ends at `end`, with the set `here`, and the next one, with the set `next`, the one that an edit changes: 0 and 1.
 -- Where the runs meet, new positions get what both have in common, so it is the one that has no more than that
 pub record Which (r : Resize) (end here next pick : ℕ) : Type 0 where
-  pub most : pick ≤ 2
-  pub this : pick ≡ 1 → 0 < r.more → end ≤ r.to → bit_and here next ≡ here
-  pub that : pick ≡ 2 → (0 < r.more) × (end ≤ r.to) × (bit_and here next ≡ next)
+  pub most : pick ≤ 1
+  pub this : pick ≡ 0 → 0 < r.more → end ≤ r.to → bit_and here next ≡ here
+  pub that : pick ≡ 1 → (0 < r.more) × (end ≤ r.to) × (bit_and here next ≡ next)
 
 -- of marks that new positions carry, those that an edit shows
 abbrev pub shown_by : Edit → List Mark → List Mark

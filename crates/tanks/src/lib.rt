@@ -7,21 +7,23 @@ mod within; // within.rt: edits that change the length of one run alone
 pub mod look; // look.rt: one tank read where it stands
 pub mod stretches; // stretches.rt: its stretches, likewise
 
-ghost use Rattle.std.specs.Prelude.{◌≡◌, ◌<◌};
+ghost use Rattle.std.specs.Prelude.{◌≡◌, ◌<◌, []};
+ghost use Rattle.refusal.specs.Answers.{number_in, given_or};
 ghost use Rattle.styles.specs.Answers.{styles_of};
 ghost use Rattle.tank.specs.State as state;
-ghost use Rattle.tank.specs.Lending.{tank_on, CanLend};
+ghost use Rattle.tank.specs.Lending.{tank_on, CanLend, left_as};
 ghost use Rattle.tank.specs.Rules.{annotating, deleting, inserting, removing};
 ghost use Rattle.tanks.specs.House.{tank_at, held, inserted_set_at, removed_first_at, ask_number};
 ghost use Rattle.tanks.specs.Pool.{freshly, meaning, Sound};
-ghost use Rattle.tanks.specs.Promises.{Opens, CalledAt, counts, says, Taken, edit_of, place_of, PartsOfSome, EditsParts, PerformsOn, DoneAt, PutAt};
+ghost use Rattle.tanks.specs.Promises.{Opens, CalledAt, counts, says, Taken, edit_of, place_of, PartsOfSome, EditsParts, PerformsOn, DoneAt, AppliedAt, PutAt, parted, coming_to};
 
 use pool::{head_of, spots, start, table_in, taken, turn};
-use settings::{accepts, edit_verdict, verdict};
+use refusal::Refusal;
+use settings::{accepts, judge, judge_edit};
 use styles::{Identity, Mark, Party, Styles};
 use tank::Tank;
 use tank::lent::{Left, Outline};
-use within::{choose, place_before, place_within, resize_of, shown_by};
+use within::{choose, resize_of, shown_by};
 
 // What a tank may count on, and what it may not pass.
 #[derive(Clone, Copy)]
@@ -60,7 +62,7 @@ pub struct Spots {
 }
 
 // An edit that makes one run longer or shorter and leaves the others as they are: the run that has all the positions from .. to, or the next one,
-// loses `less` of its positions, though not all, and gains `more`. Of any other edit `to` is 0.
+// loses `less` of its positions, though not all, and gains `more`.
 #[derive(Clone, Copy)]
 pub struct Resize {
     from: u64,
@@ -92,29 +94,6 @@ pub struct Opened {
     pub number: u64,
 }
 
-// What annotate and delete hand back: 0 or the refusal's number, and the next state.
-#[derive(Clone, Copy)]
-pub struct Edited {
-    pub tanks: Tanks,
-    pub number: u64,
-}
-
-// What insert hands back: beside those the set that the new positions carry, empty where it is refused.
-#[derive(Clone, Copy)]
-pub struct Inserted {
-    pub tanks: Tanks,
-    pub number: u64,
-    pub styles: Styles,
-}
-
-// What a removal hands back: beside those the first position of the stretch, 0 where it is refused.
-#[derive(Clone, Copy)]
-pub struct Removed {
-    pub tanks: Tanks,
-    pub number: u64,
-    pub first: u64,
-}
-
 // An edit of one tank. Insertions and deletions name the party that tries them.
 #[derive(Clone, Copy)]
 pub enum Edit {
@@ -124,12 +103,17 @@ pub enum Edit {
     Remove(Identity, u64),
 }
 
-// What an edit hands back, whichever it is: the set of an insertion, the first position of a removal.
+// What an accepted edit gives, whichever it is: the set of an insertion, the first position of a removal.
 #[derive(Clone, Copy)]
 pub struct Done {
-    pub tanks: Tanks,
-    pub number: u64,
     pub styles: Styles,
+    pub first: u64,
+}
+
+// The same with the set of an insertion by its bits in the table before the call, since a set of marks is a table to copy.
+#[derive(Clone, Copy)]
+pub struct Shown {
+    pub bits: u64,
     pub first: u64,
 }
 
@@ -140,7 +124,6 @@ pub struct Done {
 pub struct Parts {
     pub pool: [Run; 512],
     pub head: Head,
-    pub number: u64,
     pub first: u64,
     pub shown: u64,
     pub table: Table,
@@ -165,14 +148,10 @@ fn fresh(settings: [Setting; 8]) -> Tanks
     ensures { result ≡ freshly settings }
 {
     let mut pool = [Run { len: 0, set: 0 }; 512];
-    let mut u = 0;
-    while u < 8 {
-        pool[u] = Run {
-            len: 4611686018427387903,
-            set: 0,
-        };
-        u += 1;
-    }
+    pool[..8].fill(Run {
+        len: 4611686018427387903,
+        set: 0,
+    });
     Tanks {
         settings: settings,
         heads: [Head {
@@ -213,9 +192,9 @@ fn perform(
     h: Outline,
     table: [Mark; 64],
     call: Edit,
-) -> Left
+) -> Result<Left, Refusal>
     requires { CanLend (tank_on h lens.now sets.old table) olens.old osets.old }
-    ensures { PerformsOn (edit_of call) (tank_on h lens.now sets.old table) olens.new osets.new result }
+    ensures { PerformsOn (edit_of call) (tank_on h lens.now sets.old table) olens.new osets.new (left_as h result) }
 {
     match call {
         Edit::Annotate(start, end, mark) => {
@@ -230,20 +209,6 @@ fn perform(
         Edit::Remove(id, last) => {
             tank::lent::remove(olens, osets, lens, sets, h, table, id, last)
         }
-    }
-}
-
-// A refused call: the parts as they were.
-fn unchanged(number: u64, pool: [Run; 512], table: Table, head: Head) -> Parts
-    ensures { (result.pool ≡ pool) × (result.table ≡ table) × (result.head ≡ head) × (result.number ≡ number) × (result.shown ≡ 0) × (result.first ≡ 0) }
-{
-    Parts {
-        pool: pool,
-        head: head,
-        number: number,
-        first: 0,
-        shown: 0,
-        table: table,
     }
 }
 
@@ -265,62 +230,60 @@ pub fn edit_parts(
     table: Table,
     tank: u64,
     call: Edit,
-) -> Parts
+) -> Result<Parts, Refusal>
     requires { PartsOfSome (place_of tank) settings heads pool table }
-    ensures { EditsParts settings heads pool table tank (edit_of call) result }
+    ensures { EditsParts settings heads pool table tank (edit_of call) (parted heads pool table tank result) }
 {
     if 8 <= tank {
-        return unchanged(1, pool, table, heads[0]);
+        return Err(Refusal::NoSuchTank);
     }
     let t = tank as usize;
     let h = heads[t];
     let n = h.runs;
     let marks = table.marks;
     let at = start(heads, t);
-    let q = resize_of(h, call);
-    let mut k = 0;
-    let mut from = 0;
-    let mut to = 0;
-    while to < q.to {
-        from = to;
-        to += pool[at + k].len;
-        k += 1;
-    }
-    let here = pool[place_before(at + k)].set;
-    let next = pool[place_within(at + k)].set;
-    let pick = choose(q, from, to, here, next);
-    if 0 < pick {
-        let run = at + (k + pick - 2);
-        let old = pool[run];
-        let shown = shown_by(call, marks, h.marks, old.set);
-        pool[run] = Run {
-            len: old.len - q.less + q.more,
-            set: old.set,
-        };
-        return Parts {
-            pool: pool,
-            head: Head {
-                touched: true,
-                length: h.length - q.less + q.more,
-                runs: n,
-                marks: h.marks,
-            },
-            number: 0,
-            first: 0,
-            shown: shown,
-            table: table,
-        };
+    if let Some(q) = resize_of(h, call) {
+        let mut k = 0;
+        let mut from = 0;
+        let mut to = 0;
+        // No `for`: how many runs the walk passes shows only as it goes.
+        while to < q.to {
+            from = to;
+            to += pool[at + k].len;
+            k += 1;
+        }
+        let here = pool[at + k - 1].set;
+        let next = pool[(at + k).min(511)].set;
+        if let Some(pick) = choose(q, from, to, here, next) {
+            let run = at + (k + pick - 1);
+            let old = pool[run];
+            let shown = shown_by(call, marks, h.marks, old.set);
+            pool[run] = Run {
+                len: old.len - q.less + q.more,
+                set: old.set,
+            };
+            return Ok(Parts {
+                pool: pool,
+                head: Head {
+                    touched: true,
+                    length: h.length - q.less + q.more,
+                    runs: n,
+                    marks: h.marks,
+                },
+                first: 0,
+                shown: shown,
+                table: table,
+            });
+        }
     }
     let mut lens = [0u64; 514];
     let mut sets = [0u64; 514];
     let mut olens = [0u64; 514];
     let mut osets = [0u64; 514];
-    let mut i = 0;
-    while i < n {
+    for i in 0..n {
         let r = pool[at + i];
         lens[i] = r.len;
         sets[i] = r.set;
-        i += 1;
     }
     let o = Outline {
         touched: h.touched,
@@ -328,44 +291,36 @@ pub fn edit_parts(
         runs: n,
         marks: h.marks,
     };
-    let done = perform(&mut olens, &mut osets, &lens, &mut sets, o, marks, call);
+    let done = perform(&mut olens, &mut osets, &lens, &mut sets, o, marks, call)?;
     let m = done.runs;
-    let number = edit_verdict(settings, heads, t, call, done.number, m as u64);
-    if 0 < number {
-        return unchanged(number, pool, table, h);
-    }
+    judge_edit(settings, heads, t, call, m as u64)?;
     if !done.changed {
-        return Parts {
+        return Ok(Parts {
             pool: pool,
             head: h,
-            number: 0,
             first: done.first,
             shown: done.shown,
             table: table,
-        };
+        });
     }
     let s = spots(heads, t, m);
-    let mut k = 0;
-    while k < s.behind {
+    for k in 0..s.behind {
         let j = turn(s.grows, k, s.behind);
-        k += 1;
         if j < s.left {
             pool[s.at + m + j] = pool[s.from + j];
         } else {
             pool[s.at + m + j] = Run { len: 0, set: 0 };
         }
     }
-    let mut own = 0;
-    while own < m {
+    for own in 0..m {
         pool[s.at + own] = Run {
             len: olens[own],
             set: osets[own],
         };
-        own += 1;
     }
     let change = done.table;
     let next = tank::lent::table_left(marks, h.marks, change);
-    Parts {
+    Ok(Parts {
         pool: pool,
         head: Head {
             touched: true,
@@ -373,11 +328,10 @@ pub fn edit_parts(
             runs: m,
             marks: done.marks,
         },
-        number: 0,
         first: done.first,
         shown: done.shown,
         table: Table { marks: next },
-    }
+    })
 }
 
 impl Tanks {
@@ -393,141 +347,115 @@ impl Tanks {
     }
 
     // One edit of one tank, put together from what its parts become.
-    pub fn edit(mut self, tank: u64, call: Edit) -> Done
-        requires { Sound self }
-        ensures { DoneAt self tank (edit_of call) result }
+    pub fn apply(&mut self, tank: u64, call: Edit) -> Result<Shown, Refusal>
+        requires { Sound self.old }
+        ensures { AppliedAt self.old tank (edit_of call) self.new result }
     {
         let t = place(tank);
         let settings = self.settings;
         let heads = self.heads;
         let pool = self.pool;
         let table = self.tables[t];
-        let p = edit_parts(settings, heads, pool, table, tank, call);
+        let p = edit_parts(settings, heads, pool, table, tank, call)?;
         let next = p.pool;
         self.pool = next;
         let head = p.head;
         self.heads[t] = head;
         let left = p.table;
         self.tables[t] = left;
-        let h = heads[t];
-        let marks = table.marks;
-        let styles = styles::table::styles_of(marks, h.marks, p.shown);
-        Done {
-            number: p.number,
-            styles: styles,
+        Ok(Shown {
+            bits: p.shown,
             first: p.first,
-            tanks: self,
-        }
+        })
+    }
+
+    // The same, and what it shows as a set.
+    pub fn edit(&mut self, tank: u64, call: Edit) -> Result<Done, Refusal>
+        requires { Sound self.old }
+        ensures { DoneAt self.old tank (edit_of call) (coming_to self.new result) }
+    {
+        let t = place(tank);
+        let heads = self.heads;
+        let h = heads[t];
+        let table = self.tables[t];
+        let shown = self.apply(tank, call)?;
+        let marks = table.marks;
+        let styles = styles::table::styles_of(marks, h.marks, shown.bits);
+        Ok(Done {
+            styles: styles,
+            first: shown.first,
+        })
     }
 
     // Tank t replaced by another, judged as an edit that leaves it so would be.
-    pub fn put(mut self, t: usize, x: Tank) -> Edited
-        requires { (Sound self) × (t < 8) × (state.Formed x) }
-        ensures { PutAt self t x result.number result.tanks }
+    pub fn put(&mut self, t: usize, x: Tank) -> Result<(), Refusal>
+        requires { (Sound self.old) × (t < 8) × (state.Formed x) }
+        ensures { PutAt self.old t x (number_in result) self.new }
     {
         let heads = self.heads;
         let m = x.runs;
-        let number = verdict(self.settings, heads, t, 0, m as u64);
-        if 0 < number {
-            return Edited {
-                number: number,
-                tanks: self,
-            };
-        }
+        judge(self.settings, heads, t, m as u64)?;
         let s = spots(heads, t, m);
-        let mut k = 0;
-        while k < s.count {
+        for k in 0..s.count {
             let j = turn(s.grows, k, s.count);
-            k += 1;
             if j < m {
                 self.pool[s.at + j] = Run {
                     len: x.lens[j],
                     set: x.sets[j],
                 };
+            } else if j < s.full {
+                self.pool[s.at + j] = self.pool[s.from + (j - m)];
             } else {
-                if j < s.full {
-                    self.pool[s.at + j] = self.pool[s.from + (j - m)];
-                } else {
-                    self.pool[s.at + j] = Run { len: 0, set: 0 };
-                }
+                self.pool[s.at + j] = Run { len: 0, set: 0 };
             }
         }
         self.heads[t] = head_of(x);
         self.tables[t] = table_in(x);
-        Edited {
-            number: 0,
-            tanks: self,
-        }
+        Ok(())
     }
 
-    // Every position of start .. end of the tank gains the mark. It goes to the parts itself and not through `edit`: with two that call it
-    // `edit_parts` stays a function of its own, and these two are put into their callers, so that the state is not copied for a call.
-    pub fn annotate(mut self, tank: u64, start: u64, end: u64, mark: Mark) -> Edited
-        requires { Sound self }
-        ensures { CalledAt self tank (annotating start end mark) result.number result.tanks }
+    // Every position of start .. end of the tank gains the mark.
+    pub fn annotate(&mut self, tank: u64, start: u64, end: u64, mark: Mark) -> Result<(), Refusal>
+        requires { Sound self.old }
+        ensures { CalledAt self.old tank (annotating start end mark) (number_in result) self.new }
     {
-        let t = place(tank);
-        let settings = self.settings;
-        let heads = self.heads;
-        let pool = self.pool;
-        let table = self.tables[t];
-        let call = Edit::Annotate(start, end, mark);
-        let p = edit_parts(settings, heads, pool, table, tank, call);
-        let next = p.pool;
-        self.pool = next;
-        let head = p.head;
-        self.heads[t] = head;
-        let marks = p.table;
-        self.tables[t] = marks;
-        Edited {
-            tanks: self,
-            number: p.number,
-        }
+        self.apply(tank, Edit::Annotate(start, end, mark))?;
+        Ok(())
     }
 
     // The positions start .. end of the tank go, and later ones move down. The lab deletes nothing.
-    pub fn delete(self, tank: u64, who: Party, start: u64, end: u64) -> Edited
-        requires { Sound self }
-        ensures { CalledAt self tank (deleting who start end) result.number result.tanks }
+    pub fn delete(&mut self, tank: u64, who: Party, start: u64, end: u64) -> Result<(), Refusal>
+        requires { Sound self.old }
+        ensures { CalledAt self.old tank (deleting who start end) (number_in result) self.new }
     {
-        let done = self.edit(tank, Edit::Delete(who, start, end));
-        let tanks = done.tanks;
-        Edited {
-            number: done.number,
-            tanks: tanks,
-        }
+        self.apply(tank, Edit::Delete(who, start, end))?;
+        Ok(())
     }
 
     // `len` positions more before `pos` of the tank, with the marks that both its neighbours carry: the answer is those of them that are the
     // party's. The lab inserts nothing.
-    pub fn insert(self, tank: u64, who: Party, pos: u64, len: u64) -> Inserted
-        requires { Sound self }
-        ensures called_at { CalledAt self tank (inserting who pos len) result.number result.tanks }
-        ensures styles_value { result.styles ≡ styles_of (inserted_set_at (meaning self) tank who pos len) }
+    pub fn insert(&mut self, tank: u64, who: Party, pos: u64, len: u64) -> Result<Styles, Refusal>
+        requires { Sound self.old }
+        ensures called_at { CalledAt self.old tank (inserting who pos len) (number_in result) self.new }
+        ensures styles_value { given_or (styles_of []) result ≡ styles_of (inserted_set_at (meaning self.old) tank who pos len) }
     {
-        let done = self.edit(tank, Edit::Insert(who, pos, len));
-        let tanks = done.tanks;
-        let styles = done.styles;
-        Inserted {
-            number: done.number,
-            styles: styles,
-            tanks: tanks,
-        }
+        let done = self.edit(tank, Edit::Insert(who, pos, len))?;
+        Ok(done.styles)
     }
 
     // The longest stretch of the tank ending at `last` whose positions all carry the identity loses it: the answer is its first position.
-    pub fn remove_style_scanning_backward(self, tank: u64, id: Identity, last: u64) -> Removed
-        requires { Sound self }
-        ensures called_at { CalledAt self tank (removing id last) result.number result.tanks }
-        ensures first_value { result.first ≡ removed_first_at (meaning self) tank id last }
+    pub fn remove_style_scanning_backward(
+        &mut self,
+        tank: u64,
+        id: Identity,
+        last: u64,
+    ) -> Result<u64, Refusal>
+        requires { Sound self.old }
+        ensures called_at { CalledAt self.old tank (removing id last) (number_in result) self.new }
+        ensures first_value { given_or 0 result ≡ removed_first_at (meaning self.old) tank id last }
     {
-        let done = self.edit(tank, Edit::Remove(id, last));
-        let tanks = done.tanks;
-        Removed {
-            number: done.number,
-            first: done.first,
-            tanks: tanks,
-        }
+        let shown = self.apply(tank, Edit::Remove(id, last))?;
+        Ok(shown.first)
     }
 
     // How many positions the tank has.

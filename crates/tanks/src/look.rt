@@ -15,7 +15,7 @@ ghost use Rattle.tanks.specs.Looks.{run_list, CanWalk, Within, Stands, shown_in,
 use super::pool::start;
 use super::{Head, Run, Table};
 use runs::scan::{Test, holds};
-use styles::{Party, Ranked, Styles, Value, Winner};
+use styles::{Mark, Party, Styles, Value};
 
 // From where to where a stretch goes, both ends in it.
 #[derive(Clone, Copy)]
@@ -50,12 +50,10 @@ fn set_in(heads: [Head; 8], pool: [Run; 512], t: usize, pos: u64) -> u64
     let at = start(heads, t);
     let h = heads[t];
     let n = h.runs;
-    let mut i = 0;
     let mut end: u64 = 0;
-    while i < n {
+    for i in 0..n {
         let r = pool[at + i];
         end += r.len;
-        i += 1;
         if pos < end {
             return r.set;
         }
@@ -67,10 +65,7 @@ fn set_in(heads: [Head; 8], pool: [Run; 512], t: usize, pos: u64) -> u64
 fn joint(begun: u64, pos: u64, last: u64, set: u64) -> u64
     ensures { result ≡ cond (ltb begun pos) set (bit_and last set) }
 {
-    if begun < pos {
-        return set;
-    }
-    last & set
+    if begun < pos { set } else { last & set }
 }
 
 // The bits that positions pos - 1 and pos of tank t have in common, of both parties; none at either end.
@@ -81,14 +76,12 @@ fn common_in(heads: [Head; 8], pool: [Run; 512], t: usize, pos: u64) -> u64
     let at = start(heads, t);
     let h = heads[t];
     let n = h.runs;
-    let mut i = 0;
     let mut end: u64 = 0;
     let mut last: u64 = 0;
-    while i < n {
+    for i in 0..n {
         let r = pool[at + i];
         let begun = end;
         end += r.len;
-        i += 1;
         if pos < end {
             return joint(begun, pos, last, r.set);
         }
@@ -101,10 +94,7 @@ fn common_in(heads: [Head; 8], pool: [Run; 512], t: usize, pos: u64) -> u64
 fn passes_from(from: u64, end: u64, test: Test, set: u64) -> bool
     ensures { result ≡ (ltb from end && passes test set) }
 {
-    if end <= from {
-        return false;
-    }
-    holds(test, set)
+    from < end && holds(test, set)
 }
 
 // Whether some position of from .. to of tank t has a set that passes the test. Runs from `to` on are not looked at.
@@ -115,15 +105,13 @@ fn some_in(heads: [Head; 8], pool: [Run; 512], t: usize, from: u64, to: u64, tes
     let at = start(heads, t);
     let h = heads[t];
     let n = h.runs;
-    let mut i = 0;
     let mut end: u64 = 0;
-    while i < n {
+    for i in 0..n {
         if to <= end {
             return false;
         }
         let r = pool[at + i];
         end += r.len;
-        i += 1;
         if passes_from(from, end, test, r.set) {
             return true;
         }
@@ -139,16 +127,14 @@ fn reach_in(heads: [Head; 8], pool: [Run; 512], t: usize, own: u64, pos: u64) ->
     let at = start(heads, t);
     let h = heads[t];
     let n = h.runs;
-    let mut i = 0;
     let mut end: u64 = 0;
     let mut first: u64 = 0;
     let mut one: u64 = 0;
-    while i < n {
+    for i in 0..n {
         let r = pool[at + i];
         let bits = r.set & own;
         let begun = end;
         end += r.len;
-        i += 1;
         if bits != one {
             if pos < begun {
                 return Reach {
@@ -194,7 +180,7 @@ pub fn winner_at(
     who: Party,
     pos: u64,
     key: u16,
-) -> Winner
+) -> Option<Mark>
     requires { Stands heads pool table t }
     ensures { result ≡ winner key ((shown_in heads pool table t who).at pos) }
 {
@@ -234,7 +220,7 @@ pub fn ranked_at(
     who: Party,
     pos: u64,
     rank: u64,
-) -> Ranked
+) -> Option<Mark>
     requires { Stands heads pool table t }
     ensures { result ≡ rank_of ((shown_in heads pool table t who).at pos) rank }
 {
@@ -298,7 +284,7 @@ pub fn ranked_for_insert(
     who: Party,
     pos: u64,
     rank: u64,
-) -> Ranked
+) -> Option<Mark>
     requires { (Stands heads pool table t) × (pos ≤ (get_or heads t no_head).length) }
     ensures { result ≡ rank_of (for_insert pos (shown_in heads pool table t who)) rank }
 {

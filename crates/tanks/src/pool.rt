@@ -11,18 +11,10 @@ pub fn start(heads: [Head; 8], t: usize) -> usize
     ensures { result ≡ runs_below heads t }
 {
     let mut at = 0;
-    let mut u = 0;
-    while u < t {
-        at += heads[u].runs;
-        u += 1;
+    for h in &heads[..t] {
+        at += h.runs;
     }
     at
-}
-
-fn larger(a: usize, b: usize) -> usize
-    ensures { result ≡ max a b }
-{
-    if a < b { b } else { a }
 }
 
 // How many places behind a tank's own are to be written where it comes to hold m runs and held n: none where those behind it stay.
@@ -30,10 +22,7 @@ fn behind(m: usize, n: usize, count: usize) -> usize
     requires { m ≤ count }
     ensures { result ≡ cond (eqb m n) 0 (count - m) }
 {
-    if m == n {
-        return 0;
-    }
-    count - m
+    if m == n { 0 } else { count - m }
 }
 
 // What the pool has from tank t's place on, were the tank to hold m runs.
@@ -46,7 +35,7 @@ pub fn spots(heads: [Head; 8], t: usize, m: usize) -> Spots
     let n = heads[t].runs;
     let from = at + n;
     let left = all - from;
-    let count = larger(m, n) + left;
+    let count = m.max(n) + left;
     Spots {
         at: at,
         from: from,
@@ -77,12 +66,10 @@ pub fn taken(heads: [Head; 8], pool: [Run; 512], table: Table, t: usize) -> Tank
     let marks = table.marks;
     let mut lens = [0u64; 514];
     let mut sets = [0u64; 514];
-    let mut i = 0;
-    while i < n {
+    for i in 0..n {
         let r = pool[at + i];
         lens[i] = r.len;
         sets[i] = r.set;
-        i += 1;
     }
     Tank {
         touched: h.touched,

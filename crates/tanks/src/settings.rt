@@ -1,5 +1,6 @@
 // The settings' rule at opening, and the judgement by shares and limits.
 ghost use Rattle.std.specs.Prelude.{◌≡◌, cond, ◌<◌, max, eqb};
+ghost use Rattle.refusal.specs.Answers.{number_in};
 ghost use Rattle.tanks.specs.Settings.{share_of, keeps_rule, accepted, claims, held_after, judgement};
 ghost use Rattle.tank.specs.Rules.{made_by, passes_share, first_refusal};
 ghost use Rattle.tanks.specs.Pool.{runs_in};
@@ -7,25 +8,14 @@ ghost use Rattle.tanks.specs.Promises.{Judged, Small, edit_of};
 ghost use Rattle.tanks.specs.House.{share_number};
 
 use super::{Edit, Head, Setting};
+use refusal::Refusal;
 use styles::Party;
-
-fn larger(a: u64, b: u64) -> u64
-    ensures { result ≡ max a b }
-{
-    if a < b { b } else { a }
-}
 
 // Whether a pair of share and limit keeps the rule.
 fn keeps_rule(s: Setting) -> bool
     ensures { result ≡ keeps_rule s }
 {
-    if s.share < 1 {
-        return false;
-    }
-    if s.limit < s.share {
-        return false;
-    }
-    s.limit <= 512
+    1 <= s.share && s.share <= s.limit && s.limit <= 512
 }
 
 // Whether eight pairs keep the rule. Each is tested before its share is added, so the sum fits.
@@ -33,14 +23,11 @@ pub fn accepts(settings: [Setting; 8]) -> bool
     ensures { result ≡ accepted settings }
 {
     let mut sum = 0;
-    let mut u = 0;
-    while u < 8 {
-        let s = settings[u];
-        if !keeps_rule(s) {
+    for s in &settings {
+        if !keeps_rule(*s) {
             return false;
         }
         sum += s.share;
-        u += 1;
     }
     sum <= 512
 }
@@ -58,41 +45,27 @@ fn claimed(settings: [Setting; 8], heads: [Head; 8], t: usize, n: u64) -> u64
     ensures { result ≡ claims settings (held_after (runs_in heads) t n) 8 }
 {
     let mut sum = 0;
-    let mut u = 0;
-    while u < 8 {
+    for u in 0..8 {
         let runs = held_after(u, t, n, heads[u].runs as u64);
-        sum += larger(runs, settings[u].share);
-        u += 1;
+        sum += runs.max(settings[u].share);
     }
     sum
 }
 
-// 9 or 10, or 0 where tank t may hold n runs.
-fn judge(settings: [Setting; 8], heads: [Head; 8], t: usize, n: u64) -> u64
+// May tank t hold n runs, by its limit and by what all eight may hold?
+pub fn judge(settings: [Setting; 8], heads: [Head; 8], t: usize, n: u64) -> Result<(), Refusal>
     requires t_bound { t < 8 }
     requires judged { Judged settings heads }
-    ensures { result ≡ judgement settings (runs_in heads) t n }
+    ensures { number_in result ≡ judgement settings (runs_in heads) t n }
 {
     if settings[t].limit < n {
-        return 9;
+        return Err(Refusal::OverLimit);
     }
     let sum = claimed(settings, heads, t, n);
     if 512 < sum {
-        return 10;
+        return Err(Refusal::OverPool);
     }
-    0
-}
-
-// The number that the tank's own edit was refused by; else 9 or 10, or 0 where tank t may hold n runs.
-pub fn verdict(settings: [Setting; 8], heads: [Head; 8], t: usize, number: u64, n: u64) -> u64
-    requires t_bound { t < 8 }
-    requires judged { Judged settings heads }
-    ensures { result ≡ first_refusal number (judgement settings (runs_in heads) t n) }
-{
-    if 0 < number {
-        return number;
-    }
-    judge(settings, heads, t, n)
+    Ok(())
 }
 
 // Who makes an edit: the party of the mark or of the identity, or the one that tries.
@@ -100,16 +73,10 @@ fn maker(call: Edit) -> Party
     ensures { result ≡ made_by (edit_of call) }
 {
     match call {
-        Edit::Annotate(start, end, mark) => {
-            let who = mark.party;
-            who
-        }
-        Edit::Insert(who, pos, len) => who,
-        Edit::Delete(who, start, end) => who,
-        Edit::Remove(id, last) => {
-            let who = id.party;
-            who
-        }
+        Edit::Annotate(_, _, mark) => mark.party,
+        Edit::Insert(who, _, _) => who,
+        Edit::Delete(who, _, _) => who,
+        Edit::Remove(id, _) => id.party,
     }
 }
 
@@ -117,49 +84,24 @@ fn maker(call: Edit) -> Party
 fn passes_share(who: Party, share: u64, before: u64, n: u64) -> bool
     ensures { result ≡ passes_share who share before n }
 {
-    if tank::is_lab(who) {
-        if before < n {
-            return share < n;
-        }
-        return false;
-    }
-    false
+    tank::is_lab(who) && before < n && share < n
 }
 
-// The number that the tank's own edit was refused by; else 17, or 0 where the party may leave tank t with n runs.
-fn own_number(
-    settings: [Setting; 8],
-    heads: [Head; 8],
-    t: usize,
-    who: Party,
-    number: u64,
-    n: u64,
-) -> u64
-    requires { t < 8 }
-    ensures { result ≡ first_refusal number (share_number who (share_of settings t) (runs_in heads t) n) }
-{
-    if 0 < number {
-        return number;
-    }
-    if passes_share(who, settings[t].share, heads[t].runs as u64, n) {
-        return 17;
-    }
-    0
-}
-
-// The number of an edit: what its tank refuses it by, then 17, then 9 or 10, or 0 where tank t may hold n runs.
-pub fn edit_verdict(
+// May the edit leave tank t with n runs, by its party's share and then as above?
+pub fn judge_edit(
     settings: [Setting; 8],
     heads: [Head; 8],
     t: usize,
     call: Edit,
-    number: u64,
     n: u64,
-) -> u64
+) -> Result<(), Refusal>
     requires t_bound { t < 8 }
     requires judged { Judged settings heads }
-    ensures { result ≡ first_refusal (first_refusal number (share_number (made_by (edit_of call)) (share_of settings t) (runs_in heads t) n)) (judgement settings (runs_in heads) t n) }
+    ensures { number_in result ≡ first_refusal (share_number (made_by (edit_of call)) (share_of settings t) (runs_in heads t) n) (judgement settings (runs_in heads) t n) }
 {
-    let own = own_number(settings, heads, t, maker(call), number, n);
-    verdict(settings, heads, t, own, n)
+    let who = maker(call);
+    if passes_share(who, settings[t].share, heads[t].runs as u64, n) {
+        return Err(Refusal::OverShare);
+    }
+    judge(settings, heads, t, n)
 }

@@ -28,17 +28,15 @@ fn count_in(
     let at = start(heads, t);
     let h = heads[t];
     let n = h.runs;
-    let mut i = 0;
     let mut end: u64 = 0;
     let mut first: u64 = 0;
     let mut one: u64 = 0;
     let mut count = 0;
-    while i < n {
+    for i in 0..n {
         let r = pool[at + i];
         let bits = r.set & own;
         let begun = end;
         end += r.len;
-        i += 1;
         if bits != one {
             count += part_width(from, to, first, begun, one, least);
             first = begun;
@@ -66,17 +64,15 @@ fn list_in(
     let at = start(heads, t);
     let h = heads[t];
     let n = h.runs;
-    let mut i = 0;
     let mut end: u64 = 0;
     let mut first: u64 = 0;
     let mut one: u64 = 0;
     let mut filled = 0;
-    while i < n {
+    for i in 0..n {
         let r = pool[at + i];
         let bits = r.set & own;
         let begun = end;
         end += r.len;
-        i += 1;
         if bits != one {
             filled = write_part(out, filled, from, to, first, begun, one, least);
             first = begun;

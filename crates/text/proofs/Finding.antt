@@ -1,15 +1,17 @@
 -- Where a byte stands first: the bytes in front of it, whether it is there, and a search from place to place.
 use mathlib.Core.Path.{◌≡◌, refl, sym, ap, ◌∙◌}
-use mathlib.Core.Bool.{true}
+use Rattle.std.specs.Prelude.{Some, None}
+use Rattle.std.specs.Option.{unwrap_or}
+use Rattle.std.specs.List.{position_or_len}
+use Rattle.std.proofs.lemmas.List.Recursion.{is_position_or_len}
+use mathlib.Core.Bool.{true, cond}
 use mathlib.Core.List.{List, [], ◌∷◌}
-use Prim.Native.Nat.{ℕ, suc, ◌+◌, ◌-◌, ◌≤◌, ◌<◌}
-use native.Mathlib.Decide.{ℕ_discrete}
-use native.Mathlib.Numerals.{add-one}
+use Prim.Native.Nat.{ℕ, suc, ◌+◌, ◌-◌, ◌≤◌}
+use native.Mathlib.Decide.{ℕ_discrete, dec_lt}
 use native.Mathlib.Omega.{arith}
-use lib.Dec.{ltb, leb-suc-suc}
-use lib.ListN.{length, get_or, take, drop, length-take, length-drop, drop_of_length-le}
-use lib.Seq.{drop-cons}
-use borrow.Author.Tests.{eq-eqb, ne_eqb, lt-ltb}
+use lib.Dec.{eqb, ltb, leb-suc-suc}
+use lib.ListN.{length, take, drop, length-take, length-drop, drop_of_length-le}
+use borrow.Author.Tests.{eq-eqb, ne_eqb, lt-ltb, le-ltb}
 use Rattle.text.specs.Bytes.{up_to, holds}
 
 module _ (b x : ℕ) (xs : List ℕ) where
@@ -68,15 +70,25 @@ held_by_length b (x ∷ xs) =
     ]
 
 -- ---- the search
-module _ (b : ℕ) (l : List ℕ) (i : ℕ) (h : i < length l) where
-  pub found_here : get_or l i 0 ≡ b → length (up_to b (drop i l)) ≡ 0
-  found_here e = ap (λ (t : List ℕ). length (up_to b t)) (drop-cons l i 0 h) ∙ ap length (front_here b (get_or l i 0) (drop (suc i) l) e)
-
-  pub found_later : (get_or l i 0 ≡ b → ⊥) → length (up_to b (drop i l)) ≡ suc (length (up_to b (drop (i + 1) l)))
-  found_later e =
-      ap (λ (t : List ℕ). length (up_to b t)) (drop-cons l i 0 h)
-      ∙ ap length (front_past b (get_or l i 0) (drop (suc i) l) e)
-      ∙ ap (λ (k : ℕ). suc (length (up_to b (drop k l)))) (sym (add-one i))
-
 pub found_none : (b : ℕ) (l : List ℕ) (i : ℕ) → length l ≤ i → length (up_to b (drop i l)) ≡ 0
 found_none b l i h = ap (λ (t : List ℕ). length (up_to b t)) (drop_of_length-le l h) ∙ ap length (front_none b)
+
+-- the bytes in front of a byte are as many as its place, or all of them
+front_step : (b x : ℕ) (xs : List ℕ) → length (up_to b (x ∷ xs)) ≡ cond (eqb x b) 0 (1 + length (up_to b xs))
+front_step b x xs =
+    elim (ℕ_discrete x b) [
+      | yes e ↦ rw (eq-eqb x b e) (ap length (front_here b x xs e))
+      | no e ↦ rw (ne_eqb x b e) (omega (arith, ap length (front_past b x xs e)))
+    ]
+
+pub front_position : (b : ℕ) (l : List ℕ) → length (up_to b l) ≡ position_or_len (λ x. eqb x b) l
+front_position b = is_position_or_len (λ l. length (up_to b l)) (λ x. eqb x b) (ap length (front_none b)) (front_step b)
+
+-- what `position` answers, or all of them
+pub front_found : (b : ℕ) (l : List ℕ) → unwrap_or (cond (ltb (position_or_len (λ x. eqb x b) l) (length l)) (Some (position_or_len (λ x. eqb x b) l)) None) (length l) ≡ length (up_to b l)
+front_found b l =
+    rw (← front_position b l)
+    (elim (dec_lt (length (up_to b l)) (length l)) [
+      | yes h ↦ rw (lt-ltb (length (up_to b l)) (length l) h) refl
+      | no h ↦ rw (le-ltb (length (up_to b l)) (length l) (omega arith)) (omega (arith, front_length b l))
+    ])

@@ -1,4 +1,5 @@
 -- The parsers are exact: a text is accepted where it is the text of a number below 2^64, and the answer is that number. So what is accepted is what is printed (`same_text`).
+use Rattle.std.specs.Prelude.{Option, Some, None}
 use mathlib.Core.Path.{◌≡◌, refl, sym, ap, ◌∙◌, subst}
 use mathlib.Core.Bool.{Bool, true, false, cond, ◌&&◌, ◌||◌, and-eq-true_iff, false≢true}
 use mathlib.Core.List.{List, [], ◌∷◌, ◌++◌}
@@ -12,7 +13,6 @@ use lib.Dec.{ltb, eqb}
 use lib.ListN.{length, get_or, length-append}
 use borrow.Author.Tests.{lt-ltb, le-ltb, eq-eqb, ne_eqb, ltb-true, eqb-true, eqb-false}
 use Rattle.io.specs.Digits.{hex_digit_ascii, last_digits, IsDigitCount}
-use Rattle.text.specs.declared.Parsed.{Parsed}
 use Rattle.text.specs.Number.{digit_of, is_digit, fitting, number_in, decimal_of, hex_of, Text, places_from, decimal_text, hex_text}
 use Rattle.text.proofs.Steps.{step_of, followed_by, number_from, digit_low, digit_high, glyph_low, glyph_high, good, push, number_from_lem}
 
@@ -37,29 +37,29 @@ pub record Opened (b v c n : ℕ) (cs : List ℕ) : Type 0 where
   pub small : digit_of c < b
   pub is_glyph : hex_digit_ascii (digit_of c) ≡ c
   pub fits : v * b + digit_of c < 2 ^ 64
-  pub rest : number_from b (v * b + digit_of c) cs ≡ Parsed.Number n
+  pub rest : number_from b (v * b + digit_of c) cs ≡ Some n
 
 -- what is good behind a test passed it
-pub passed : (t : Bool) (n : ℕ) (p : Parsed) → cond t p Parsed.Bad ≡ Parsed.Number n → (t ≡ true) × (p ≡ Parsed.Number n)
+pub passed : (t : Bool) (n : ℕ) (p : Option ℕ) → cond t p None ≡ Some n → (t ≡ true) × (p ≡ Some n)
 passed true n p e = (refl, e)
 passed false n p e = let z : ◌≡◌ {A = ℕ} 0 1 = cc in absurd (omega arith)
 
 -- what is good behind a number follows a number
-followed : (p : Parsed) (more : ℕ → Parsed) (n : ℕ) → followed_by p more ≡ Parsed.Number n → (x : ℕ) × (p ≡ Parsed.Number x) × (more x ≡ Parsed.Number n)
-followed Parsed.Bad more n e = let z : ◌≡◌ {A = ℕ} 0 1 = cc in absurd (omega arith)
-followed (Parsed.Number x) more n e = (x, refl, e)
+followed : (p : Option ℕ) (more : ℕ → Option ℕ) (n : ℕ) → followed_by p more ≡ Some n → (x : ℕ) × (p ≡ Some x) × (more x ≡ Some n)
+followed None more n e = let z : ◌≡◌ {A = ℕ} 0 1 = cc in absurd (omega arith)
+followed (Some x) more n e = (x, refl, e)
 
-opens : (b v c n : ℕ) (cs : List ℕ) → number_from b v (c ∷ cs) ≡ Parsed.Number n → Opened b v c n cs
+opens : (b v c n : ℕ) (cs : List ℕ) → number_from b v (c ∷ cs) ≡ Some n → Opened b v c n cs
 unfolding number_from
 opens b v c n cs e =
     let f = followed (step_of b v c) (λ (w : ℕ). number_from b w cs) n e in
     let o = passed (is_digit b c) f.0 (fitting (v * b + digit_of c)) f.1 in
     let d = (and-eq-true_iff (ltb (digit_of c) b) (eqb (hex_digit_ascii (digit_of c)) c)).0 o.0 in
-    let q = passed (ltb (v * b + digit_of c) (2 ^ 64)) f.0 (Parsed.Number (v * b + digit_of c)) o.1 in
-    record { small = ltb-true _ _ d.0; is_glyph = eqb-true _ _ d.1; fits = ltb-true _ _ q.0; rest = ap (λ (p : Parsed). followed_by p (λ (w : ℕ). number_from b w cs)) q.1 ∙ f.2 }
+    let q = passed (ltb (v * b + digit_of c) (2 ^ 64)) f.0 (Some (v * b + digit_of c)) o.1 in
+    record { small = ltb-true _ _ d.0; is_glyph = eqb-true _ _ d.1; fits = ltb-true _ _ q.0; rest = ap (λ (p : Option ℕ). followed_by p (λ (w : ℕ). number_from b w cs)) q.1 ∙ f.2 }
 
-shuts : (b v c n : ℕ) (cs : List ℕ) → Opened b v c n cs → number_from b v (c ∷ cs) ≡ Parsed.Number n
-shuts b v c n cs o = push b v c cs (Parsed.Number (v * b + digit_of c)) (sym (good b v c (digit_of c) refl o.small o.is_glyph o.fits)) ∙ o.rest
+shuts : (b v c n : ℕ) (cs : List ℕ) → Opened b v c n cs → number_from b v (c ∷ cs) ≡ Some n
+shuts b v c n cs o = push b v c cs (Some (v * b + digit_of c)) (sym (good b v c o.small o.is_glyph o.fits)) ∙ o.rest
 
 -- the answer's last digits are the text, and what is in front of them is v
 pub record Read (b v n : ℕ) (cs : List ℕ) : Type 0 where
@@ -71,7 +71,7 @@ module _ (b : ℕ) (one : 1 ≤ b) (few : b ≤ 16) where
   next_front : (n k : ℕ) → n / b ^ suc k ≡ n / b ^ k / b
   next_front n k = ap (λ (m : ℕ). n / m) (pow-suc b k) ∙ sym (div-div-eq-div-mul n (b ^ k) b)
 
-  pub reads : (cs : List ℕ) (v n : ℕ) → v < 2 ^ 64 → number_from b v cs ≡ Parsed.Number n → Read b v n cs
+  pub reads : (cs : List ℕ) (v n : ℕ) → v < 2 ^ 64 → number_from b v cs ≡ Some n → Read b v n cs
   unfolding number_from
   reads [] v n h e = let q : v ≡ n = cc in record { below = omega arith; front = all_of b n ∙ sym q; back = refl }
   reads (c ∷ cs) v n h e =
@@ -85,9 +85,9 @@ module _ (b : ℕ) (one : 1 ≤ b) (few : b ≤ 16) where
             ∙ sym (digits_front b (length cs) n);
       }
 
-  pub accepts : (cs : List ℕ) (v n : ℕ) → Read b v n cs → number_from b v cs ≡ Parsed.Number n
+  pub accepts : (cs : List ℕ) (v n : ℕ) → Read b v n cs → number_from b v cs ≡ Some n
   unfolding number_from
-  accepts [] v n r = ap Parsed.Number (sym r.front ∙ all_of b n)
+  accepts [] v n r = ap Some (sym r.front ∙ all_of b n)
   accepts (c ∷ cs) v n r =
       let q : ℕ = n / b ^ length cs in
       let whole : c ∷ cs ≡ hex_digit_ascii (q % b) ∷ last_digits b (length cs) n = r.back ∙ digits_front b (length cs) n in
@@ -106,7 +106,7 @@ module _ (b : ℕ) (one : 1 ≤ b) (few : b ≤ 16) where
       })
 
   -- the text of a number below 2^64 spells it
-  text_number : (least n : ℕ) (t : List ℕ) → Text b least t n → n < 2 ^ 64 → number_in b t ≡ Parsed.Number n
+  text_number : (least n : ℕ) (t : List ℕ) → Text b least t n → n < 2 ^ 64 → number_in b t ≡ Some n
   text_number least n t x h = sym (number_from_lem b one t) ∙ accepts t 0 n (record { below = h; front = div-eq_of_lt x.fewest.1; back = x.spelled })
 
 -- n < b ^ k is that nothing is in front of its last k digits
@@ -133,14 +133,14 @@ few_digits b least n m k one low h x =
 
 -- ---- decimals
 -- what `decimal_of` asks of its text besides the digits
-no_lead : (t u w : Bool) (n : ℕ) (p : Parsed) → cond (t || (u && w)) Parsed.Bad p ≡ Parsed.Number n → (t ≡ false) × (u ≡ true → w ≡ false) × (p ≡ Parsed.Number n)
+no_lead : (t u w : Bool) (n : ℕ) (p : Option ℕ) → cond (t || (u && w)) None p ≡ Some n → (t ≡ false) × (u ≡ true → w ≡ false) × (p ≡ Some n)
 no_lead true u w n p e = let z : ◌≡◌ {A = ℕ} 0 1 = cc in absurd (omega arith)
 no_lead false true true n p e = let z : ◌≡◌ {A = ℕ} 0 1 = cc in absurd (omega arith)
 no_lead false true false n p e = (refl, (λ _. refl), e)
 no_lead false false w n p e = (refl, (λ z. absurd (false≢true z)), e)
 
 -- what is accepted is the text of its answer
-pub decimal_reads : (t : List ℕ) (n : ℕ) → decimal_of t ≡ Parsed.Number n → Text 10 1 t n × (n < 2 ^ 64)
+pub decimal_reads : (t : List ℕ) (n : ℕ) → decimal_of t ≡ Some n → Text 10 1 t n × (n < 2 ^ 64)
 unfolding decimal_of
 decimal_reads [] n e = let z : ◌≡◌ {A = ℕ} 0 1 = cc in absurd (omega arith)
 decimal_reads (c ∷ cs) n e =
@@ -167,7 +167,7 @@ decimal_reads (c ∷ cs) n e =
     )
 
 -- the text of a number below 2^64 is accepted, and the answer is the number
-pub decimal_accepts : (t : List ℕ) (n : ℕ) → Text 10 1 t n → n < 2 ^ 64 → decimal_of t ≡ Parsed.Number n
+pub decimal_accepts : (t : List ℕ) (n : ℕ) → Text 10 1 t n → n < 2 ^ 64 → decimal_of t ≡ Some n
 unfolding decimal_of
 decimal_accepts [] n x h = absurd (omega (arith, x.fewest.0))
 decimal_accepts (c ∷ cs) n x h =
@@ -185,7 +185,7 @@ decimal_accepts (c ∷ cs) n x h =
     ]
 
 -- ---- sixteen hexadecimal digits
-pub hex_reads : (t : List ℕ) (n : ℕ) → hex_of t ≡ Parsed.Number n → Text 16 16 t n × (n < 2 ^ 64)
+pub hex_reads : (t : List ℕ) (n : ℕ) → hex_of t ≡ Some n → Text 16 16 t n × (n < 2 ^ 64)
 unfolding hex_of
 hex_reads t n e =
     let o = passed (eqb (length t) 16) n (number_in 16 t) e in
@@ -193,7 +193,7 @@ hex_reads t n e =
     let r = reads 16 (omega arith) (omega arith) t 0 n (omega arith) (number_from_lem 16 (omega arith) t ∙ o.1) in
     (record { fewest = (omega arith, none_front 16 n (length t) (omega arith) r.front, λ h. absurd (omega arith)); spelled = r.back }, r.below)
 
-pub hex_accepts : (t : List ℕ) (n : ℕ) → Text 16 16 t n → n < 2 ^ 64 → hex_of t ≡ Parsed.Number n
+pub hex_accepts : (t : List ℕ) (n : ℕ) → Text 16 16 t n → n < 2 ^ 64 → hex_of t ≡ Some n
 unfolding hex_of
 hex_accepts t n x h =
     let l : length t ≡ 16 = omega (arith, x.fewest.0, few_digits 16 16 n 16 (length t) (omega arith) (omega arith) (omega arith) x.fewest) in
@@ -251,10 +251,10 @@ unfolding decimal_text
 decimal_text_lem n h = digits_text_lem 10 1 n (places_from 19 n) (fewest_from 19 n (omega arith))
 
 -- parsing what is printed gives the number back, and what is accepted is what is printed of its number
-pub decimal_back : (n : ℕ) → n < 2 ^ 64 → decimal_of (decimal_text n) ≡ Parsed.Number n
+pub decimal_back : (n : ℕ) → n < 2 ^ 64 → decimal_of (decimal_text n) ≡ Some n
 decimal_back n h = decimal_accepts (decimal_text n) n (decimal_text_lem n h) h
 
-pub decimal_only : (t : List ℕ) (n : ℕ) → decimal_of t ≡ Parsed.Number n → t ≡ decimal_text n
+pub decimal_only : (t : List ℕ) (n : ℕ) → decimal_of t ≡ Some n → t ≡ decimal_text n
 decimal_only t n e = let r = decimal_reads t n e in same_text 10 1 n t (decimal_text n) (omega arith) r.0 (decimal_text_lem n r.1)
 
 fewest_hex : (n : ℕ) → n < 2 ^ 64 → IsDigitCount 16 16 n 16
@@ -264,10 +264,10 @@ pub hex_text_lem : (n : ℕ) → n < 2 ^ 64 → Text 16 16 (hex_text n) n
 unfolding hex_text
 hex_text_lem n h = digits_text_lem 16 16 n 16 (fewest_hex n h)
 
-pub hex_back : (n : ℕ) → n < 2 ^ 64 → hex_of (hex_text n) ≡ Parsed.Number n
+pub hex_back : (n : ℕ) → n < 2 ^ 64 → hex_of (hex_text n) ≡ Some n
 hex_back n h = hex_accepts (hex_text n) n (hex_text_lem n h) h
 
-pub hex_only : (t : List ℕ) (n : ℕ) → hex_of t ≡ Parsed.Number n → t ≡ hex_text n
+pub hex_only : (t : List ℕ) (n : ℕ) → hex_of t ≡ Some n → t ≡ hex_text n
 hex_only t n e = let r = hex_reads t n e in same_text 16 16 n t (hex_text n) (omega arith) r.0 (hex_text_lem n r.1)
 
 -- what io's `decimal` and `hex` write is the text
@@ -287,7 +287,7 @@ unfolding hex_text
 length_hex n = length_digits 16 16 n
 
 -- a decimal does not begin with a minus
-pub first_glyph : (t : List ℕ) (n : ℕ) → decimal_of t ≡ Parsed.Number n → get_or t 0 0 ≡ 45 → ⊥
+pub first_glyph : (t : List ℕ) (n : ℕ) → decimal_of t ≡ Some n → get_or t 0 0 ≡ 45 → ⊥
 unfolding decimal_of
 first_glyph [] n e h = omega arith
 first_glyph (c ∷ cs) n e h =

@@ -1,32 +1,28 @@
--- A text that starts with another, or is another: the loop's steps, and what the answer says. What is left of a text from a place on.
-use mathlib.Core.Path.{◌≡◌, refl, sym, ap, ap₂, ◌∙◌}
+-- A text that starts with another, or is another: what the answer says. What is left of a text from a place on.
+use Rattle.std.specs.Bool.{Decides}
+use Rattle.std.specs.Cmp.Lexicographic.{pointwise}
+use mathlib.Core.Path.{◌≡◌, refl, sym, ap, ap₂, ◌∙◌, subst}
 use mathlib.Core.Bool.{Bool, true, false, false≢true}
 use mathlib.Core.List.{List, [], ◌∷◌, ◌++◌}
-use Prim.Native.Nat.{ℕ, ◌+◌, ◌-◌, ◌≤◌, ◌<◌}
-use native.Mathlib.Numerals.{add-one}
+use Prim.Native.Nat.{ℕ, ◌-◌, ◌≤◌}
+use lib.Dec.{eqb}
 use native.Mathlib.Decide.{ℕ_discrete}
 use native.Mathlib.Omega.{arith}
-use lib.ListN.{length, take, drop, get_or, length-take, length-drop, take-append-drop, drop_of_length-le}
-use lib.Seq.{drop-cons, take_all, take-append_seam}
+use lib.ListN.{length, take, drop, length-take, length-drop, take-append-drop}
+use lib.Seq.{take_all, take-append_seam}
 use borrow.Author.Tests.{eq-eqb, ne_eqb}
 use Rattle.text.specs.Bytes.{starts_of, same_of}
 
-module _ (s p : List ℕ) (i : ℕ) (whole : Bool) (inv : starts_of (drop i s) (drop i p) ≡ whole) (h : i < length p) where
-  pub too_short : length s ≤ i → false ≡ whole
-  unfolding starts_of
-  too_short l = ap₂ starts_of (sym (drop_of_length-le s l)) (sym (drop-cons p i 0 h)) ∙ inv
-
-  pub differs : i < length s → (get_or s i 0 ≡ get_or p i 0 → ⊥) → false ≡ whole
-  unfolding starts_of
-  differs l n = sym (simp (ne_eqb _ _ n)) ∙ ap₂ starts_of (sym (drop-cons s i 0 l)) (sym (drop-cons p i 0 h)) ∙ inv
-
-  pub agrees : i < length s → get_or s i 0 ≡ get_or p i 0 → starts_of (drop (i + 1) s) (drop (i + 1) p) ≡ whole
-  unfolding starts_of
-  agrees l e = rw (add-one i) (sym (simp (eq-eqb _ _ e)) ∙ ap₂ starts_of (sym (drop-cons s i 0 l)) (sym (drop-cons p i 0 h)) ∙ inv)
-
-pub all_there : (s p : List ℕ) (i : ℕ) (whole : Bool) → starts_of (drop i s) (drop i p) ≡ whole → length p ≤ i → true ≡ whole
+-- what `starts_with` says of slices
+pub starts_pointwise : (s p : List ℕ) → pointwise eqb p (take (length p) s) ≡ starts_of s p
 unfolding starts_of
-all_there s p i whole inv l = ap (starts_of (drop i s)) (sym (drop_of_length-le p l)) ∙ inv
+starts_pointwise s [] = refl
+starts_pointwise [] (c ∷ p) = refl
+starts_pointwise (x ∷ s) (c ∷ p) =
+    elim (ℕ_discrete x c) [
+      | yes q ↦ simp (eq-eqb x c q, eq-eqb c x (sym q)) (starts_pointwise s p)
+      | no q ↦ simp (ne_eqb x c q, ne_eqb c x (λ e. q (sym e)))
+    ]
 
 -- the answer is that the front of s is p
 pub starts_front : (s p : List ℕ) → starts_of s p ≡ true → take (length p) s ≡ p
@@ -81,6 +77,11 @@ same_false s t h = by (same_of s t) (same_true s t) where
   by : (b : Bool) → (b ≡ true → s ≡ t) → b ≡ false
   by true p = absurd (h (p refl))
   by false p = refl
+
+-- what `==` says of slices
+pub decided_same : (s t : List ℕ) (r : Bool) → Decides r (s ≡ t) → r ≡ same_of s t
+decided_same s t true d = sym (subst (λ (l : List ℕ). same_of s l ≡ true) (d.0 refl) (same_refl s))
+decided_same s t false d = sym (same_false s t (λ e. false≢true (d.1 e)))
 
 pub same_flip : (s t : List ℕ) → same_of s t ≡ false → same_of t s ≡ false
 same_flip s t e =

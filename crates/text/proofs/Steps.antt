@@ -1,32 +1,32 @@
 -- What the code's steps rest on: digits, glyphs, one digit more, and that digit after digit gives the number that the text spells (`number_from_lem`).
+use Rattle.std.specs.Prelude.{Option, Some, None}
 use mathlib.Core.Path.{◌≡◌, refl, sym, ap, ◌∙◌}
 use mathlib.Core.Bool.{Bool, true, false, cond, ◌&&◌}
 use mathlib.Core.List.{List, [], ◌∷◌}
-use Prim.Native.Nat.{ℕ, suc, ◌+◌, ◌-◌, ◌*◌, ◌/◌, ◌^◌, ◌≤◌, ◌<◌}
-use native.Mathlib.Nat.{le-div_iff_mul-le, pow-zero, pow-succ', one-le-pow, zero-mul, mul-one, mul_assoc, add-mul, le-mul_of_pos_right}
+use Prim.Native.Nat.{ℕ, suc, ◌+◌, ◌-◌, ◌*◌, ◌^◌, ◌≤◌, ◌<◌}
+use native.Mathlib.Nat.{pow-zero, pow-succ', one-le-pow, zero-mul, mul-one, mul_assoc, add-mul, le-mul_of_pos_right}
 use native.Mathlib.Decide.{dec_lt}
 use native.Mathlib.Omega.{arith}
 use native.Mathlib.Numerals.{add-one}
 use lib.ListN.{length, drop, get_or, drop_of_length-le}
 use lib.Seq.{drop-cons}
-use borrow.Author.Tests.{lt-ltb, le-ltb, eq-eqb, ne_eqb}
+use borrow.Author.Tests.{lt-ltb, le-ltb, eq-eqb}
 use Rattle.io.specs.Digits.{hex_digit_ascii}
-use Rattle.text.specs.declared.Parsed.{Parsed}
 use Rattle.text.specs.Number.{digit_of, is_digit, all_digits, value_in, fitting, number_in}
 use Rattle.laws.proofs.Cases.{cond_cases}
 
 -- one digit more behind the number v
-abbrev pub step_of : ℕ → ℕ → ℕ → Parsed
-step_of b v c = cond (is_digit b c) (fitting (v * b + digit_of c)) Parsed.Bad
+abbrev pub step_of : ℕ → ℕ → ℕ → Option ℕ
+step_of b v c = cond (is_digit b c) (fitting (v * b + digit_of c)) None
 
 -- what comes behind a number; behind what is bad nothing does
-abbrev pub followed_by : Parsed → (ℕ → Parsed) → Parsed
-followed_by Parsed.Bad more = Parsed.Bad
-followed_by (Parsed.Number v) more = more v
+abbrev pub followed_by : Option ℕ → (ℕ → Option ℕ) → Option ℕ
+followed_by None more = None
+followed_by (Some v) more = more v
 
 -- the digits of a text after the number v, one after another, as the loop reads them
-unfoldable pub number_from : ℕ → ℕ → List ℕ → Parsed
-number_from b v [] = Parsed.Number v
+unfoldable pub number_from : ℕ → ℕ → List ℕ → Option ℕ
+number_from b v [] = Some v
 number_from b v (c ∷ cs) = followed_by (step_of b v c) (λ w. number_from b w cs)
 
 pub digit_low : (c : ℕ) → c < 58 → digit_of c ≡ c - 48
@@ -41,41 +41,20 @@ glyph_low d h = simp (lt-ltb d 10 h)
 pub glyph_high : (d : ℕ) → 10 ≤ d → hex_digit_ascii d ≡ 87 + d
 glyph_high d h = simp (le-ltb d 10 h)
 
--- v ≤ (2^64 - 1 - d) / b is that one digit more fits
-pub fits : (b v d : ℕ) → 1 ≤ b → d ≤ 168 → v ≤ (18446744073709551615 - d) / b → v * b + d < 2 ^ 64
-fits b v d p s h = omega (arith, (le-div_iff_mul-le {k = b} {x = v} {y = 18446744073709551615 - d} p).0 h)
-
-pub fits_not : (b v d : ℕ) → 1 ≤ b → d ≤ 168 → (18446744073709551615 - d) / b < v → 2 ^ 64 ≤ v * b + d
-fits_not b v d p s h =
-    elim (dec_lt (v * b + d) (2 ^ 64)) [
-      | yes k ↦ absurd (native.Mathlib.Nat.lt_irrefl _ (native.Mathlib.Nat.lt_of_lt_of_le h ((le-div_iff_mul-le {k = b} {x = v} {y = 18446744073709551615 - d} p).1 (omega arith))))
-      | no k ↦ omega arith
-    ]
-
-module _ (b v c d : ℕ) (is-d : d ≡ digit_of c) where
-  pub bad_digit : b ≤ d → Parsed.Bad ≡ step_of b v c
-  bad_digit h = simp (le-ltb (digit_of c) b (omega arith))
-
-  pub bad_glyph : d < b → (hex_digit_ascii (digit_of c) ≡ c → ⊥) → Parsed.Bad ≡ step_of b v c
-  bad_glyph h n = simp (lt-ltb (digit_of c) b (omega arith), ne_eqb (hex_digit_ascii (digit_of c)) c n)
-
-  pub bad_wide : d < b → hex_digit_ascii (digit_of c) ≡ c → 2 ^ 64 ≤ v * b + digit_of c → Parsed.Bad ≡ step_of b v c
-  bad_wide h g w = simp (lt-ltb (digit_of c) b (omega arith), eq-eqb (hex_digit_ascii (digit_of c)) c g, le-ltb (v * b + digit_of c) (2 ^ 64) w)
-
-  pub good : d < b → hex_digit_ascii (digit_of c) ≡ c → v * b + digit_of c < 2 ^ 64 → Parsed.Number (v * b + d) ≡ step_of b v c
-  good h g w = simp (lt-ltb (digit_of c) b (omega arith), eq-eqb (hex_digit_ascii (digit_of c)) c g, lt-ltb (v * b + digit_of c) (2 ^ 64) w) (ap (λ (x : ℕ). Parsed.Number (v * b + x)) is-d)
+pub good : (b v c : ℕ) → digit_of c < b → hex_digit_ascii (digit_of c) ≡ c → v * b + digit_of c < 2 ^ 64 → Some (v * b + digit_of c) ≡ step_of b v c
+good b v c h g w = simp (lt-ltb (digit_of c) b h, eq-eqb (hex_digit_ascii (digit_of c)) c g, lt-ltb (v * b + digit_of c) (2 ^ 64) w)
 
 -- a step that is good goes on from its number, and a bad one ends the text
-pub push : (b v c : ℕ) (cs : List ℕ) (p : Parsed) → step_of b v c ≡ p → number_from b v (c ∷ cs) ≡ followed_by p (λ w. number_from b w cs)
+pub push : (b v c : ℕ) (cs : List ℕ) (p : Option ℕ) → step_of b v c ≡ p → number_from b v (c ∷ cs) ≡ followed_by p (λ w. number_from b w cs)
 unfolding number_from
-push b v c cs p e = ap (λ (q : Parsed). followed_by q (λ (w : ℕ). number_from b w cs)) e
+push b v c cs p e = ap (λ (q : Option ℕ). followed_by q (λ (w : ℕ). number_from b w cs)) e
 
 -- a turn of the loop
-module _ (b v i : ℕ) (s : List ℕ) (whole : Parsed) (h : i < length s) (inv : number_from b v (drop i s) ≡ whole) where
-  pub turn : (p : Parsed) → step_of b v (get_or s i 0) ≡ p → followed_by p (λ w. number_from b w (drop (i + 1) s)) ≡ whole
+module _ (b v i : ℕ) (s : List ℕ) (whole : Option ℕ) (h : i < length s) (inv : number_from b v (drop i s) ≡ whole) where
+  pub turn : (p : Option ℕ) → step_of b v (get_or s i 0) ≡ p → followed_by p (λ w. number_from b w (drop (i + 1) s)) ≡ whole
   turn p e = rw (add-one i) (sym (push b v (get_or s i 0) (drop (suc i) s) p e) ∙ ap (number_from b v) (sym (drop-cons s i 0 h)) ∙ inv)
 
-pub ends : (b v i : ℕ) (s : List ℕ) (whole : Parsed) → length s ≤ i → number_from b v (drop i s) ≡ whole → Parsed.Number v ≡ whole
+pub ends : (b v i : ℕ) (s : List ℕ) (whole : Option ℕ) → length s ≤ i → number_from b v (drop i s) ≡ whole → Some v ≡ whole
 unfolding number_from
 ends b v i s whole h inv = ap (number_from b v) (sym (drop_of_length-le s h)) ∙ inv
 
@@ -91,12 +70,12 @@ stays_out b v k r one h = omega (arith, le-mul_of_pos_right {m = b ^ k} v (one-l
 
 module _ (b : ℕ) (one : 1 ≤ b) where
   -- the digits of a text after the number v, by value
-  abbrev behind : ℕ → List ℕ → Parsed
-  behind v t = cond (all_digits b t) (fitting (v * b ^ length t + value_in b t)) Parsed.Bad
+  abbrev behind : ℕ → List ℕ → Option ℕ
+  behind v t = cond (all_digits b t) (fitting (v * b ^ length t + value_in b t)) None
 
   from_cons : (v c : ℕ) (cs : List ℕ) (t : Bool) → ((w : ℕ) → w < 2 ^ 64 → number_from b w cs ≡ behind w cs)
-      → followed_by (cond t (fitting (v * b + digit_of c)) Parsed.Bad) (λ w. number_from b w cs)
-      ≡ cond (t && all_digits b cs) (fitting (v * b ^ suc (length cs) + (digit_of c * b ^ length cs + value_in b cs))) Parsed.Bad
+      → followed_by (cond t (fitting (v * b + digit_of c)) None) (λ w. number_from b w cs)
+      ≡ cond (t && all_digits b cs) (fitting (v * b ^ suc (length cs) + (digit_of c * b ^ length cs + value_in b cs))) None
   from_cons v c cs false more = refl
   from_cons v c cs true more =
       let w : ℕ = v * b + digit_of c in
@@ -104,7 +83,7 @@ module _ (b : ℕ) (one : 1 ≤ b) where
       rw (← e)
       (elim (dec_lt w (2 ^ 64)) [
         | yes k ↦ rw (lt-ltb w (2 ^ 64) k) (more w k)
-        | no k ↦ rw (le-ltb w (2 ^ 64) (omega arith)) (rw (le-ltb (w * b ^ length cs + value_in b cs) (2 ^ 64) (stays_out b w (length cs) (value_in b cs) one (omega arith))) (cond_cases (λ p. Parsed.Bad ≡ p) (all_digits b cs) (λ _. refl) (λ _. refl)))
+        | no k ↦ rw (le-ltb w (2 ^ 64) (omega arith)) (rw (le-ltb (w * b ^ length cs + value_in b cs) (2 ^ 64) (stays_out b w (length cs) (value_in b cs) one (omega arith))) (cond_cases (λ p. None ≡ p) (all_digits b cs) (λ _. refl) (λ _. refl)))
       ])
 
   from_value : (t : List ℕ) (v : ℕ) → v < 2 ^ 64 → number_from b v t ≡ behind v t
@@ -118,4 +97,4 @@ module _ (b : ℕ) (one : 1 ≤ b) where
   unfolding number_in
   number_from_lem t =
       let e : 0 * b ^ length t + value_in b t ≡ value_in b t = omega (arith, zero-mul (b ^ length t)) in
-      from_value t 0 (omega arith) ∙ ap (λ (x : ℕ). cond (all_digits b t) (fitting x) Parsed.Bad) e
+      from_value t 0 (omega arith) ∙ ap (λ (x : ℕ). cond (all_digits b t) (fitting x) None) e

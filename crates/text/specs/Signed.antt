@@ -1,36 +1,32 @@
--- Signed numbers as text: a minus in front of a decimal that is not 0.
-use Rattle.std.specs.Prelude.{List, ◌∷◌, cond, ℕ, suc, ◌-◌, ◌^◌, ltb, eqb, ℤ, pos, negsuc, get_or, drop}
-use Rattle.text.specs.declared.Parsed.{Parsed}
-use Rattle.text.specs.declared.Signed.{Signed}
-use Rattle.text.specs.declared.Signed32.{Signed32}
-use Rattle.text.specs.declared.Size.{Size}
+-- Option ℤ numbers as text: a minus in front of a decimal that is not 0.
+use Rattle.std.specs.Prelude.{List, ◌∷◌, cond, ℕ, suc, ◌-◌, ◌^◌, ltb, eqb, ℤ, pos, negsuc, get_or, drop, Option, Some, None}
 use Rattle.text.specs.Number.{decimal_of, decimal_text}
 
 -- the number with no sign: below the bound
-unfoldable pub plus_of : ℕ → Parsed → Signed
-plus_of bound Parsed.Bad = Signed.Bad
-plus_of bound (Parsed.Number n) = cond (ltb n bound) (Signed.Number (pos n)) Signed.Bad
+unfoldable pub plus_of : ℕ → Option ℕ → Option ℤ
+plus_of bound None = None
+plus_of bound (Some n) = cond (ltb n bound) (Some (pos n)) None
 
 -- the number behind a minus: 1 to the bound, so that 0 has one text
-unfoldable pub minus_of : ℕ → Parsed → Signed
-minus_of bound Parsed.Bad = Signed.Bad
-minus_of bound (Parsed.Number n) = cond (ltb n 1) Signed.Bad (cond (ltb bound n) Signed.Bad (Signed.Number (negsuc (n - 1))))
+unfoldable pub minus_of : ℕ → Option ℕ → Option ℤ
+minus_of bound None = None
+minus_of bound (Some n) = cond (ltb n 1) None (cond (ltb bound n) None (Some (negsuc (n - 1))))
 
 -- what a text says as a number from minus the bound up to below it: a minus is byte 45
-unfoldable pub signed_within : ℕ → List ℕ → Signed
+unfoldable pub signed_within : ℕ → List ℕ → Option ℤ
 signed_within bound t = cond (eqb (get_or t 0 0) 45) (minus_of bound (decimal_of (drop 1 t))) (plus_of bound (decimal_of t))
 
 -- as a signed number of 64 bits
-unfoldable pub signed_of : List ℕ → Signed
+unfoldable pub signed_of : List ℕ → Option ℤ
 unfolding signed_within
 signed_of t = signed_within (2 ^ 63) t
 
 -- as one of 32
-abbrev pub narrow_of : Signed → Signed32
-narrow_of Signed.Bad = Signed32.Bad
-narrow_of (Signed.Number z) = Signed32.Number z
+abbrev pub narrow_of : Option ℤ → Option ℤ
+narrow_of None = None
+narrow_of (Some z) = Some z
 
-unfoldable pub signed32_of : List ℕ → Signed32
+unfoldable pub signed32_of : List ℕ → Option ℤ
 unfolding signed_within
 signed32_of t = narrow_of (signed_within (2 ^ 31) t)
 
@@ -38,8 +34,3 @@ signed32_of t = narrow_of (signed_within (2 ^ 31) t)
 unfoldable pub signed_text : ℤ → List ℕ
 signed_text (pos n) = decimal_text n
 signed_text (negsuc n) = 45 ∷ decimal_text (suc n)
-
--- a number as its sign and its size
-unfoldable pub size_of : ℤ → Size
-size_of (pos n) = Size.Plus n
-size_of (negsuc n) = Size.Minus (suc n)

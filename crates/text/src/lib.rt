@@ -4,110 +4,57 @@
 mod widths; // widths.rt: narrower numbers as 64 bits
 
 ghost use Rattle.std.specs.Prelude.{◌≡◌, cond, ◌+◌, ◌*◌, ◌^◌, ◌≤◌, length, drop};
-ghost use Rattle.io.specs.Digits.{hex_digit_ascii as glyphOf};
-ghost use Rattle.text.specs.Signed.{plus_of, minus_of, signed_within, signed_of, signed32_of, size_of, signed_text};
+ghost use Rattle.text.specs.Signed.{plus_of, minus_of, signed_within, signed_of, signed32_of, signed_text};
 ghost use Rattle.text.specs.Bytes.{up_to, starts_of, same_of};
-ghost use Rattle.text.specs.Number.{digit_of, is_digit, fitting, number_in, decimal_of, hex_of, decimal_text, hex_text, put as put_of};
+ghost use Rattle.text.specs.Number.{digit_of, digit_read, is_digit, fitting, number_in, decimal_of, hex_of, decimal_text, hex_text, put as put_of};
 
 pub use widths::{wide, wide_signed, wide8, wide16, wide32};
 
-// A number that was read, or none.
-#[derive(Clone, Copy)]
-pub enum Parsed {
-    Bad,
-    Number(u64),
-}
-
-// A signed number that was read, or none.
-#[derive(Clone, Copy)]
-pub enum Signed {
-    Bad,
-    Number(i64),
-}
-
-// A signed number of 32 bits that was read, or none.
-#[derive(Clone, Copy)]
-pub enum Signed32 {
-    Bad,
-    Number(i32),
-}
-
-// A number's sign and size.
-#[derive(Clone, Copy)]
-enum Size {
-    Plus(u64),
-    Minus(u64),
-}
-
-// The digit that a glyph stands for.
-fn digit(c: u8) -> u64
-    ensures { (result ≡ digit_of c) × (result ≤ 168) }
+// The digit that a byte is the glyph of: there is a glyph for each digit up to 168.
+fn digit(c: u8) -> Option<u64>
+    ensures { result ≡ digit_read c }
 {
-    let w = wide8(c);
-    if w < 48 {
-        return 0;
+    match c {
+        b'0'..=b'9' => Some(u64::from(c - b'0')),
+        b'a'..=255 => Some(u64::from(c - b'a') + 10),
+        _ => None,
     }
-    if w < 58 {
-        return w - 48;
-    }
-    if w < 87 {
-        return 0;
-    }
-    w - 87
-}
-
-fn glyph(d: u64) -> u64
-    requires { d ≤ 168 }
-    ensures { result ≡ glyphOf d }
-{
-    if d < 10 { 48 + d } else { 87 + d }
 }
 
 // One digit more.
-fn step(base: u64, v: u64, c: u8) -> Parsed
+fn step(base: u64, v: u64, c: u8) -> Option<u64>
     requires { 1 ≤ base }
-    ensures { result ≡ cond (is_digit base c) (fitting (v * base + digit_of c)) Parsed.Bad }
+    ensures { result ≡ cond (is_digit base c) (fitting (v * base + digit_of c)) None }
 {
-    let d = digit(c);
+    let d = digit(c)?;
     if d >= base {
-        return Parsed::Bad;
+        return None;
     }
-    if glyph(d) != wide8(c) {
-        return Parsed::Bad;
-    }
-    if v > (18446744073709551615 - d) / base {
-        return Parsed::Bad;
-    }
-    Parsed::Number(v * base + d)
+    v.checked_mul(base)?.checked_add(d)
 }
 
 // The number that a text of digits spells.
-fn number(base: u64, s: &[u8]) -> Parsed
+fn number(base: u64, s: &[u8]) -> Option<u64>
     requires { 1 ≤ base }
     ensures { result ≡ number_in base s.now }
 {
-    let mut v: u64 = 0;
-    let mut i = 0;
-    while i < s.len() {
-        let Parsed::Number(w) = step(base, v, s[i]) else {
-            return Parsed::Bad;
-        };
-        v = w;
-        i += 1;
+    let mut v = 0;
+    for c in s {
+        v = step(base, v, *c)?;
     }
-    Parsed::Number(v)
+    Some(v)
 }
 
 // A decimal of at most 64 bits, with no zero in front.
-pub fn decimal(s: &[u8]) -> Parsed
+pub fn decimal(s: &[u8]) -> Option<u64>
     ensures { result ≡ decimal_of s.now }
 {
     if s.len() < 1 {
-        return Parsed::Bad;
+        return None;
     }
     if 1 < s.len() {
         if s[0] == b'0' {
-            return Parsed::Bad;
+            return None;
         }
         return number(10, s);
     }
@@ -115,13 +62,13 @@ pub fn decimal(s: &[u8]) -> Parsed
 }
 
 // Sixteen hexadecimal digits, in lower case.
-pub fn hex(s: &[u8]) -> Parsed
+pub fn hex(s: &[u8]) -> Option<u64>
     ensures { result ≡ hex_of s.now }
 {
     if s.len() == 16 {
         return number(16, s);
     }
-    Parsed::Bad
+    None
 }
 
 // Puts bytes at a place of a buffer, and answers the place after them.
@@ -129,12 +76,9 @@ pub fn put(out: &mut [u8], at: usize, src: &[u8]) -> usize
     requires { at + length src.now ≤ length out.old }
     ensures { (result ≡ at + length src.now) × (out.new ≡ put_of out.old at src.now) }
 {
-    let mut i = 0;
-    while i < src.len() {
-        out[at + i] = src[i];
-        i += 1;
-    }
-    at + i
+    let end = at + src.len();
+    out[at..end].copy_from_slice(src);
+    end
 }
 
 // Puts a number's decimal text at a place of a buffer, and answers the place after it.
@@ -161,79 +105,59 @@ pub fn put_hex(out: &mut [u8], at: usize, n: u64) -> usize
 pub fn starts(s: &[u8], p: &[u8]) -> bool
     ensures { result ≡ starts_of s.now p.now }
 {
-    let mut i = 0;
-    while i < p.len() {
-        if i >= s.len() {
-            return false;
-        }
-        if s[i] != p[i] {
-            return false;
-        }
-        i += 1;
-    }
-    true
+    s.starts_with(p)
 }
 
 // Where a byte stands first, from a place on: behind the last byte where there is none, and at that place itself where it is past the end.
 pub fn find(bytes: &[u8], from: usize, byte: u8) -> usize
     ensures { result ≡ from + length (up_to byte (drop from bytes.now)) }
 {
-    let mut i = from;
-    while i < bytes.len() {
-        if bytes[i] == byte {
-            return i;
-        }
-        i += 1;
+    if from >= bytes.len() {
+        return from;
     }
-    i
+    let rest = &bytes[from..];
+    from + rest.iter().position(|b| *b == byte).unwrap_or(rest.len())
 }
 
 // Whether two texts are the same.
 pub fn same(s: &[u8], t: &[u8]) -> bool
     ensures { result ≡ same_of s.now t.now }
 {
-    if s.len() == t.len() {
-        return starts(s, t);
-    }
-    false
+    s == t
 }
 
-fn plus(bound: u64, p: Parsed) -> Signed
+fn plus(bound: u64, p: Option<u64>) -> Option<i64>
     requires { bound ≤ 2 ^ 63 }
     ensures { result ≡ plus_of bound p }
 {
-    let Parsed::Number(n) = p else {
-        return Signed::Bad;
-    };
+    let n = p?;
     if n < bound {
-        return Signed::Number(n as i64);
+        return Some(n as i64);
     }
-    Signed::Bad
+    None
 }
 
-fn minus(bound: u64, p: Parsed) -> Signed
+fn minus(bound: u64, p: Option<u64>) -> Option<i64>
     requires { bound ≤ 2 ^ 63 }
     ensures { result ≡ minus_of bound p }
 {
-    let Parsed::Number(n) = p else {
-        return Signed::Bad;
-    };
+    let n = p?;
     if n < 1 {
-        return Signed::Bad;
+        return None;
     }
     if n > bound {
-        return Signed::Bad;
+        return None;
     }
-    Signed::Number(-((n - 1) as i64) - 1)
+    Some(-((n - 1) as i64) - 1)
 }
 
 // A decimal with its sign, a minus, never in front of 0, or nothing: from minus the bound up to below it.
-pub fn integer_within(bound: u64, s: &[u8]) -> Signed
+pub fn integer_within(bound: u64, s: &[u8]) -> Option<i64>
     requires { bound ≤ 2 ^ 63 }
     ensures { result ≡ signed_within bound s.now }
 {
     if s.len() < 1 {
-        return Signed::Bad;
+        return None;
     }
     if s[0] == b'-' {
         return minus(bound, decimal(&s[1..]));
@@ -242,29 +166,18 @@ pub fn integer_within(bound: u64, s: &[u8]) -> Signed
 }
 
 // One of at most 64 bits.
-pub fn integer(s: &[u8]) -> Signed
+pub fn integer(s: &[u8]) -> Option<i64>
     ensures { result ≡ signed_of s.now }
 {
     integer_within(9223372036854775808, s)
 }
 
 // One of at most 32 bits.
-pub fn integer32(s: &[u8]) -> Signed32
+pub fn integer32(s: &[u8]) -> Option<i32>
     ensures { result ≡ signed32_of s.now }
 {
-    let Signed::Number(z) = integer_within(2147483648, s) else {
-        return Signed32::Bad;
-    };
-    Signed32::Number(z as i32)
-}
-
-fn size_of(z: i64) -> Size
-    ensures { result ≡ size_of z }
-{
-    if z < 0 {
-        return Size::Minus((-(z + 1)) as u64 + 1);
-    }
-    Size::Plus(z as u64)
+    let z = integer_within(2147483648, s)?;
+    Some(z as i32)
 }
 
 // Puts a number's decimal text with its sign at a place of a buffer, and answers the place after it.
@@ -272,11 +185,9 @@ pub fn put_integer(out: &mut [u8], at: usize, z: i64) -> usize
     requires { at + 21 ≤ length out.old }
     ensures { (result ≡ at + length (signed_text z)) × (result ≤ at + 21) × (out.new ≡ put_of out.old at (signed_text z)) }
 {
-    match size_of(z) {
-        Size::Minus(m) => {
-            out[at] = b'-';
-            put_decimal(out, at + 1, m)
-        }
-        Size::Plus(n) => put_decimal(out, at, n),
+    if z < 0 {
+        out[at] = b'-';
+        return put_decimal(out, at + 1, z.unsigned_abs());
     }
+    put_decimal(out, at, z.unsigned_abs())
 }

@@ -1,8 +1,8 @@
 -- Reading on: where what was read on is good, each part was; and where it went wrong.
+use Rattle.std.specs.Prelude.{Option, Some, None}
 use mathlib.Core.Path.{◌≡◌, refl, sym, ap, ◌∙◌}
 use mathlib.Core.Bool.{Bool, true, false, cond}
 use mathlib.Core.List.{List, [], ◌∷◌, ◌++◌}
-use mathlib.Core.Option.{Option, none, some}
 use Prim.Native.Nat.{ℕ, ◌+◌, ◌≤◌}
 use native.Mathlib.Omega.{arith}
 use Rattle.text.specs.Bytes.{holds, up_to}
@@ -55,8 +55,8 @@ pub number_bad : (name : List ℕ) (least most n : ℕ) (t : List ℕ) (m : ℕ)
 unfolding line
 number_bad name least most n t m e = by (holds 10 t) (named name (decimal_from least most) (up_to 10 t)) e where
   by : (b : Bool) (o : Option ℕ) → cond b (said n (behind t) o) (bad (n + 1)) ≡ bad m → m ≡ n + 1
-  by true none f = cc
-  by true (some v) f = let z : ◌≡◌ {A = ℕ} 0 1 = cc in absurd (omega arith)
+  by true None f = cc
+  by true (Some v) f = let z : ◌≡◌ {A = ℕ} 0 1 = cc in absurd (omega arith)
   by false o f = cc
 
 -- where reading on went wrong

@@ -1,75 +1,50 @@
 // Lines of a text that is lent whole: a name, and behind it a number, up to one newline.
 #![tactic(auto)]
 
-ghost use Rattle.std.specs.Prelude.{◌≡◌, ◌≤◌, length, drop};
-ghost use Rattle.std.proofs.Math.Option.{none, some};
-ghost use Rattle.text_lines.specs.Lines.{named, within, decimal_from, hex_from, at as at_place, taken_by};
-
-use text::Parsed;
-
-// A number that was read, and the place behind its line; or that the line is wrong.
-#[derive(Clone, Copy)]
-pub enum Taken {
-    Bad,
-    Number(u64, usize),
-}
+ghost use Rattle.std.specs.Prelude.{◌≡◌, ◌≤◌, length, MatchOption};
+ghost use Rattle.text_lines.specs.Lines.{within, decimal_from, hex_from, at as at_place, taken_by, NoValue, HasValue};
 
 // A number that is at least and at most so much, and a place.
-fn bounded(p: Parsed, least: u64, most: u64, place: usize) -> Taken
+fn bounded(p: Option<u64>, least: u64, most: u64, place: usize) -> Option<(u64, usize)>
     ensures { result ≡ at_place place (within least most p) }
 {
-    let Parsed::Number(v) = p else {
-        return Taken::Bad;
-    };
-    if v < least {
-        return Taken::Bad;
+    let v = p?;
+    if v < least || v > most {
+        return None;
     }
-    if v > most {
-        return Taken::Bad;
-    }
-    Taken::Number(v, place)
+    Some((v, place))
 }
 
-fn decimal_after(line: &[u8], name: &[u8], least: u64, most: u64, place: usize) -> Taken
-    ensures { result ≡ at_place place (named name.now (decimal_from least most) line.now) }
+// What stands behind a name in the line from a place on, and the place behind that line.
+fn value_at<'a>(bytes: &'a [u8], from: usize, name: &[u8]) -> Option<(&'a [u8], usize)>
+    requires { from ≤ length bytes.now }
+    ensures { MatchOption result (NoValue name.now bytes.now from) (λ p. HasValue name.now bytes.now from p.0.now p.1) }
 {
-    if text::starts(line, name) {
-        let k = name.len();
-        return bounded(text::decimal(&line[k..]), least, most, place);
+    let end = text::find(bytes, from, b'\n');
+    if end >= bytes.len() {
+        return None;
     }
-    Taken::Bad
-}
-
-fn hex_after(line: &[u8], name: &[u8], least: u64, most: u64, place: usize) -> Taken
-    ensures { result ≡ at_place place (named name.now (hex_from least most) line.now) }
-{
+    let line = &bytes[from..end];
     if text::starts(line, name) {
-        let k = name.len();
-        return bounded(text::hex(&line[k..]), least, most, place);
+        return Some((&line[name.len()..], end + 1));
     }
-    Taken::Bad
+    None
 }
 
 // The line from a place on: a name and a decimal without leading zeros, at least and at most so much.
-pub fn number(bytes: &[u8], from: usize, name: &[u8], least: u64, most: u64) -> Taken
+pub fn number(bytes: &[u8], from: usize, name: &[u8], least: u64, most: u64) -> Option<(u64, usize)>
     requires { from ≤ length bytes.now }
     ensures { result ≡ taken_by name.now (decimal_from least most) bytes.now from }
 {
-    let end = text::find(bytes, from, b'\n');
-    if end < bytes.len() {
-        return decimal_after(&bytes[from..end], name, least, most, end + 1);
-    }
-    Taken::Bad
+    let (value, next) = value_at(bytes, from, name)?;
+    bounded(text::decimal(value), least, most, next)
 }
 
 // The line from a place on: a name and sixteen hexadecimal digits, at least and at most so much.
-pub fn digits(bytes: &[u8], from: usize, name: &[u8], least: u64, most: u64) -> Taken
+pub fn digits(bytes: &[u8], from: usize, name: &[u8], least: u64, most: u64) -> Option<(u64, usize)>
     requires { from ≤ length bytes.now }
     ensures { result ≡ taken_by name.now (hex_from least most) bytes.now from }
 {
-    let end = text::find(bytes, from, b'\n');
-    if end < bytes.len() {
-        return hex_after(&bytes[from..end], name, least, most, end + 1);
-    }
-    Taken::Bad
+    let (value, next) = value_at(bytes, from, name)?;
+    bounded(text::hex(value), least, most, next)
 }

@@ -1,11 +1,18 @@
 -- How far a loop has come: the building, the sum, and the house that the edits leave.
+use Rattle.std.specs.Prelude.{Result, Ok, Err}
 use Rattle.std.proofs.Common.{◌≡◌, ℕ, ◌+◌, ◌%◌, ◌^◌, ◌<◌, ◌≤◌, sym, refl, ap, ◌∙◌, add-one, arith}
 use native.Mathlib.Nat.{mod-add-mod}
 use Rattle.runs.specs.Positions.{sum_below}
 use Rattle.runs.proofs.SumLaws.{sum_more}
 use Rattle.tank.specs.Rules.{Edit}
+use Rattle.refusal.specs.declared.Refusal.{Refusal}
+use Rattle.refusal.specs.Answers.{number_in}
+use Rattle.styles.specs.declared.Styles.{Styles}
+use Rattle.styles.specs.Answers.{styles_of}
+use Rattle.tanks.specs.declared.Done.{Done}
 use Rattle.tanks.specs.declared.Tanks.{Tanks}
-use Rattle.tanks.specs.House.{House, after_at}
+use Rattle.tanks.specs.House.{House, after_at, inserted_set_at}
+use Rattle.tanks.specs.Promises.{CalledAt, DoneAt, coming_to, set_beside}
 use Rattle.tanks.specs.Pool.{meaning, Sound}
 use Rattle.timing.specs.Promises.{MeansHouse}
 use Rattle.timing.specs.Work as rules
@@ -50,3 +57,9 @@ left_none edit t h = refl
 pub left_next : (edit : ℕ → Edit) (t n : ℕ) (h : House) → after_at h t (edit n) ≡ rules.left edit t (n + 1) h
 unfolding rules.left
 left_next edit t n h = rw add-one refl
+
+-- an edit's answer, by its number and the marks that it holds
+pub answered : {s : Tanks} {t : ℕ} {e : Edit} (next : Tanks) (r : Result Done Refusal) → DoneAt s t e (coming_to next r)
+    → CalledAt s t e (number_in r) next × (rules.marks_given r ≡ (styles_of (set_beside (inserted_set_at (meaning s) t) e)).count)
+answered next (Ok d) p = (p.called, ap (λ (m : Styles). m.count) p.styles_are)
+answered next (Err refusal) p = (p.called, ap (λ (m : Styles). m.count) p.styles_are)

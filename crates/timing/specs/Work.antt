@@ -1,7 +1,7 @@
 -- The benchmark's work by the rules: the tank that is built, the call of each work at a turn, what it counts for, and the sum over the turns.
 -- Works 0 to 7 are edits; 8 and 9 ask for a key, 10 for a value, 11 for the marks of a position; 12 to 15 ask the same of a tank in which the
 -- lab has a mark too. Only one tank is worked on, t, and every key is counted from a base.
-use Rattle.std.specs.Prelude.{ℕ, zero, suc, ◌+◌, ◌-◌, ◌*◌, ◌/◌, ◌%◌, ◌^◌, min, max, cond, List, length, pos, ◌==◌, nat_lt, slice_set}
+use Rattle.std.specs.Prelude.{Result, Ok, Err, ℕ, zero, suc, ◌+◌, ◌-◌, ◌*◌, ◌/◌, ◌%◌, ◌^◌, min, max, cond, List, length, pos, ◌==◌, nat_lt, slice_set}
 use Rattle.styles.specs.declared.Mark.{Mark}
 use Rattle.styles.specs.declared.Party.TheVariants.{Plant, Lab}
 use Rattle.styles.specs.declared.Value.TheVariants.{Null, Whole}
@@ -9,6 +9,8 @@ use Rattle.styles.specs.Order.{id_of}
 use Rattle.styles.specs.Values.{same_value}
 use Rattle.runs.specs.Positions.{sum_below}
 use Rattle.tank.specs.Rules.{Edit, annotating, inserting, deleting, removing}
+use Rattle.refusal.specs.declared.Refusal.{Refusal}
+use Rattle.tanks.specs.declared.Done.{Done}
 use Rattle.tanks.specs.declared.Setting.{Setting}
 use Rattle.tanks.specs.House.{House, tank_at, smallest_settings, opening, refusal_at, after_at, inserted_set_at}
 use Rattle.tanks.specs.Promises.{set_beside}
@@ -124,6 +126,11 @@ key_to work runs turn = cond (work % 2 == 0) (spot runs turn + 6) (runs * 10 - 1
 -- an insertion, works 2 and 3: how many marks its answer holds; another edit: its number
 abbrev pub counted : ℕ → ℕ → Edit → House → ℕ
 counted work t e h = cond (work / 2 == 1) (length (set_beside (inserted_set_at h t) e)) (refusal_at h t e)
+
+-- how many marks an edit's answer holds
+abbrev pub marks_given : Result Done Refusal → ℕ
+marks_given (Ok d) = d.styles.count
+marks_given (Err refusal) = 0
 
 -- turn k of works 0 to 7
 abbrev pub edit_score : ℕ → ℕ → ℕ → ℕ → House → ℕ → ℕ

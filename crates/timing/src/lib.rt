@@ -5,6 +5,7 @@
 
 ghost use Rattle.std.specs.Prelude.{◌≡◌, ◌/◌, ◌%◌, ◌<◌, ◌≤◌, if◌then◌else◌, nat_eq};
 ghost use Rattle.styles.specs.Order.{id_of};
+ghost use Rattle.refusal.specs.Answers.{number_in};
 ghost use Rattle.tanks.specs.House.{tank_at};
 ghost use Rattle.tanks.specs.Pool.{meaning, Sound};
 ghost use Rattle.tanks.specs.Promises.{edit_of};
@@ -14,29 +15,24 @@ ghost use Rattle.timing.specs.Work as rules;
 ghost use Rattle.timing.specs.Promises.{MeansHouse, Sized};
 
 use questions::{Shown, Told};
+use refusal::Refusal;
 use std::num::wrapping_add_u64;
 use styles::values::same_value;
 use styles::{Identity, Mark, Party, Value};
-use tanks::{Count, Edit, Setting, Tanks};
+use tanks::{Count, Done, Edit, Setting, Tanks};
 
 // So many runs that a marked one has a neighbour, and that there is room for two more.
 fn sized(runs: u64) -> u64
     ensures { result ≡ rules.sized runs }
 {
-    if runs < 3 {
-        return 3;
-    }
-    if 503 < runs { 503 } else { runs }
+    runs.clamp(3, 503)
 }
 
 // At least one mark, and room for the extra one.
 fn marked(marks: u64) -> u64
     ensures { result ≡ rules.marked marks }
 {
-    if marks < 1 {
-        return 1;
-    }
-    if 47 < marks { 47 } else { marks }
+    marks.clamp(1, 47)
 }
 
 // Mark b of the tank.
@@ -105,8 +101,9 @@ fn annotated(s: Tanks, tank: u64, start: u64, end: u64, m: Mark) -> Tanks
     requires { Sound s }
     ensures { MeansHouse (rules.annotated tank start end m (meaning s)) result }
 {
-    let e = s.annotate(tank, start, end, m);
-    e.tanks
+    let mut tanks = s;
+    let _done = tanks.annotate(tank, start, end, m);
+    tanks
 }
 
 // The lower half of the marks, on all marked runs.
@@ -116,10 +113,8 @@ fn lower(s: Tanks, tank: u64, base: u64, runs: u64, marks: u64) -> Tanks
     ensures { MeansHouse (rules.lower tank base runs marks (meaning s)) result }
 {
     let mut u = s;
-    let mut b = 0;
-    while b < marks / 2 {
+    for b in 0..marks / 2 {
         u = annotated(u, tank, runs % 2 * 10, runs * 10 - 10, mark(base, b));
-        b += 1;
     }
     u
 }
@@ -131,11 +126,9 @@ fn every_other(s: Tanks, tank: u64, base: u64, runs: u64, b: u64) -> Tanks
     ensures { MeansHouse (rules.every_other tank base runs b (meaning s)) result }
 {
     let mut u = s;
-    let mut j = 0;
-    while j < runs / 2 {
+    for j in 0..runs / 2 {
         let at = (runs % 2 + j * 2) * 10;
         u = annotated(u, tank, at, at + 10, mark(base, b));
-        j += 1;
     }
     u
 }
@@ -147,10 +140,8 @@ fn upper(s: Tanks, tank: u64, base: u64, runs: u64, marks: u64) -> Tanks
     ensures { MeansHouse (rules.upper tank base runs marks (meaning s)) result }
 {
     let mut u = s;
-    let mut j = 0;
-    while j < marks - marks / 2 {
+    for j in 0..marks - marks / 2 {
         u = every_other(u, tank, base, runs, marks / 2 + j);
-        j += 1;
     }
     u
 }
@@ -206,28 +197,16 @@ fn edit_at(work: u64, base: u64, runs: u64, turn: u64) -> Edit
     ensures { edit_of result ≡ rules.edit_at work base runs turn }
 {
     let at = spot(runs, turn);
-    if work == 0 {
-        return Edit::Annotate(at + 3, at + 8, extra(base));
+    match work {
+        0 => Edit::Annotate(at + 3, at + 8, extra(base)),
+        1 => Edit::Annotate(1, runs * 10 - 11, extra(base)),
+        2 => Edit::Insert(Party::Plant, at + 5, 1),
+        3 => Edit::Insert(Party::Plant, at + 10, 2),
+        4 => Edit::Delete(Party::Plant, at + 4, at + 6),
+        5 => Edit::Delete(Party::Plant, at + 5, at + 15),
+        6 => Edit::Remove(extra_id(base), middle(runs) + 9),
+        _ => Edit::Remove(extra_id(base), runs * 10 - 11),
     }
-    if work == 1 {
-        return Edit::Annotate(1, runs * 10 - 11, extra(base));
-    }
-    if work == 2 {
-        return Edit::Insert(Party::Plant, at + 5, 1);
-    }
-    if work == 3 {
-        return Edit::Insert(Party::Plant, at + 10, 2);
-    }
-    if work == 4 {
-        return Edit::Delete(Party::Plant, at + 4, at + 6);
-    }
-    if work == 5 {
-        return Edit::Delete(Party::Plant, at + 5, at + 15);
-    }
-    if work == 6 {
-        return Edit::Remove(extra_id(base), middle(runs) + 9);
-    }
-    Edit::Remove(extra_id(base), runs * 10 - 11)
 }
 
 // What the edits start from: for a removal one run in the middle, or the whole marked part, carries the extra mark.
@@ -339,6 +318,16 @@ fn key_to(work: u64, runs: u64, turn: u64) -> u64
     }
 }
 
+// What an edit's answer counts for.
+fn scored(work: u64, answer: Result<Done, Refusal>) -> u64
+    ensures { result ≡ (if nat_eq (work / 2) 1 then rules.marks_given answer else number_in answer) }
+{
+    match answer {
+        Ok(done) => score(work, done.styles.count as u64, 0),
+        Err(refusal) => score(work, 0, refusal.number()),
+    }
+}
+
 // Works 0 to 7. That the last state is asked two questions keeps a compiler from leaving the edits' work undone.
 fn edits(work: u64, s: Tanks, tank: u64, base: u64, runs: u64, turns: u64) -> u64
     requires sound { (Sound s) × (tank < 8) }
@@ -347,12 +336,10 @@ fn edits(work: u64, s: Tanks, tank: u64, base: u64, runs: u64, turns: u64) -> u6
 {
     let mut u = s;
     let mut sum = 0;
-    let mut k = 0;
-    while k < turns {
-        let e = s.edit(tank, edit_at(work, base, runs, k));
-        u = e.tanks;
-        sum = wrapping_add_u64(sum, score(work, e.styles.count as u64, e.number));
-        k += 1;
+    for k in 0..turns {
+        u = s;
+        let answer = u.edit(tank, edit_at(work, base, runs, k));
+        sum = wrapping_add_u64(sum, scored(work, answer));
     }
     wrapping_add_u64(
         sum,
@@ -367,13 +354,11 @@ fn keys(work: u64, s: Tanks, tank: u64, base: u64, runs: u64, turns: u64) -> u64
     ensures { result ≡ rules.summed (rules.key_score work tank base runs (meaning s)) turns }
 {
     let mut sum = 0;
-    let mut k = 0;
-    while k < turns {
+    for k in 0..turns {
         let from = key_from(work, runs, k);
         let to = key_to(work, runs, k);
         let t = ask::range_contains_key(s, tank, Party::Plant, from, to, (base + 999) as u16);
         sum = wrapping_add_u64(sum, one_if_yes(t));
-        k += 1;
     }
     sum
 }
@@ -385,13 +370,11 @@ fn values(s: Tanks, tank: u64, base: u64, runs: u64, marks: u64, turns: u64) -> 
     ensures { result ≡ rules.summed (rules.value_score tank base runs marks (meaning s)) turns }
 {
     let mut sum = 0;
-    let mut k = 0;
-    while k < turns {
+    for k in 0..turns {
         let at = spot(runs, k) + 5;
         let key = (base + marks) as u16;
         let v = ask::value_at(s, tank, Party::Plant, at, key);
         sum = wrapping_add_u64(sum, if_shown(marks, v));
-        k += 1;
     }
     sum
 }
@@ -403,11 +386,9 @@ fn sets(s: Tanks, tank: u64, runs: u64, turns: u64) -> u64
     ensures { result ≡ rules.summed (rules.set_score tank runs (meaning s)) turns }
 {
     let mut sum = 0;
-    let mut k = 0;
-    while k < turns {
+    for k in 0..turns {
         let a = ask::styles_at(s, tank, Party::Plant, spot(runs, k) + 5);
         sum = wrapping_add_u64(sum, a.styles.count as u64);
-        k += 1;
     }
     sum
 }

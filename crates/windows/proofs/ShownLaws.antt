@@ -8,12 +8,11 @@ use native.Mathlib.Decide.{dec_lt}
 use lib.Bits.{bit_and, and_le_r}
 use lib.ListN.{length, get_or}
 use lib.Pow.{pow_mono}
+use Rattle.std.specs.Prelude.{Option, None, Some}
 use borrow.Author.Tests.{le-leb, lt-leb}
 use Rattle.styles.specs.declared.Mark.{Mark}
 use Rattle.styles.specs.declared.Value.{Value}
 use Rattle.styles.specs.declared.Value.TheVariants.{Null, Flag, Whole, Decimal}
-use Rattle.styles.specs.declared.Winner.{Winner}
-use Rattle.styles.specs.declared.Winner.TheVariants.{Nothing, Shows}
 use Rattle.styles.specs.Bits.{pick, MaskOf}
 use Rattle.styles.specs.Marks.{Sorted, key_is, value_is, has_key, later, better, winner, shown_by, blank}
 use Rattle.styles.specs.Values.{is_null, shows_as}
@@ -31,16 +30,16 @@ use Rattle.windows.proofs.WalkLaws.{none_shown}
 
 -- ---- of a set of marks
 -- there is a winner
-won : Winner → Bool
-won Nothing = false
-won (Shows m) = true
+won : Option Mark → Bool
+won None = false
+won (Some m) = true
 
-won_better : (m : Mark) (w : Winner) → won (better m w) ≡ true
+won_better : (m : Mark) (w : Option Mark) → won (better m w) ≡ true
 unfolding won
-won_better m Nothing = refl
-won_better m (Shows x) = go (later m x)
+won_better m None = refl
+won_better m (Some x) = go (later m x)
   where
-    go : (b : Bool) → won (cond b (Shows x) (Shows m)) ≡ true
+    go : (b : Bool) → won (cond b (Some x) (Some m)) ≡ true
     go true = refl
     go false = refl
 
@@ -60,10 +59,10 @@ as_null (Flag b) = refl
 as_null (Whole b) = refl
 as_null (Decimal b) = refl
 
-value_shown_lem : (w : Winner) → is_value (shown_of 0 w) ≡ (won w && not (shown_by Null w))
+value_shown_lem : (w : Option Mark) → is_value (shown_of 0 w) ≡ (won w && not (shown_by Null w))
 unfolding is_value won
-value_shown_lem Nothing = refl
-value_shown_lem (Shows m) = go m.value (is_null m.value) ∙ ap not (sym (as_null m.value))
+value_shown_lem None = refl
+value_shown_lem (Some m) = go m.value (is_null m.value) ∙ ap not (sym (as_null m.value))
   where
     go : (w : Value) (b : Bool) → is_value (cond b Shown.Nothing (Shown.Shows w)) ≡ not b
     go w true = refl

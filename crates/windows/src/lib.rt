@@ -13,22 +13,17 @@ use styles::Mark;
 fn shows(set: u64, keyed: u64, nulls: u64) -> bool
     ensures { result ≡ shows_bits keyed nulls set }
 {
-    if set & keyed == 0 {
-        return false;
-    }
-    !styles::bits::top_in(set, keyed, nulls)
+    set & keyed != 0 && !styles::bits::top_in(set, keyed, nulls)
 }
 
 // The first key, by the masks of the keys, that a set shows a value for; 8 where there is none.
 fn first_of(set: u64, keyed: &[u64; 8], nulls: u64) -> u64
     ensures { result ≡ first_of_set keyed.now nulls set }
 {
-    let mut j = 0;
-    while j < 8 {
-        if shows(set, keyed[j], nulls) {
+    for (j, bits) in keyed.iter().enumerate() {
+        if shows(set, *bits, nulls) {
             return j as u64;
         }
-        j += 1;
     }
     8
 }
@@ -36,13 +31,13 @@ fn first_of(set: u64, keyed: &[u64; 8], nulls: u64) -> u64
 pub fn later(a: u64, b: u64) -> u64
     ensures { result ≡ max a b }
 {
-    if a < b { b } else { a }
+    a.max(b)
 }
 
 pub fn sooner(a: u64, b: u64) -> u64
     ensures { result ≡ min a b }
 {
-    if a < b { a } else { b }
+    a.min(b)
 }
 
 // The first key that the positions a .. b show, which all have this set; 8 where there are none.
@@ -59,10 +54,7 @@ pub fn seen(a: u64, b: u64, set: u64, keyed: &[u64; 8], nulls: u64) -> u64
 pub fn plus(a: u64, b: u64) -> u64
     ensures { result ≡ min (a + b) 18446744073709551615 }
 {
-    if 18446744073709551615 - a < b {
-        return 18446744073709551615;
-    }
-    a + b
+    a.saturating_add(b)
 }
 
 // A mask with a bit more below those it has: whether a key is the one that is looked for.
@@ -82,10 +74,8 @@ fn with_bits(before: [u64; 8], keys: [u16; 8], key: u16) -> [u64; 8]
     ensures { (j : ℕ) → j < 8 → get_or result j 0 ≡ get_or before j 0 * 2 + cond (eqb key (get_or keys j 0)) 1 0 }
 {
     let mut out: [u64; 8] = [0; 8];
-    let mut j = 0;
-    while j < 8 {
+    for j in 0..8 {
         out[j] = with_bit(before[j], key, keys[j]);
-        j += 1;
     }
     out
 }
@@ -96,11 +86,9 @@ pub fn masks(table: [Mark; 64], n: usize, keys: [u16; 8]) -> [u64; 8]
     ensures { (j : ℕ) → j < 8 → MaskOf (key_is (get_or keys j 0)) (take n table) (get_or result j 0) }
 {
     let mut out: [u64; 8] = [0; 8];
-    let mut i = n;
-    while 0 < i {
-        i -= 1;
-        let m = table[i];
-        let next = with_bits(out, keys, m.key);
+    for i in (0..n).rev() {
+        // By a name of its own: no proof is made of an array that a call writes over.
+        let next = with_bits(out, keys, table[i].key);
         out = next;
     }
     out

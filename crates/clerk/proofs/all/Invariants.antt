@@ -1,22 +1,13 @@
--- The measure is the count of turns that are left. As many reads as turns were made lead from the beginning to where the run is.
-use Prim.Native.Nat.{◌-◌, ◌≤◌}
-use lib.ListN.{length}
-use mathlib.Core.Path.{◌≡◌}
+-- As many reads as turns were made lead from the beginning to where the run is.
 use Rattle.clerk.specs.Course.{Leads, going}
 use Rattle.clerk.specs.Desk.{Settled}
 use Rattle.script.specs.Bodies.{Fits}
 use Rattle.tanks.specs.Pool.{Sound}
 use Rattle.clerk.proofs.all.Given as goal
 
-abbrev pub invariant-loop-turns : goal.invariant-loop-turns
-invariant-loop-turns l =
-    (length l.body ≡ length l.initial.body)
-    × (length l.out ≡ length l.initial.out)
-    × Sound l.tanks
+abbrev pub invariant-loop : goal.invariant-loop
+invariant-loop l =
+    Sound l.tanks
     × Settled l.side
     × Fits l.inlet l.body
-    × (l.turns ≤ l.initial.turns)
-    × Leads (l.initial.turns - l.turns) (going l.initial.tanks l.initial.inlet l.initial.side l.initial.body l.initial.out) (going l.tanks l.inlet l.side l.body l.out)
-
-abbrev pub decreases-loop-turns : goal.decreases-loop-turns
-decreases-loop-turns l = l.turns
+    × Leads l.counter (going l.initial.tanks l.initial.inlet l.initial.side l.initial.body l.initial.out) (going l.tanks l.inlet l.side l.body l.out)

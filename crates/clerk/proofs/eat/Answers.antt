@@ -1,17 +1,13 @@
-use Prim.Native.Nat.{◌-◌}
 use Rattle.clerk.proofs.Bytes.{standing, left_all, left_then, turn_nothing, turn_call, turn_bad}
-use Rattle.clerk.proofs.Edited.{edited}
+use Rattle.clerk.proofs.Edited.{performs}
 use Rattle.clerk.proofs.Ends.{all_taken, eats_as}
 use Rattle.clerk.proofs.Looked.{looked}
 use Rattle.clerk.proofs.Performing.{told}
 use Rattle.ask.proofs.Standing.{can_ask}
 use Rattle.clerk.specs.Calls.{tank_for}
-use Rattle.tanks.specs.Promises.{done_with}
-use Rattle.tanks.proofs.PartsLaws.{parts_some, parts_back, parts_shown}
 use borrow.Author.Rules.{rules}
-use lib.ListN.{length}
 use lib.Seq.{length-take-le}
-use mathlib.Core.Path.{◌≡◌, sym, ◌∙◌}
+use mathlib.Core.Path.{sym, ◌∙◌}
 use native.Mathlib.Omega.{arith}
 use Rattle.clerk.proofs.eat.Goals as goal
 
@@ -72,13 +68,8 @@ loop-from-preserved-in-Looks c =
     (p.inside, search rules, search rules, w.invariant.3, w.invariant.4, p.fits, left_then (turn_call w.tanks w.side w.at w.out c.loop-from-test.true p c.in-Call.is r) w.invariant.6)
 
 -- ---- An edit
-pub edit_parts-p-requires : goal.edit_parts-p-requires
-edit_parts-p-requires c =
-    let w = c.loop-from in
-    parts_some w.tanks (tank_for c.take-t.result.call) c.place-u-in-Edits.result c.place-u-in-Edits.ensures.0 w.invariant.3
-
-pub answered-at-requires : goal.answered-at-requires
-answered-at-requires c = let w = c.loop-from in record { marks_bound = parts_shown w.tanks (tank_for c.take-t.result.call) c.place-u-in-Edits.result c.place-u-in-Edits.ensures.0 w.invariant.3 _ c.edit_parts-p.result c.edit_parts-p.ensures; piece_room_in_bounds = omega (arith, c.requires.most_body_in_bounds.1, c.loop-from.invariant.2) }
+pub edited-at-requires : goal.edited-at-requires
+edited-at-requires c = record { sound = c.loop-from.invariant.3; piece_room_in_bounds = omega (arith, c.requires.most_body_in_bounds.1, c.loop-from.invariant.2) }
 
 pub loop-from-smaller-in-Edits : goal.loop-from-smaller-in-Edits
 loop-from-smaller-in-Edits c = let p = c.take-t.ensures in omega (arith, p.further, p.inside)
@@ -87,8 +78,7 @@ pub loop-from-preserved-in-Edits : goal.loop-from-preserved-in-Edits
 loop-from-preserved-in-Edits c =
     let w = c.loop-from in
     let p = c.take-t.ensures in
-    let done = parts_back w.tanks (tank_for c.take-t.result.call) c.place-u-in-Edits.result c.place-u-in-Edits.ensures.0 w.invariant.3 _ c.edit_parts-p.result c.edit_parts-p.ensures in
-    let r = edited w.tanks w.side _ _ (sym c.kind_of-kind.ensures ∙ c.in-Edits.is) w.invariant.4 (done_with w.tanks c.place-u-in-Edits.result c.edit_parts-p.result) _ done c.answered-at.ensures in
+    let r = performs w.tanks w.side _ _ (sym c.kind_of-kind.ensures ∙ c.in-Edits.is) w.invariant.4 _ _ c.edited-at.ensures in
     (p.inside, search rules, search rules, r.sound, r.settled, p.fits, left_then (turn_call w.tanks w.side w.at w.out c.loop-from-test.true p c.in-Call.is r) w.invariant.6)
 
 pub slice_bounds-perform-end-in-Other : goal.slice_bounds-perform-end-in-Other

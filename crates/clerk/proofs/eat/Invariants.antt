@@ -1,4 +1,4 @@
--- Each turn passes at least one byte: the measure is what is left of them. What is left leads to the same as all of them did, and where nothing that it says is too long, nothing that all of them say is. An edit's parts are those of the tanks that the turn began with, and put back they are what the edit leaves of them.
+-- Each turn passes at least one byte: the measure is what is left of them. What is left leads to the same as all of them did, and where nothing that it says is too long, nothing that all of them say is.
 use Prim.Native.Nat.{◌-◌, ◌≤◌}
 use Rattle.clerk.proofs.Bytes.{standing, Left}
 use Rattle.clerk.specs.Desk.{Settled}

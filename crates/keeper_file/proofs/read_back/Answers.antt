@@ -14,20 +14,20 @@ returns-in_default c = back_none c.args.s c.args.bytes.now c.not_read.result c.r
 
 pub slice_bounds-restore-count : goal.slice_bounds-restore-count
 slice_bounds-restore-count c =
-    let place_known = sym c.in-Number.is ∙ c.number.ensures in
-    taken_inside place_name (decimal_from 0 (2 ^ 64 - 1)) c.args.bytes.now 0 c.in-Number.place c.in-Number.start (sym place_known)
+    let place_known = sym c.in-Some.is ∙ c.number.ensures in
+    taken_inside place_name (decimal_from 0 (2 ^ 64 - 1)) c.args.bytes.now 0 c.in-Some.place c.in-Some.start (sym place_known)
 
 pub slice_bounds-restore-start : goal.slice_bounds-restore-start
 slice_bounds-restore-start c =
-    let place_known = sym c.in-Number.is ∙ c.number.ensures in
-    taken_inside place_name (decimal_from 0 (2 ^ 64 - 1)) c.args.bytes.now 0 c.in-Number.place c.in-Number.start (sym place_known)
+    let place_known = sym c.in-Some.is ∙ c.number.ensures in
+    taken_inside place_name (decimal_from 0 (2 ^ 64 - 1)) c.args.bytes.now 0 c.in-Some.place c.in-Some.start (sym place_known)
 
 pub returns-then-r-gt0 : goal.returns-then-r-gt0
 returns-then-r-gt0 c =
-    let place_known = sym c.in-Number.is ∙ c.number.ensures in
-    back_wrong c.args.s c.args.bytes.now c.in-Number.place c.in-Number.start place_known c.restore-r.result _ (rest_part c.in-Number.start c.args.bytes.now) c.restore-r.ensures c.not_read-then-r-gt0.result c.counted.result c.if-r-gt0.true c.counted.ensures c.not_read-then-r-gt0.ensures
+    let place_known = sym c.in-Some.is ∙ c.number.ensures in
+    back_wrong c.args.s c.args.bytes.now c.in-Some.place c.in-Some.start place_known c.restore-r.result _ (rest_part c.in-Some.start c.args.bytes.now) c.restore-r.ensures c.not_read-then-r-gt0.result c.counted.result c.if-r-gt0.true c.counted.ensures c.not_read-then-r-gt0.ensures
 
 pub returns : goal.returns
 returns c =
-    let place_known = sym c.in-Number.is ∙ c.number.ensures in
-    back_good c.args.s c.args.bytes.now c.in-Number.place c.in-Number.start place_known c.restore-r.result _ (rest_part c.in-Number.start c.args.bytes.now) c.restore-r.ensures _ (omega (arith, c.if-r-gt0.false)) refl
+    let place_known = sym c.in-Some.is ∙ c.number.ensures in
+    back_good c.args.s c.args.bytes.now c.in-Some.place c.in-Some.start place_known c.restore-r.result _ (rest_part c.in-Some.start c.args.bytes.now) c.restore-r.ensures _ (omega (arith, c.if-r-gt0.false)) refl

@@ -8,11 +8,11 @@ returns-then-s-lt1 c = name_empty _ c.if-s-lt1.true
 pub returns-then-s-gt24 : goal.returns-then-s-gt24
 returns-then-s-gt24 c = name_long _ c.if-s-gt24.true
 
-pub loop-i-preserved : goal.loop-i-preserved
-loop-i-preserved c = name_on _ _ c.loop-i.invariant c.loop-i-test.true (sym c.in_name.ensures ∙ c.if-in_name.true)
+pub loop-c-preserved : goal.loop-c-preserved
+loop-c-preserved c = name_on _ _ c.loop-c.invariant c.loop-c-test.true (sym c.in_name.ensures ∙ c.if-not-in_name.false)
 
-pub returns-else-in_name : goal.returns-else-in_name
-returns-else-in_name c = name_stop _ _ c.loop-i.invariant c.loop-i-test.true (sym c.in_name.ensures ∙ c.if-in_name.false)
+pub returns-then-not-in_name : goal.returns-then-not-in_name
+returns-then-not-in_name c = name_stop _ _ c.loop-c.invariant c.loop-c-test.true (sym c.in_name.ensures ∙ c.if-not-in_name.true)
 
 pub returns : goal.returns
-returns c = name_all _ _ c.loop-i.invariant c.loop-i-test.false c.if-s-lt1.false c.if-s-gt24.false
+returns c = name_all _ _ c.loop-c.invariant c.loop-c-test.false c.if-s-lt1.false c.if-s-gt24.false

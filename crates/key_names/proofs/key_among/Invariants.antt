@@ -6,6 +6,3 @@ use Rattle.key_names.proofs.key_among.Given as goal
 
 abbrev pub invariant-loop-i : goal.invariant-loop-i
 invariant-loop-i l = key_named (listed (held_in l.keys l.lens l.texts) l.i (l.n - l.i)) l.word ≡ key_named (listed (held_in l.keys l.lens l.texts) 0 l.n) l.word
-
-abbrev pub decreases-loop-i : goal.decreases-loop-i
-decreases-loop-i l = l.n - l.i

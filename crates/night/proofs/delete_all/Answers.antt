@@ -6,35 +6,9 @@ use Rattle.night.proofs.delete_all.Goals as goal
 pub loop-i-init : goal.loop-i-init
 loop-i-init c = applied_none c.requires
 
--- src/lib.rt:107:9
-pub overflow_sub-i : goal.overflow_sub-i
-overflow_sub-i c = c.loop-i-test.true
-
--- src/lib.rt:108:17
-pub offset_bounds-plan-i : goal.offset_bounds-plan-i
-offset_bounds-plan-i c =
-    let w = c.loop-i.invariant.within in
-    let f = c.requires.few in
-    let g = c.loop-i-test.true in
-    omega arith
-
--- src/lib.rt:108:17
-pub bounds-plan-i : goal.bounds-plan-i
-bounds-plan-i c =
-    let w = c.loop-i.invariant.within in
-    let f = c.requires.few in
-    let g = c.loop-i-test.true in
-    omega arith
-
 -- src/lib.rt:109:13
 pub delete-done-requires : goal.delete-done-requires
 delete-done-requires c = c.loop-i.invariant.applies.sound
-
--- src/lib.rt:106:5
-pub loop-i-smaller : goal.loop-i-smaller
-loop-i-smaller c =
-    let g = c.loop-i-test.true in
-    omega arith
 
 -- src/lib.rt:106:5
 pub loop-i-preserved : goal.loop-i-preserved

@@ -4,6 +4,3 @@ use Rattle.night.proofs.delete_all.Given as goal
 
 abbrev pub invariant-loop-i : goal.invariant-loop-i
 invariant-loop-i l = AppliedFrom l.initial.u l.tank l.plan l.i l.u
-
-abbrev pub decreases-loop-i : goal.decreases-loop-i
-decreases-loop-i l = l.i

@@ -3,7 +3,8 @@ use mathlib.Core.Path.{sym, ap, ◌∙◌}
 use native.Mathlib.Omega.{arith}
 use Rattle.tanks.specs.House.{tank_at}
 use Rattle.tanks.specs.Pool.{meaning}
-use Rattle.night.specs.Proposing.{gives}
+use Rattle.std.proofs.Common.{Some, Ok}
+use Rattle.night.specs.declared.Plan.{Plan}
 use Rattle.night.proofs.ProposeLaws.{least_within}
 use Rattle.night.proofs.ProposalLaws.{can_below, length_is, below_is, propose_1, propose_nothing, propose_some, propose_none}
 use Rattle.night.proofs.propose.Goals as goal
@@ -11,12 +12,12 @@ use Rattle.night.proofs.propose.Goals as goal
 pub returns-then-tank-ge8 : goal.returns-then-tank-ge8
 returns-then-tank-ge8 c =
     let a = c.args in
-    c.no_proposal.ensures ∙ propose_1 a.s a.tank a.hold a.most c.if-tank-ge8.true
+    propose_1 a.s a.tank a.hold a.most c.if-tank-ge8.true
 
 pub returns-then-works_below : goal.returns-then-works_below
 returns-then-works_below c =
     let a = c.args in
-    c.proposing.ensures ∙ ap gives c.empty_plan.ensures
+    ap (λ (p : Plan). Ok (Some p)) c.empty_plan.ensures
     ∙ propose_nothing a.s a.tank a.hold a.most c.if-tank-ge8.false (sym c.works_below.ensures ∙ c.if-works_below.true)
 
 pub works_below-requires-2 : goal.works_below-requires-2
@@ -45,14 +46,12 @@ unheld_below-requires c =
 pub returns-then-works_below-2 : goal.returns-then-works_below-2
 returns-then-works_below-2 c =
     let a = c.args in
-    c.proposing-then-works_below-2.ensures
-    ∙ ap gives (below_is a.s a.tank a.hold a.most c.least_below-below.result c.take-x.ensures c.unheld_below.ensures)
+    ap (λ (p : Plan). Ok (Some p)) (below_is a.s a.tank a.hold a.most c.least_below-below.result c.take-x.ensures c.unheld_below.ensures)
     ∙ propose_some a.s a.tank a.hold a.most c.if-tank-ge8.false _ (length_is a.s a.tank c.take-x.ensures)
     (sym c.works_below-2.ensures ∙ c.if-works_below-2.true) c.least_below-below.result c.least_below-below.ensures
 
 pub returns : goal.returns
 returns c =
     let a = c.args in
-    c.no_proposal-2.ensures
-    ∙ propose_none a.s a.tank a.hold a.most c.if-tank-ge8.false _ (length_is a.s a.tank c.take-x.ensures)
+    propose_none a.s a.tank a.hold a.most c.if-tank-ge8.false _ (length_is a.s a.tank c.take-x.ensures)
     (sym c.works_below.ensures ∙ c.if-works_below.false) (sym c.works_below-2.ensures ∙ c.if-works_below-2.false)

@@ -7,11 +7,8 @@ use Rattle.script.proofs.PutLaws.{puts_then, puts_all, puts_as}
 use Rattle.answers.proofs.Laws.{one_piece}
 use Rattle.pen.proofs.say_word.Goals as goal
 
-pub put-requires : goal.put-requires
-put-requires c = omega (arith, c.requires, c.less.ensures, c.put_blanks-a.ensures.few, c.free-k.ensures.1)
-
 pub returns : goal.returns
 returns c =
-    let l = c.less.ensures in
+    let l = c.saturating_sub.ensures in
     let blanks = puts_as (ap (λ (n : ℕ). replicate n 32) l) c.put_blanks-a.ensures in
     one_piece c.args.at c.free-k.ensures.0 (omega (arith, c.requires.1, c.requires.2, l)) (puts_then (omega (arith, c.requires.2, l, c.free-k.ensures.1)) blanks (puts_all c.put.ensures))

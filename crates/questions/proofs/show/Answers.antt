@@ -3,5 +3,5 @@ use Rattle.questions.specs.Questions.{shown_of}
 use mathlib.Core.Path.{sym, ap, ◌∙◌}
 use Rattle.questions.proofs.show.Goals as goal
 
-pub returns-in-Shows : goal.returns-in-Shows
-returns-in-Shows c = c.show_mark.ensures ∙ sym (ap (shown_of 0) c.in-Shows.is)
+pub returns-in-Some : goal.returns-in-Some
+returns-in-Some c = c.show_mark.ensures ∙ sym (ap (shown_of 0) c.in-Some.is)

@@ -77,7 +77,7 @@ returns-then-to-start c =
     record { appended = whole c.requires inv (copy_late c.args.lens.now c.args.sets.now (changing c.args.bits c.args.gone) _ c.args.from c.args.to c.loop-k.k c.args.m inv.within (omega (arith, inv.begun, c.if-to-start.true))); same_behind = inv.behind }
 
 pub overflow_add-end : goal.overflow_add-end
-overflow_add-end c = omega (arith, turn_end _ _ _ c.loop-k.invariant.begun c.loop-k-test.true c.requires.source)
+overflow_add-end c = omega (arith, turn_end _ _ _ c.loop-k.invariant.begun (omega arith) c.requires.source)
 
 pub push-at-requires : goal.push-at-requires
 push-at-requires c =
@@ -91,11 +91,11 @@ push-at-requires c =
           (c.clip-len.result ≡ clip a.from a.to l.start (get_or a.lens.now l.k 0))
           × (c.change.result ≡ changing a.bits a.gone (get_or a.sets.now l.k 0)) = (c.clip-len.ensures, c.change.ensures) in h)).1,
     )
-    (turn-can c.requires c.loop-k.invariant c.loop-k-test.true)
+    (turn-can c.requires c.loop-k.invariant (omega arith))
 
 pub loop-k-preserved : goal.loop-k-preserved
 loop-k-preserved c =
-    turn c.requires c.loop-k.invariant c.loop-k-test.true _ _ _
+    turn c.requires c.loop-k.invariant (omega arith) _ _ _
     (rw (
       ← ((let h : let l = c.loop-k in
           let a = c.args in

@@ -1,6 +1,6 @@
 -- `runs::copy` meets its contract. The invariant: the output's runs are the copy of the source's first k runs, and a copy is the joined list (`copied_joined`).
 -- The runs before `from` and those from `to` on add nothing (`copy_early`, `copy_late`).
-use Prim.Native.Nat.{ℕ, ◌-◌, ◌≤◌}
+use Prim.Native.Nat.{ℕ, ◌≤◌}
 use mathlib.Core.Path.{◌≡◌}
 use mathlib.Core.List.{List}
 use lib.ListN.{length}
@@ -18,6 +18,3 @@ pub record Copied (olens₀ osets₀ : List ℕ) (n : ℕ) (lens sets : List ℕ
 
 abbrev pub invariant-loop-k : goal.invariant-loop-k
 invariant-loop-k l = Copied l.initial.olens l.initial.osets l.n l.lens l.sets l.m l.from l.to l.bits l.gone l.olens l.osets l.k l.start l.at
-
-abbrev pub decreases-loop-k : goal.decreases-loop-k
-decreases-loop-k l = l.m - l.k

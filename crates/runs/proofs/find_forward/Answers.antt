@@ -7,7 +7,7 @@ use Rattle.runs.proofs.find_forward.Goals as goal
 
 pub loop-i-init : goal.loop-i-init
 unfolding sum_below
-loop-i-init c = (omega arith, refl, omega arith)
+loop-i-init c = (refl, omega arith)
 
 pub overflow_add-end : goal.overflow_add-end
 overflow_add-end c =

@@ -1,10 +1,6 @@
--- The measure is the count of turns that are left.
-use mathlib.Core.Path.{◌≡◌}
-use lib.ListN.{length}
+-- The output buffer keeps its length.
+use Rattle.std.proofs.Common.{◌≡◌, length}
 use Rattle.script_run.proofs.all.Given as goal
 
-abbrev pub invariant-loop-turns : goal.invariant-loop-turns
-invariant-loop-turns l = length l.out ≡ length l.initial.out
-
-abbrev pub decreases-loop-turns : goal.decreases-loop-turns
-decreases-loop-turns l = l.turns
+abbrev pub invariant-loop : goal.invariant-loop
+invariant-loop l = length l.out ≡ length l.initial.out

@@ -1,11 +1,6 @@
--- Sixteen places are put; the output buffer keeps its length.
-use mathlib.Core.Path.{◌≡◌}
-use Prim.Native.Nat.{◌-◌, ◌≤◌}
-use lib.ListN.{length}
+-- The output buffer keeps its length.
+use Rattle.std.proofs.Common.{◌≡◌, length}
 use Rattle.script_run.proofs.put_call.Given as goal
 
 abbrev pub invariant-loop-i : goal.invariant-loop-i
-invariant-loop-i l = (l.i ≤ 16) × (length l.out ≡ length l.initial.out)
-
-abbrev pub decreases-loop-i : goal.decreases-loop-i
-decreases-loop-i l = 16 - l.i
+invariant-loop-i l = length l.out ≡ length l.initial.out

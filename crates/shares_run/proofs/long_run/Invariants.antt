@@ -1,10 +1,6 @@
--- `long_run` meets its contract. The loop's invariant: the tanks are sound, as each turn leaves them so.
-use Prim.Native.Nat.{◌-◌, ◌≤◌}
+-- The tanks are sound, as each turn leaves them so.
 use Rattle.tanks.specs.Pool.{Sound}
 use Rattle.shares_run.proofs.long_run.Given as goal
 
-abbrev pub invariant-loop-i : goal.invariant-loop-i
-invariant-loop-i l = (l.i ≤ l.turns) × Sound l.r.tanks
-
-abbrev pub decreases-loop-i : goal.decreases-loop-i
-decreases-loop-i l = l.turns - l.i
+abbrev pub invariant-loop : goal.invariant-loop
+invariant-loop l = Sound l.r.tanks

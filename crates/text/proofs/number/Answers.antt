@@ -1,13 +1,14 @@
+use Rattle.std.specs.Prelude.{Some, None}
 use mathlib.Core.Path.{sym, ◌∙◌}
-use Rattle.text.specs.declared.Parsed.{Parsed}
 use Rattle.text.proofs.Steps.{number_from_lem, turn, ends}
 use Rattle.text.proofs.number.Goals as goal
 
-pub returns-in_default : goal.returns-in_default
-returns-in_default c = turn _ _ _ _ _ c.loop-i-test.true c.loop-i.invariant Parsed.Bad (sym c.step.ensures ∙ c.in_default.is) ∙ number_from_lem _ c.requires _
+pub returns-in_err-v : goal.returns-in_err-v
+returns-in_err-v c =
+    rw c.from_residual.ensures (turn _ _ _ _ _ c.loop-c-test.true c.loop-c.invariant None (sym c.step.ensures ∙ c.in_err-v.was) ∙ number_from_lem _ c.requires _)
 
-pub loop-i-preserved : goal.loop-i-preserved
-loop-i-preserved c = turn _ _ _ _ _ c.loop-i-test.true c.loop-i.invariant (Parsed.Number _) (sym c.step.ensures ∙ c.in-Number.is)
+pub loop-c-preserved : goal.loop-c-preserved
+loop-c-preserved c = turn _ _ _ _ _ c.loop-c-test.true c.loop-c.invariant (Some _) (sym c.step.ensures ∙ c.in_ok-v.was)
 
 pub returns : goal.returns
-returns c = ends _ _ _ _ _ c.loop-i-test.false c.loop-i.invariant ∙ number_from_lem _ c.requires _
+returns c = ends _ _ _ _ _ c.loop-c-test.false c.loop-c.invariant ∙ number_from_lem _ c.requires _

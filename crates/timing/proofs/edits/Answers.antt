@@ -1,6 +1,6 @@
 use Rattle.std.proofs.Common.{◌≡◌, arith, rules}
 use Rattle.timing.specs.Work as rules
-use Rattle.timing.proofs.Laws.{summed_none, summed_next, left_none, left_next}
+use Rattle.timing.proofs.Laws.{summed_none, summed_next, left_none, left_next, answered}
 use Rattle.timing.proofs.edits.Goals as goal
 
 pub loop-k-init : goal.loop-k-init
@@ -8,15 +8,15 @@ loop-k-init c = search (rules, left_none, summed_none)
 
 pub loop-k-preserved : goal.loop-k-preserved
 loop-k-preserved c =
-    let r = c.edit-e.ensures in
+    let r = answered c.edit-answer.new.self c.edit-answer.result c.edit-answer.ensures in
     let e = c.edit_at.ensures in (
       search rules,
       search rules,
       search rules,
       search rules,
-      r.called.sound,
-      rw (r.called.is, e) (left_next (rules.edit_at c.args.work c.args.base c.args.runs) _ _ _),
-      summed_next c.loop-k.invariant.6 (search rules) (rw (c.score.ensures, r.called.number_is, r.styles_are, e)) c.wrapping_add_u64-sum.ensures.value,
+      r.0.sound,
+      rw (r.0.is, e) (left_next (rules.edit_at c.args.work c.args.base c.args.runs) _ _ _),
+      summed_next c.loop-k.invariant.6 (search rules) (rw (c.scored.ensures, r.0.number_is, r.1, e)) c.wrapping_add_u64-sum.ensures.value,
     )
 
 pub returns : goal.returns

@@ -1,5 +1,4 @@
 -- After k turns so many are added up.
-use Rattle.std.proofs.Common.{◌-◌}
 use Rattle.tanks.specs.Pool.{meaning, Sound}
 use Rattle.timing.specs.Promises.{Sized}
 use Rattle.timing.specs.Work.{set_score}
@@ -8,6 +7,3 @@ use Rattle.timing.proofs.sets.Given as goal
 
 abbrev pub invariant-loop-k : goal.invariant-loop-k
 invariant-loop-k l = Sized l.runs × Sound l.s × Summed (set_score l.tank l.runs (meaning l.s)) l.k l.turns l.sum
-
-abbrev pub decreases-loop-k : goal.decreases-loop-k
-decreases-loop-k l = l.turns - l.k

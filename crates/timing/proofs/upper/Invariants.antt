@@ -8,6 +8,3 @@ use Rattle.timing.proofs.upper.Given as goal
 
 abbrev pub invariant-loop-j : goal.invariant-loop-j
 invariant-loop-j l = (l.base < 32768) × Sized l.runs × (l.marks ≤ 63) × Stepped (upper_mark l.tank l.base l.runs l.marks) (meaning l.initial.u) l.j (l.marks - l.marks / 2) l.u
-
-abbrev pub decreases-loop-j : goal.decreases-loop-j
-decreases-loop-j l = 503 - l.j

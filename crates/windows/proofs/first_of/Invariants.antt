@@ -1,5 +1,5 @@
 -- `first_of` meets its contract. The invariant: no key before the j-th shows a value.
-use Prim.Native.Nat.{ℕ, ◌-◌, ◌≤◌, ◌<◌}
+use Prim.Native.Nat.{ℕ, ◌<◌}
 use mathlib.Core.Path.{◌≡◌}
 use mathlib.Core.Bool.{false}
 use mathlib.Core.List.{List}
@@ -8,11 +8,7 @@ use Rattle.windows.specs.Windows.{shows_bits}
 use Rattle.windows.proofs.first_of.Given as goal
 
 pub record Missed (keyed : List ℕ) (nulls set j : ℕ) : Type 0 where
-  pub few : j ≤ 8
   pub none : (i : ℕ) → i < j → shows_bits (get_or keyed i 0) nulls set ≡ false
 
 abbrev pub invariant-loop-j : goal.invariant-loop-j
 invariant-loop-j l = Missed l.keyed l.nulls l.set l.j
-
-abbrev pub decreases-loop-j : goal.decreases-loop-j
-decreases-loop-j l = 8 - l.j

@@ -6,6 +6,3 @@ use Rattle.answers.proofs.listing.put_side.Goals as goal
 
 pub returns-in-Start : goal.returns-in-Start
 returns-in-Start c = adds_as (sym (ap side_says c.in-Start.is)) c.say_word.ensures
-
-pub returns-in-End : goal.returns-in-End
-returns-in-End c = adds_as (sym (ap side_says c.in-End.is)) c.say_word-in-End.ensures

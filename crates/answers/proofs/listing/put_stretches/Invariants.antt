@@ -1,13 +1,11 @@
--- Three numbers to a turn; what is left to say stays the same.
-use Prim.Native.Nat.{◌-◌, ◌≤◌}
-use lib.ListN.{length, drop}
-use mathlib.Core.Path.{◌≡◌}
+-- A stretch to a turn; what is left to say stays the same.
+use Rattle.std.proofs.Common.{length}
 use Rattle.answers.proofs.Laws.{Left}
 use Rattle.answers.specs.Replies.{stretches_say}
 use Rattle.answers.proofs.listing.put_stretches.Given as goal
 
-abbrev pub invariant-loop-i : goal.invariant-loop-i
-invariant-loop-i l = (l.i ≤ length l.list) × (length l.out ≡ length l.initial.out) × Left l.initial.out l.initial.k (stretches_say l.list) l.k l.out (stretches_say (drop l.i l.list))
+abbrev pub invariant-loop-left : goal.invariant-loop-left
+invariant-loop-left l = Left l.initial.out l.initial.k (stretches_say l.list) l.k l.out (stretches_say l.left)
 
-abbrev pub decreases-loop-i : goal.decreases-loop-i
-decreases-loop-i l = length l.list - l.i
+abbrev pub decreases-loop-left : goal.decreases-loop-left
+decreases-loop-left l = length l.left

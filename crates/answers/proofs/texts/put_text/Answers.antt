@@ -1,14 +1,9 @@
 -- The count of bytes, and the pieces that they make.
-use borrow.Author.Rules.{rules}
-use native.Mathlib.Omega.{arith}
 use mathlib.Core.Path.{ap}
 use Rattle.text.specs.Bytes.{bytes}
 use Rattle.answers.proofs.Laws.{and_then, adds_as}
 use Rattle.answers.specs.Replies.{line_says, bytes_say}
 use Rattle.answers.proofs.texts.put_text.Goals as goal
-
-pub put_pieces-requires : goal.put_pieces-requires
-put_pieces-requires c = (search rules, omega (arith, c.requires.1), search rules)
 
 pub returns : goal.returns
 unfolding bytes_say

@@ -15,7 +15,6 @@ loop-j-preserved c =
     let i = c.loop-j.invariant in
     record {
       standing = stand_next c.loop-j.j c.loop-j.c c.advance-c.result i.standing c.advance-c.ensures;
-      le = omega arith;
       out_is = store_next c.loop-j.j c.loop-j.c c.loop-j.out c.args.out.now c.anchor_at.result i.standing i.out_is c.anchor_at.ensures;
     }
 

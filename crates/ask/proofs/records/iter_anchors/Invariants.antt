@@ -1,5 +1,4 @@
 -- After j turns the slice holds the first j anchors in front of what it held, and what is made ahead begins with the next.
-use Prim.Native.Nat.{◌≤◌, ◌-◌}
 use mathlib.Core.Path.{◌≡◌}
 use Rattle.laws.proofs.Lists.{stored}
 use Rattle.lists.proofs.AnchorListLaws.{nth}
@@ -10,9 +9,5 @@ use Rattle.ask.proofs.records.iter_anchors.Given as goal
 abbrev pub invariant-loop-j : goal.invariant-loop-j
 invariant-loop-j l = record {
   standing : Standing l.p l.j l.c;
-  le : l.j ≤ l.n;
   out_is : l.out ≡ stored (nth (records_of l.p)) l.fn.out l.j;
 }
-
-abbrev pub decreases-loop-j : goal.decreases-loop-j
-decreases-loop-j l = l.n - l.j

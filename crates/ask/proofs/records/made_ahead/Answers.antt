@@ -28,7 +28,7 @@ pub loop-count-preserved-then-w-gt0 : goal.loop-count-preserved-then-w-gt0
 loop-count-preserved-then-w-gt0 c =
     let f = c.loop-count.invariant in
     fill_more f c.mark_anchor.result c.loop-count-test.true
-    (c.mark_anchor.ensures ∙ ap (λ x. anchor_of x End (get_or c.args.p.marks c.lowest-i.result blank)) c.before-then-w-gt0.ensures)
+    (c.mark_anchor.ensures ∙ ap (λ x. anchor_of x End (get_or c.args.p.marks c.lowest-i.result blank)) c.saturating_sub.ensures)
     (end_turn c.requires.0 f.walks c.lowest-i.result c.if-w-gt0.true c.lowest-i.ensures.0 c.past_end-w.result c.past_end-w.ensures)
 
 pub bounds-marks-i-then-w-gt0-2 : goal.bounds-marks-i-then-w-gt0-2

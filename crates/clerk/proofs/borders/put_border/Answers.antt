@@ -12,9 +12,9 @@ returns-then-ends-eq0 c =
 pub returns-then-starts-eq0 : goal.returns-then-starts-eq0
 returns-then-starts-eq0 c =
     let a = c.args in
-    adds_as (ends_alone a.table.marks a.pos a.before a.behind c.place_before.ensures c.lacking-ends.ensures c.lacking-starts.ensures c.if-starts-eq0.true) c.put_side-k.ensures
+    adds_as (ends_alone a.table.marks a.pos a.before a.behind c.saturating_sub.ensures c.lacking-ends.ensures c.lacking-starts.ensures c.if-starts-eq0.true) c.put_side-k.ensures
 
 pub returns : goal.returns
 returns c =
     let a = c.args in
-    adds_as (both_sides a.table.marks a.pos a.before a.behind c.place_before.ensures c.lacking-ends.ensures c.lacking-starts.ensures) (and_then c.put_side-k.ensures c.put_side-2.ensures)
+    adds_as (both_sides a.table.marks a.pos a.before a.behind c.saturating_sub.ensures c.lacking-ends.ensures c.lacking-starts.ensures) (and_then c.put_side-k.ensures c.put_side-2.ensures)

@@ -1,8 +1,8 @@
--- `Entry::is_named` meets its contract: a tidy entry's length is within its bytes, and `text::same` says the rest. Assumes nothing.
+-- `Entry::is_named` meets its contract: a tidy entry's length is within its bytes, and `==` says the rest. Assumes nothing.
 use mathlib.Core.Path.{sym}
-use native.Mathlib.Omega.{arith}
-use lib.Seq.{length-take-le}
+use Rattle.config.specs.Meaning.{name_in}
+use Rattle.richtext.proofs.Laws.{same_said}
 use Rattle.config.proofs.Entry.is_named.Goals as goal
 
-pub slice_bounds-same-end : goal.slice_bounds-same-end
-slice_bounds-same-end c = sym (length-take-le c.args.self.len c.args.self.name (omega arith))
+pub returns : goal.returns
+returns c = sym (same_said (name_in c.args.self.now) c.args.key.now c.eq.result c.eq.ensures)

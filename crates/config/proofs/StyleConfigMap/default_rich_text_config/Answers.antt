@@ -1,6 +1,6 @@
 -- `StyleConfigMap::default_rich_text_config` meets its contract: after the n-th insertion the table is the first n names. Assumes nothing.
 use mathlib.Core.Path.{◌≡◌, ap, ◌∙◌}
-use mathlib.Core.Option.{none}
+use Rattle.std.specs.Prelude.{Option}
 use Prim.Native.Nat.{ℕ}
 use lib.ListN.{take}
 use Rattle.text.specs.Bytes.{bytes, holds, starts_of, same_of}
@@ -12,7 +12,7 @@ use Rattle.config.proofs.StyleConfigMap.default_rich_text_config.Goals as goal
 
 -- the first n names, with no default
 abbrev first_of : ℕ → Table
-first_of n = record { entries = take n built_ins; default = none }
+first_of n = record { entries = take n built_ins; default = Option.None }
 
 pub returns : goal.returns
 unfolding holds known entered starts_of same_of

@@ -7,7 +7,7 @@ use lib.ListN.{length, take}
 use lib.Seq.{length-take-le}
 use Rattle.config.specs.Names.{cut}
 use Rattle.config.specs.Table.{style_for}
-use Rattle.config.specs.Meaning.{style_in, configured}
+use Rattle.config.specs.Meaning.{configured}
 use Rattle.text.proofs.Finding.{front_take, front_length}
 use Rattle.config.proofs.AnswerLaws.{asked_long, asked_found}
 use Rattle.config.proofs.StyleConfigMap.get_cut.Goals as goal
@@ -15,27 +15,17 @@ use Rattle.config.proofs.StyleConfigMap.get_cut.Goals as goal
 pub returns-then-key-gt-MAX_NAME : goal.returns-then-key-gt-MAX_NAME
 returns-then-key-gt-MAX_NAME c =
     let k = c.args.key.now in
-    asked_long k (style_for (cut k) (configured c.args.self)) c.if-key-gt-MAX_NAME.true
+    asked_long k (style_for (cut k) (configured c.args.self.now)) c.if-key-gt-MAX_NAME.true
 
 pub slice_bounds-style_for-end : goal.slice_bounds-style_for-end
 slice_bounds-style_for-end c =
     let k = c.args.key.now in
     sym (length-take-le c.find-end.result k (omega (arith, c.find-end.ensures, front_length 58 k)))
 
-pub returns-in-Style : goal.returns-in-Style
-returns-in-Style c =
+pub returns : goal.returns
+returns c =
     let k = c.args.key.now in
-    asked_found k (style_for (cut k) (configured c.args.self)) c.if-key-gt-MAX_NAME.false _
-    (sym (ap style_in c.in-Style.is) ∙ (let h : style_in c.style_for.result ≡ style_for (cut c.args.key.now) (configured c.args.self) = let k = c.args.key.now in
     let n : c.find-end.result ≡ length (cut k) = omega (arith, c.find-end.ensures) in
     let e : take c.find-end.result k ≡ cut k = rw n (front_take 58 k) in
-    c.style_for.ensures ∙ ap (λ (x : List ℕ). style_for x (configured c.args.self)) e in h))
-
-pub returns-in-Nothing : goal.returns-in-Nothing
-returns-in-Nothing c =
-    let k = c.args.key.now in
-    asked_found k (style_for (cut k) (configured c.args.self)) c.if-key-gt-MAX_NAME.false _
-    (sym (ap style_in c.in-Nothing.is) ∙ (let h : style_in c.style_for.result ≡ style_for (cut c.args.key.now) (configured c.args.self) = let k = c.args.key.now in
-    let n : c.find-end.result ≡ length (cut k) = omega (arith, c.find-end.ensures) in
-    let e : take c.find-end.result k ≡ cut k = rw n (front_take 58 k) in
-    c.style_for.ensures ∙ ap (λ (x : List ℕ). style_for x (configured c.args.self)) e in h))
+    asked_found k (style_for (cut k) (configured c.args.self.now)) c.if-key-gt-MAX_NAME.false _
+    (c.style_for.ensures ∙ ap (λ (x : List ℕ). style_for x (configured c.args.self.now)) e)

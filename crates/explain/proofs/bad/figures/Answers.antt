@@ -1,15 +1,10 @@
-use Prim.Native.Nat.{◌-◌}
-use Rattle.explain.proofs.Figures.{below, above, digit, all_digits}
+use mathlib.Core.Path.{◌∙◌}
+use Rattle.std.proofs.Common.{rules, tests}
+use Rattle.std.proofs.lemmas.Iterator.{YieldsList-from_slice}
+use Rattle.std.proofs.lemmas.Iterator.Search.{all_from_yields_List}
+use Rattle.std.specs.Char.{is_ascii_digit}
+use Rattle.explain.proofs.Figures.{figures_all}
 use Rattle.explain.proofs.bad.figures.Goals as goal
 
-pub returns-then-t-i-lt48 : goal.returns-then-t-i-lt48
-returns-then-t-i-lt48 c = below _ _ c.loop-i.invariant c.loop-i-test.true c.if-t-i-lt48.true
-
-pub returns-then-t-i-gt57 : goal.returns-then-t-i-gt57
-returns-then-t-i-gt57 c = above _ _ c.loop-i.invariant c.loop-i-test.true c.if-t-i-lt48.false c.if-t-i-gt57.true
-
-pub loop-i-preserved : goal.loop-i-preserved
-loop-i-preserved c = digit _ _ c.loop-i.invariant c.loop-i-test.true c.if-t-i-lt48.false c.if-t-i-gt57.false
-
 pub returns : goal.returns
-returns c = all_digits _ _ c.loop-i.invariant c.loop-i-test.false
+returns c = all_from_yields_List is_ascii_digit _ _ _ c.all.ensures.ran (YieldsList-from_slice c.args.t.now c.iter.ensures.rest) (λ x b q k. search (rules, tests)) ∙ figures_all c.args.t.now

@@ -9,4 +9,4 @@ pub returns-in_default : goal.returns-in_default
 returns-in_default c = puts_as (sym (ap (refusal_by c.args.line c.args.call) c.in_default.is)) (puts_more (omega arith) (puts_all c.put.ensures))
 
 pub returns : goal.returns
-returns c = puts_as (sym (ap (refusal_by c.args.line c.args.call) c.in-Number.is)) (puts_more (omega arith) c.put_refusal.ensures)
+returns c = puts_as (sym (ap (refusal_by c.args.line c.args.call) c.in-Some.is)) (puts_more (omega arith) c.put_refusal.ensures)

@@ -1,10 +1,6 @@
--- `draw::turns` is safe and ends: each turn hands on a sound map, and it counts to 250. Assumes nothing.
-use Prim.Native.Nat.{◌-◌, ◌≤◌}
+-- `draw::turns` keeps a sound map: each turn does. Assumes nothing.
 use Rattle.config.specs.Meaning.{Sound}
 use Rattle.flags_run.proofs.draw.turns.Given as goal
 
-abbrev pub invariant-loop-i : goal.invariant-loop-i
-invariant-loop-i l = (l.i ≤ 250) × Sound l.now.map
-
-abbrev pub decreases-loop-i : goal.decreases-loop-i
-decreases-loop-i l = 250 - l.i
+abbrev pub invariant-loop : goal.invariant-loop
+invariant-loop l = Sound l.map

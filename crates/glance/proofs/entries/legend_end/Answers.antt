@@ -6,6 +6,3 @@ use Rattle.glance.proofs.entries.legend_end.Goals as goal
 
 pub returns-then-more : goal.returns-then-more
 returns-then-more c = adds_as (sym (ap end_says c.if-more.true)) (and_then c.say-a.ensures c.say.ensures)
-
-pub returns : goal.returns
-returns c = adds_as (sym (ap end_says c.if-more.false)) c.say-a.ensures

@@ -5,11 +5,5 @@ use Rattle.glance.specs.Glance.{line_begins}
 use Rattle.glance.proofs.Laws.{inside_line}
 use Rattle.glance.proofs.entries.line_begins.Goals as goal
 
-pub returns-then-i-eq0 : goal.returns-then-i-eq0
-returns-then-i-eq0 c = adds_as (sym (ap line_begins c.if-i-eq0.true)) c.say.ensures
-
-pub returns-then-i-eq4 : goal.returns-then-i-eq4
-returns-then-i-eq4 c = adds_as (sym (ap line_begins c.if-i-eq4.true)) c.say-then-i-eq4.ensures
-
 pub returns : goal.returns
 returns c = adds_as (inside_line c.args.i c.if-i-eq0.false c.if-i-eq4.false) (no_piece _ _)

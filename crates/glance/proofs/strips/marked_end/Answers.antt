@@ -6,16 +6,6 @@ use Rattle.styles.specs.declared.Party.TheVariants.{Plant}
 use Rattle.glance.proofs.Ends.{listed_count, listed_few, listed_end}
 use Rattle.glance.proofs.strips.marked_end.Goals as goal
 
-pub slice_bounds-list-end : goal.slice_bounds-list-end
-slice_bounds-list-end c =
-    let l = c.list_whole-l.ensures in
-    omega (arith, listed_few c.args.s c.requires.0 c.args.tank c.requires.1 Plant (replicate 1536 0) _ _ (omega arith) (l.value, l.out_after))
-
-pub slice_bounds-last_end-end : goal.slice_bounds-last_end-end
-slice_bounds-last_end-end c =
-    let l = c.list_whole-l.ensures in
-    listed_count c.args.s c.requires.0 c.args.tank c.requires.1 Plant (replicate 1536 0) _ _ (omega arith) (l.value, l.out_after)
-
 pub returns : goal.returns
 returns c =
     let l = c.list_whole-l.ensures in

@@ -1,14 +1,9 @@
 -- One strip to a turn; what is left to say stays the same.
-use mathlib.Core.Path.{◌≡◌}
-use Prim.Native.Nat.{◌-◌, ◌≤◌}
-use lib.ListN.{length}
+use Rattle.std.proofs.Common.{◌-◌}
 use Rattle.tanks.specs.Pool.{meaning}
 use Rattle.answers.proofs.Laws.{Left}
 use Rattle.glance.specs.Glance.{each_from, of_eight, strip_of}
 use Rattle.glance.proofs.strips.strips.Given as goal
 
 abbrev pub invariant-loop-t : goal.invariant-loop-t
-invariant-loop-t l = (l.t ≤ 8) × (length l.out ≡ length l.initial.out) × Left l.initial.out l.initial.at (of_eight (strip_of (meaning l.s) l.keys l.letters)) l.at l.out (each_from (strip_of (meaning l.s) l.keys l.letters) (8 - l.t) l.t)
-
-abbrev pub decreases-loop-t : goal.decreases-loop-t
-decreases-loop-t l = 8 - l.t
+invariant-loop-t l = Left l.initial.out l.initial.at (of_eight (strip_of (meaning l.s) l.keys l.letters)) l.at l.out (each_from (strip_of (meaning l.s) l.keys l.letters) (8 - l.t) l.t)

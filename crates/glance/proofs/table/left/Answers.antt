@@ -10,24 +10,24 @@ use Rattle.glance.proofs.table.left.Goals as goal
 
 pub loop-u-init : goal.loop-u-init
 unfolding sum_below
-loop-u-init c = (omega arith, refl)
+loop-u-init c = refl
 
 pub overflow_sub-rest : goal.overflow_sub-rest
 overflow_sub-rest c =
     let a = c.args.s in
     let l = c.loop-u in
-    omega (arith, (let h : c.larger-rest.result ≡ claim c.args.s.settings (runs_in c.args.s.heads) c.loop-u.u = c.larger-rest.ensures in h), sum_next (claim a.settings (runs_in a.heads)) l.u 8 (omega arith), c.requires.sum, l.invariant.1)
+    omega (arith, (let h : c.max-rest.result ≡ claim c.args.s.settings (runs_in c.args.s.heads) c.loop-u.u = c.max-rest.ensures in h), sum_next (claim a.settings (runs_in a.heads)) l.u 8 (omega arith), c.requires.sum, l.invariant)
 
 pub loop-u-preserved : goal.loop-u-preserved
 loop-u-preserved c =
     let a = c.args.s in
     let l = c.loop-u in
     let f = claim a.settings (runs_in a.heads) in
-    (omega arith, omega (arith, (let h : c.larger-rest.result ≡ claim c.args.s.settings (runs_in c.args.s.heads) c.loop-u.u = c.larger-rest.ensures in h), sum_more f l.u, sum_next f l.u 8 (omega arith), c.requires.sum, l.invariant.1))
+    omega (arith, (let h : c.max-rest.result ≡ claim c.args.s.settings (runs_in c.args.s.heads) c.loop-u.u = c.max-rest.ensures in h), sum_more f l.u, sum_next f l.u 8 (omega arith), c.requires.sum, l.invariant)
 
 pub returns : goal.returns
 returns c =
     let l = c.loop-u in
     let e : l.u ≡ 8 = omega arith in
-    let rest : l.rest ≡ 512 - claims c.args.s.settings (runs_in c.args.s.heads) 8 = rw (← e) (omega (arith, l.invariant.1)) in
+    let rest : l.rest ≡ 512 - claims c.args.s.settings (runs_in c.args.s.heads) 8 = rw (← e) (omega (arith, l.invariant)) in
     rest ∙ left_is c.args.s c.requires

@@ -1,11 +1,6 @@
--- It counts the turns, and no read leaves more than 65,536 bytes held.
-use Prim.Native.Nat.{◌≤◌}
-use mathlib.Core.Path.{◌≡◌}
-use lib.ListN.{length}
+-- No read leaves more than 65,536 bytes held.
+use Rattle.std.proofs.Common.{◌≡◌, ◌≤◌, length}
 use Rattle.keeper.proofs.arriving.arrivals.Given as goal
 
-abbrev pub invariant-loop-turns : goal.invariant-loop-turns
-invariant-loop-turns l = (length l.bytes ≡ length l.initial.bytes) × (l.held ≤ 65536)
-
-abbrev pub decreases-loop-turns : goal.decreases-loop-turns
-decreases-loop-turns l = l.turns
+abbrev pub invariant-loop-turn : goal.invariant-loop-turn
+invariant-loop-turn l = (length l.bytes ≡ length l.initial.bytes) × (l.held.bytes ≤ 65536)

@@ -8,8 +8,8 @@ use Rattle.clerk.specs.declared.Stand.{Stand}
 use Rattle.clerk.specs.Desk.{Settled}
 use Rattle.keeper.proofs.calling.all.Goals as goal
 
-pub loop-turns-init : goal.loop-turns-init
-loop-turns-init c =
+pub loop-init : goal.loop-init
+loop-init c =
     let f = c.fresh-stand.ensures in
     let body = c.args.body.now in (
       search rules,
@@ -18,11 +18,11 @@ loop-turns-init c =
       subst (λ (i : Inlet). Fits i body) (sym (ap (λ (st : Stand). st.inlet) f ∙ c.begin_inlet.ensures)) (omega arith),
     )
 
-pub turn-next-requires : goal.turn-next-requires
-turn-next-requires c =
-    let w = c.loop-turns in
+pub turn-stand-requires : goal.turn-stand-requires
+turn-stand-requires c =
+    let w = c.loop in
     let s = c.requires in
     record { settled = (w.invariant.2, w.invariant.3); most_body_in_bounds = (omega (arith, s.0, w.invariant.0), omega (arith, s.1, w.invariant.1)) }
 
-pub loop-turns-preserved : goal.loop-turns-preserved
-loop-turns-preserved c = let e = c.turn-next.ensures in (search rules, search rules, e.0, e.1)
+pub loop-preserved : goal.loop-preserved
+loop-preserved c = let e = c.turn-stand.ensures in (search rules, search rules, e.0, e.1)

@@ -21,10 +21,10 @@ on left at next name bytes more e none =
 
 pub returns-then-bytes-end : goal.returns-then-bytes-end
 returns-then-bytes-end c =
-    let w = c.loop-left in
+    let w = c.loop-passed in
     let a = c.args in
     let l : length a.bytes.now ≤ w.at = omega (arith, c.if-bytes-end.true, c.find-end.ensures, front_length newline (drop w.at a.bytes.now), length-drop w.at a.bytes.now) in
-    sym (field_none w.left a.name.now) ∙ ap (field_in w.left a.name.now) (sym (drop_of_length-le a.bytes.now l)) ∙ w.invariant
+    sym (field_none (a.lines - w.passed) a.name.now) ∙ ap (field_in (a.lines - w.passed) a.name.now) (sym (drop_of_length-le a.bytes.now l)) ∙ w.invariant
 
 pub slice_bounds-line-count : goal.slice_bounds-line-count
 slice_bounds-line-count c = omega (arith, c.find-end.ensures)
@@ -37,35 +37,37 @@ behind-requires c = sym c.starts.ensures ∙ c.if-starts.true
 
 pub returns-then-starts : goal.returns-then-starts
 returns-then-starts c =
-    let w = c.loop-left in
+    let w = c.loop-passed in
     let a = c.args in
     let starts_is = c.starts.ensures ∙ ap (λ (l : List ℕ). starts_of l a.name.now) (front_part newline a.bytes.now w.at c.find-end.result c.find-end.ensures) in
     c.behind.ensures
     ∙ ap (number_behind a.name.now) (front_part newline a.bytes.now w.at c.find-end.result c.find-end.ensures)
-    ∙ sym (field_here w.left a.name.now (drop w.at a.bytes.now) c.loop-left-test.true (sym starts_is ∙ c.if-starts.true))
+    ∙ sym (field_here (a.lines - w.passed) a.name.now (drop w.at a.bytes.now) (omega (arith, c.loop-passed-test.true)) (sym starts_is ∙ c.if-starts.true))
     ∙ w.invariant
 
 pub returns-then-bytes-end-2 : goal.returns-then-bytes-end-2
 returns-then-bytes-end-2 c =
-    let w = c.loop-left in
+    let w = c.loop-passed in
     let a = c.args in
     let starts_is = c.starts.ensures ∙ ap (λ (l : List ℕ). starts_of l a.name.now) (front_part newline a.bytes.now w.at c.find-end.result c.find-end.ensures) in
-    let on_is = on w.left w.at (c.find-end.result + 1) a.name.now a.bytes.now c.loop-left-test.true (omega (arith, c.find-end.ensures)) (sym starts_is ∙ c.if-starts.false) ∙ w.invariant in
-    sym (field_none (w.left - 1) a.name.now)
-    ∙ ap (field_in (w.left - 1) a.name.now) (sym (drop_of_length-le a.bytes.now {i = c.find-end.result + 1} (omega (arith, c.if-bytes-end-2.true))))
+    let on_is = on (a.lines - w.passed) w.at (c.find-end.result + 1) a.name.now a.bytes.now (omega (arith, c.loop-passed-test.true)) (omega (arith, c.find-end.ensures)) (sym starts_is ∙ c.if-starts.false) ∙ w.invariant in
+    sym (field_none (a.lines - w.passed - 1) a.name.now)
+    ∙ ap (field_in ((a.lines - w.passed) - 1) a.name.now) (sym (drop_of_length-le a.bytes.now {i = c.find-end.result + 1} (omega (arith, c.if-bytes-end-2.true))))
     ∙ on_is
 
-pub loop-left-preserved : goal.loop-left-preserved
-loop-left-preserved c =
-    let w = c.loop-left in
+pub loop-passed-preserved : goal.loop-passed-preserved
+loop-passed-preserved c =
+    let w = c.loop-passed in
     let a = c.args in
     let starts_is = c.starts.ensures ∙ ap (λ (l : List ℕ). starts_of l a.name.now) (front_part newline a.bytes.now w.at c.find-end.result c.find-end.ensures) in
-    on w.left w.at (c.find-end.result + 1) a.name.now a.bytes.now c.loop-left-test.true (omega (arith, c.find-end.ensures)) (sym starts_is ∙ c.if-starts.false) ∙ w.invariant
+    let less : a.lines - (w.passed + 1) ≡ a.lines - w.passed - 1 = omega arith in
+    ap (λ (k : ℕ). field_in k a.name.now (drop (c.find-end.result + 1) a.bytes.now)) less
+    ∙ on (a.lines - w.passed) w.at (c.find-end.result + 1) a.name.now a.bytes.now (omega (arith, c.loop-passed-test.true)) (omega (arith, c.find-end.ensures)) (sym starts_is ∙ c.if-starts.false) ∙ w.invariant
 
 pub returns : goal.returns
 unfolding field_in
 returns c =
-    let w = c.loop-left in
+    let w = c.loop-passed in
     let a = c.args in
-    let z : 0 ≡ w.left = omega (arith, c.loop-left-test.false) in
+    let z : 0 ≡ (a.lines - w.passed) = omega (arith, c.loop-passed-test.false) in
     ap (λ (n : ℕ). field_in n a.name.now (drop w.at a.bytes.now)) z ∙ w.invariant

@@ -1,16 +1,19 @@
--- The byte is measured, and looked for among the letters before.
-use mathlib.Core.Path.{◌∙◌}
-use Rattle.key_legend.proofs.Drawn.{letter_low, letter_high, letter_taken, letter_free}
+use Rattle.std.proofs.Common.{◌∙◌, sym}
+use Rattle.key_legend.proofs.Drawn.{any_holds, letter_free, letter_not, letter_taken}
 use Rattle.key_legend.proofs.letters.letter_or.Goals as goal
+use Rattle.key_legend.proofs.letters.letter_or.Goals.{else-is_ascii_lowercase-via-then-is_ascii_lowercase+else-not-contains, else-is_ascii_lowercase-via-else-is_ascii_lowercase}
 
-pub returns-then-c-lt97 : goal.returns-then-c-lt97
-returns-then-c-lt97 c = let a = c.args in c.digit.ensures ∙ letter_low a.c a.before.now a.i c.if-c-lt97.true
+pub returns-then-not-contains : goal.returns-then-not-contains
+returns-then-not-contains c =
+    let a = c.args in
+    letter_free a.c a.before.now a.i (sym c.is_ascii_lowercase.ensures.value ∙ c.if-is_ascii_lowercase.true) (sym (c.contains.ensures.value ∙ any_holds a.c a.before.now) ∙ c.if-not-contains.true)
 
-pub returns-then-c-gt122 : goal.returns-then-c-gt122
-returns-then-c-gt122 c = let a = c.args in c.digit-then-c-gt122.ensures ∙ letter_high a.c a.before.now a.i c.if-c-lt97.false c.if-c-gt122.true
-
-pub returns-then-find-before : goal.returns-then-find-before
-returns-then-find-before c = let a = c.args in c.digit-then-find-before.ensures ∙ letter_taken a.c a.before.now a.i c.if-c-lt97.false c.if-c-gt122.false _ c.find.ensures c.if-find-before.true
-
-pub returns : goal.returns
-returns c = let a = c.args in letter_free a.c a.before.now a.i c.if-c-lt97.false c.if-c-gt122.false _ c.find.ensures c.if-find-before.false
+pub returns-else-is_ascii_lowercase : goal.returns-else-is_ascii_lowercase
+returns-else-is_ascii_lowercase c =
+    let a = c.args in
+    c.digit.ensures
+    ∙ elim c.else-is_ascii_lowercase.branch [
+      | else-is_ascii_lowercase-via-then-is_ascii_lowercase+else-not-contains w ↦
+          letter_taken a.c a.before.now a.i (sym c.is_ascii_lowercase.ensures.value ∙ w.if-is_ascii_lowercase.true) (sym (w.contains.ensures.value ∙ any_holds a.c a.before.now) ∙ w.if-not-contains.false)
+      | else-is_ascii_lowercase-via-else-is_ascii_lowercase w ↦ letter_not a.c a.before.now a.i (sym c.is_ascii_lowercase.ensures.value ∙ w.if-is_ascii_lowercase.false)
+    ]

@@ -1,5 +1,4 @@
 -- After j turns the slice holds the first j anchors in front of what it held, and the cursor stands before the next.
-use Prim.Native.Nat.{◌≤◌, ◌-◌}
 use mathlib.Core.Path.{◌≡◌}
 use Rattle.laws.proofs.Lists.{stored}
 use Rattle.tank.specs.State.{view}
@@ -10,9 +9,5 @@ use Rattle.lists.proofs.anchors.iter_anchors.Given as goal
 abbrev pub invariant-loop-j : goal.invariant-loop-j
 invariant-loop-j l = record {
   standing : Standing l.t l.j l.c;
-  le : l.j ≤ l.n;
   out_is : l.out ≡ stored (nth (anchors (view l.t))) l.fn.out l.j;
 }
-
-abbrev pub decreases-loop-j : goal.decreases-loop-j
-decreases-loop-j l = l.n - l.j

@@ -1,7 +1,10 @@
 use mathlib.Core.Path.{◌≡◌, ap, ◌∙◌}
 use mathlib.Core.Bool.{Bool}
 use native.Mathlib.Omega.{arith}
-use lib.ListN.{get_or}
+use lib.ListN.{length, get_or}
+use lib.Seq.{get_or-take, length-take-le}
+use Prim.Native.Nat.{◌<◌}
+use borrow.Author.Rules.{rules}
 use borrow.Author.Tests.{not-true, not-false}
 use Rattle.runs.specs.Positions.{any_at}
 use Rattle.night.specs.Plans.{no_range, held_at}
@@ -26,20 +29,8 @@ pub key_bits-mask-requires : goal.key_bits-mask-requires
 key_bits-mask-requires c = c.requires.laid.few
 
 -- src/plans.rt:60:5
-pub loop-i-init : goal.loop-i-init
-loop-i-init c = begun _ _ _
-
--- src/plans.rt:61:17
-pub offset_bounds-plan-i : goal.offset_bounds-plan-i
-offset_bounds-plan-i c =
-    let few = c.if-plan-gt32.false in
-    omega arith
-
--- src/plans.rt:61:17
-pub bounds-plan-i : goal.bounds-plan-i
-bounds-plan-i c =
-    let few = c.if-plan-gt32.false in
-    omega arith
+pub loop-x-init : goal.loop-x-init
+loop-x-init c = begun _ _ _
 
 -- src/plans.rt:62:13
 pub clear-requires : goal.clear-requires
@@ -50,41 +41,38 @@ pub returns-then-not-clear : goal.returns-then-not-clear
 unfolding view
 returns-then-not-clear c =
     let a = c.args in
-    let l = c.loop-i in
-    let x = get_or a.plan.ranges l.i no_range in
+    let l = c.loop-x in
+    let long : length a.plan.ranges ≡ 32 = search rules in
+    let whole = length-take-le a.plan.count a.plan.ranges (omega arith) in
+    let within : l.x-index < a.plan.count = omega arith in
+    let x = get_or a.plan.ranges l.x-index no_range in
+    let e = get_or-take a.plan.count a.plan.ranges l.x-index no_range within in
     let is : c.clear.result ≡ clears l.from (view a.t).length (any_at (held_at a.hold (view a.t)) x.start x.end) x =
-    c.clear.ensures
+    (rw e at c.clear.ensures)
     ∙ ap (λ (b : Bool). clears l.from a.t.length b x) (any_held c.requires a.hold c.key_bits-mask.ensures x.start x.end) in
     fits_touched a.t a.hold a.plan c.if-plan-gt32.false (not-false _ c.if-not-t.false)
-    (turn_off l.invariant c.loop-i-test.true c.clear.result is c.if-not-clear.true)
-
--- src/plans.rt:66:9
-pub overflow_add-i : goal.overflow_add-i
-overflow_add-i c =
-    let few = c.if-plan-gt32.false in
-    let i = c.loop-i.invariant.within in
-    omega arith
+    (turn_off l.invariant within c.clear.result is c.if-not-clear.true)
 
 -- src/plans.rt:60:5
-pub loop-i-smaller : goal.loop-i-smaller
-loop-i-smaller c =
-    let m = c.loop-i-test.true in
-    omega arith
-
--- src/plans.rt:60:5
-pub loop-i-preserved : goal.loop-i-preserved
+pub loop-x-preserved : goal.loop-x-preserved
 unfolding view
-loop-i-preserved c =
+loop-x-preserved c =
     let a = c.args in
-    let l = c.loop-i in
-    let x = get_or a.plan.ranges l.i no_range in
+    let l = c.loop-x in
+    let long : length a.plan.ranges ≡ 32 = search rules in
+    let whole = length-take-le a.plan.count a.plan.ranges (omega arith) in
+    let within : l.x-index < a.plan.count = omega arith in
+    let x = get_or a.plan.ranges l.x-index no_range in
+    let e = get_or-take a.plan.count a.plan.ranges l.x-index no_range within in
     let is : c.clear.result ≡ clears l.from (view a.t).length (any_at (held_at a.hold (view a.t)) x.start x.end) x =
-    c.clear.ensures
+    (rw e at c.clear.ensures)
     ∙ ap (λ (b : Bool). clears l.from a.t.length b x) (any_held c.requires a.hold c.key_bits-mask.ensures x.start x.end) in
-    turn_on l.invariant c.loop-i-test.true c.clear.result is c.if-not-clear.false
+    rw e (turn_on l.invariant within c.clear.result is c.if-not-clear.false)
 
 -- src/plans.rt:46:1
 pub returns : goal.returns
 returns c =
     let a = c.args in
-    fits_touched a.t a.hold a.plan c.if-plan-gt32.false (not-false _ c.if-not-t.false) (at_end_lem c.loop-i.invariant c.loop-i-test.false)
+    let long : length a.plan.ranges ≡ 32 = search rules in
+    let whole = length-take-le a.plan.count a.plan.ranges (omega arith) in
+    fits_touched a.t a.hold a.plan c.if-plan-gt32.false (not-false _ c.if-not-t.false) (at_end_lem c.loop-x.invariant (omega arith))

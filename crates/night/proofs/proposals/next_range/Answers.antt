@@ -15,10 +15,10 @@ returns c =
     let low = c.requires.1 in
     let fits = c.requires.2 in
     let sum = c.requires.0.laid.sum in
-    let start = c.sooner-start.result in
-    let e = c.sooner-start.ensures in (
-      c.sooner-start.ensures
+    let start = c.min-start.result in
+    let e = c.min-start.ensures in (
+      c.min-start.ensures
           ∙ clipped (λ p. not (meets c.args.mask (set_at (runs_of t) p))) c.args.at c.args.below (total (runs_of t)) c.first_without-first.result low (omega arith) c.first_without-first.ensures,
-      c.sooner-end.ensures
+      c.min-end.ensures
           ∙ clipped (λ p. meets c.args.mask (set_at (runs_of t) p)) start c.args.below (total (runs_of t)) c.first_with-past.result (omega arith) (omega arith) c.first_with-past.ensures,
     )

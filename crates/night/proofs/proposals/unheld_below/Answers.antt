@@ -1,3 +1,5 @@
+use Prim.Native.Nat.{ℕ}
+use mathlib.Core.Path.{◌≡◌, ap, ◌∙◌}
 use native.Mathlib.Omega.{arith}
 use Rattle.night.proofs.UnheldLaws.{none_yet, without_is, with_is, gathered_all, gathered_last, gathered_more}
 use Rattle.night.proofs.proposals.unheld_below.Goals as goal
@@ -22,30 +24,6 @@ returns-then-below-x c =
     let x = c.next_range-x in
     gathered_last c.requires.0 c.args.hold m c.args.below l.invariant c.loop-k-test.true x.result.start (without_is c.requires.0 c.args.hold m c.args.below l.at x.result.start x.ensures.0) c.if-below-x.true
 
--- src/plans.rt:104:9
-pub offset_bounds-ranges-k : goal.offset_bounds-ranges-k
-offset_bounds-ranges-k c =
-    let h = c.loop-k-test.true in
-    omega arith
-
--- src/plans.rt:104:9
-pub bounds-ranges-k : goal.bounds-ranges-k
-bounds-ranges-k c =
-    let h = c.loop-k-test.true in
-    omega arith
-
--- src/plans.rt:106:9
-pub overflow_add-k : goal.overflow_add-k
-overflow_add-k c =
-    let h = c.loop-k-test.true in
-    omega arith
-
--- src/plans.rt:96:5
-pub loop-k-smaller : goal.loop-k-smaller
-loop-k-smaller c =
-    let h = c.loop-k-test.true in
-    omega arith
-
 -- src/plans.rt:96:5
 pub loop-k-preserved : goal.loop-k-preserved
 loop-k-preserved c =
@@ -61,4 +39,6 @@ loop-k-preserved c =
 pub returns : goal.returns
 returns c =
     let m = c.key_bits-mask.ensures in
-    gathered_all c.requires.0 c.args.hold m c.args.below c.loop-k.invariant c.loop-k-test.false
+    let e : 32 ≡ c.loop-k.k = omega arith in
+    ap (λ (k : ℕ). record { count = k; ranges = c.loop-k.ranges }) e
+    ∙ gathered_all c.requires.0 c.args.hold m c.args.below c.loop-k.invariant c.loop-k-test.false

@@ -1,9 +1,6 @@
 -- The sign, or nothing.
-use Rattle.picture.proofs.Choices.{chosen, not_chosen}
+use Rattle.picture.proofs.Choices.{not_chosen}
 use Rattle.picture.proofs.bands.broken_if.Goals as goal
-
-pub returns-then-yes : goal.returns-then-yes
-returns-then-yes c = chosen c.args.yes c.if-yes.true c.broken.ensures
 
 pub returns : goal.returns
 returns c = not_chosen _ _ _ c.args.yes c.if-yes.false

@@ -1,7 +1,6 @@
 -- A key to a turn; what is left to say stays the same.
-use Prim.Native.Nat.{ℕ, ◌-◌, ◌≤◌}
-use mathlib.Core.Path.{◌≡◌}
-use lib.ListN.{length, get_or}
+use Prim.Native.Nat.{ℕ, ◌-◌}
+use lib.ListN.{get_or}
 use Rattle.answers.proofs.Laws.{Left}
 use Rattle.key_names.specs.Names.{names_of}
 use Rattle.picture.specs.Elements.{each_from}
@@ -9,7 +8,4 @@ use Rattle.picture.specs.Picture.{entry_says}
 use Rattle.picture.proofs.entries.entries.Given as goal
 
 abbrev pub invariant-loop-i : goal.invariant-loop-i
-invariant-loop-i l = (l.i ≤ 12) × (length l.out ≡ length l.initial.out) × Left l.initial.out l.initial.k (each_from (λ (j : ℕ). entry_says (names_of l.names) j (get_or l.keys j 0)) 0 12) l.k l.out (each_from (λ (j : ℕ). entry_says (names_of l.names) j (get_or l.keys j 0)) l.i (12 - l.i))
-
-abbrev pub decreases-loop-i : goal.decreases-loop-i
-decreases-loop-i l = 12 - l.i
+invariant-loop-i l = Left l.initial.out l.initial.k (each_from (λ (j : ℕ). entry_says (names_of l.names) j (get_or l.key-items j 0)) 0 12) l.k l.out (each_from (λ (j : ℕ). entry_says (names_of l.names) j (get_or l.key-items j 0)) l.i (12 - l.i))

@@ -1,6 +1,5 @@
 -- Its parts, or nothing.
 use mathlib.Core.List.{[], ◌++◌, ◌∷◌}
-use native.Mathlib.Omega.{arith}
 use Rattle.answers.proofs.Laws.{and_then, no_piece}
 use Rattle.key_names.specs.Names.{names_of, key_text}
 use Rattle.picture.specs.Elements.{colour_says}
@@ -9,7 +8,6 @@ use Rattle.picture.proofs.Choices.{when_true, when_false}
 use borrow.Author.Tests.{lt-ltb, le-ltb}
 use lib.Dec.{ltb}
 use Rattle.text.specs.Bytes.{bytes}
-use borrow.Author.Rules.{rules}
 use Rattle.picture.proofs.entries.entry.Goals as goal
 
 pub returns-then-key-gt65535 : goal.returns-then-key-gt65535
@@ -17,9 +15,6 @@ unfolding entry_says
 returns-then-key-gt65535 c =
     let a = c.args in
     when_true [] (patch_says a.i ++ (colour_says a.i ++ (caption_says a.i ++ key_text (names_of a.names) a.key ∷ bytes "</text>\n" ∷ []))) (ltb 65535 a.key) (lt-ltb 65535 a.key c.if-key-gt65535.true) (no_piece _ _)
-
-pub key_name-d-requires : goal.key_name-d-requires
-key_name-d-requires c = (search rules, c.requires.1, let h = c.if-key-gt65535.false in omega arith)
 
 pub returns : goal.returns
 unfolding entry_says

@@ -1,40 +1,26 @@
-use Prim.Native.Nat.{ℕ, ◌+◌}
+use Prim.Native.Nat.{ℕ}
 use mathlib.Core.Bool.{Bool, cond}
 use mathlib.Core.List.{[]}
 use mathlib.Core.Path.{ap}
-use native.Mathlib.Omega.{arith}
 use lib.ListN.{get_or}
-use Rattle.answers.proofs.Laws.{adds_as, left_all, left_more, left_none}
+use Rattle.answers.proofs.Laws.{adds_as, left_more, left_none}
 use Rattle.tank.specs.State.{view}
 use Rattle.windows.specs.Windows.{shows_at}
 use Rattle.picture.specs.Lanes.{bar_says, key_bars}
 use Rattle.picture.proofs.Turns.{stretch_more, stretch_none}
-use borrow.Author.Rules.{rules}
 use Rattle.picture.proofs.lanes.key_bars.Goals as goal
 
-pub loop-i-init : goal.loop-i-init
-loop-i-init c = (search rules, search rules, left_all _ _ _)
-
-pub returns-then-list-i-lt3 : goal.returns-then-list-i-lt3
-unfolding key_bars
-returns-then-list-i-lt3 c =
+pub loop-left-preserved : goal.loop-left-preserved
+loop-left-preserved c =
     let lane = c.args.lane in
     let v = view c.args.t in
-    let list = c.args.list.now in
-    left_none (stretch_none (λ (from to marks : ℕ). cond (shows_at v lane.key from) (bar_says lane from to) []) list c.loop-i.i (omega arith)) c.loop-i.invariant.2
-
-pub loop-i-preserved : goal.loop-i-preserved
-loop-i-preserved c =
-    let lane = c.args.lane in
-    let v = view c.args.t in
-    let list = c.args.list.now in
-    let w = c.loop-i in
-    (omega arith, search rules, left_more (stretch_more (λ (from to marks : ℕ). cond (shows_at v lane.key from) (bar_says lane from to) []) list w.i (omega arith)) (adds_as (ap (λ (b : Bool). cond b (bar_says lane (get_or list w.i 0) (get_or list (w.i + 1) 0)) []) c.shows-yes.ensures) c.bar_if-k.ensures) w.invariant.2)
+    let w = c.loop-left in
+    let l = w.left.now in
+    left_more (stretch_more (λ (from to marks : ℕ). cond (shows_at v lane.key from) (bar_says lane from to) []) l c.in-len3-up.len_at_least) (adds_as (ap (λ (b : Bool). cond b (bar_says lane (get_or l 0 0) (get_or l 1 0)) []) c.shows-yes.ensures) c.bar_if-k.ensures) w.invariant
 
 pub returns : goal.returns
 unfolding key_bars
 returns c =
     let lane = c.args.lane in
     let v = view c.args.t in
-    let list = c.args.list.now in
-    left_none (stretch_none (λ (from to marks : ℕ). cond (shows_at v lane.key from) (bar_says lane from to) []) list c.loop-i.i (omega arith)) c.loop-i.invariant.2
+    left_none (stretch_none (λ (from to marks : ℕ). cond (shows_at v lane.key from) (bar_says lane from to) []) c.loop-left.left.now c.in_default.len_below) c.loop-left.invariant

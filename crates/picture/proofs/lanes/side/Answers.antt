@@ -6,14 +6,8 @@ use lib.ListN.{replicate, length-replicate}
 use Rattle.answers.proofs.Laws.{and_then, adds_as}
 use Rattle.tank.specs.State.{view}
 use Rattle.picture.specs.Lanes.{lanes_say, higher_says, behind_last, rows_of, side_says}
-use Rattle.picture.proofs.Listing.{listed_is, listed_fits}
-use borrow.Author.Rules.{rules}
+use Rattle.picture.proofs.Listing.{listed_is}
 use Rattle.picture.proofs.lanes.side.Goals as goal
-
-pub lanes_over-requires : goal.lanes_over-requires
-lanes_over-requires c =
-    let e = c.list_whole-listed.ensures in
-    (search rules, c.requires.1, c.requires.2, c.requires.3, c.requires.4, listed_fits c.requires.1 (replicate 1536 0) _ c.list_whole-listed.result (length-replicate {A = ℕ} 1536 0) e.value e.out_after)
 
 pub returns : goal.returns
 unfolding side_says

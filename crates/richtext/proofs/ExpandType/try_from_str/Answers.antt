@@ -1,22 +1,47 @@
 -- `ExpandType::try_from_str` meets its contract: each answer rests on the tests that led to it. Assumes nothing.
-use mathlib.Core.Path.{◌≡◌, sym, ◌∙◌}
-use mathlib.Core.Bool.{true, false}
+use Rattle.std.proofs.Common.{◌≡◌, List, ℕ, Bool, true, false, sym, ◌∙◌}
+use lib.Dec.{eqb}
+use lib.Pointwise.{pointwise}
 use Rattle.text.specs.Bytes.{same_of}
 use Rattle.richtext.specs.Types.{word}
 use Rattle.richtext.specs.declared.ExpandType.TheVariants.{Before, After, Both, None}
+use Rattle.richtext.proofs.Laws.{same_said}
 use Rattle.richtext.proofs.ExpandType.try_from_str.Goals as goal
 
-pub returns-then-same : goal.returns-then-same
-returns-then-same c = rw ((let h : same_of c.args.s.now (word Before) ≡ true = sym c.same.ensures ∙ c.if-same.true in h))
+-- what the test of a word told
+told : (s t : List ℕ) {w : List ℕ} {b c : Bool} → b ≡ pointwise eqb s w → w ≡ t → b ≡ c → same_of s t ≡ c
+told s t e f g = rw (← f) (same_said s _ _ (sym g ∙ e))
 
-pub returns-then-same-2 : goal.returns-then-same-2
-returns-then-same-2 c = rw ((let h : same_of c.args.s.now (word Before) ≡ false = sym c.same.ensures ∙ c.if-same.false in h), (let h : same_of c.args.s.now (word After) ≡ true = sym c.same-2.ensures ∙ c.if-same-2.true in h))
+pub returns-then-eq : goal.returns-then-eq
+returns-then-eq c =
+    let h1 : same_of c.args.s.now (word Before) ≡ true = told c.args.s.now (word Before) c.eq.ensures c.as_slice.ensures c.if-eq.true in
+    rw (h1)
 
-pub returns-then-same-3 : goal.returns-then-same-3
-returns-then-same-3 c = rw ((let h : same_of c.args.s.now (word Before) ≡ false = sym c.same.ensures ∙ c.if-same.false in h), (let h : same_of c.args.s.now (word After) ≡ false = sym c.same-2.ensures ∙ c.if-same-2.false in h), (let h : same_of c.args.s.now (word Both) ≡ true = sym c.same-3.ensures ∙ c.if-same-3.true in h))
+pub returns-then-eq-2 : goal.returns-then-eq-2
+returns-then-eq-2 c =
+    let h1 : same_of c.args.s.now (word Before) ≡ false = told c.args.s.now (word Before) c.eq.ensures c.as_slice.ensures c.if-eq.false in
+    let h2 : same_of c.args.s.now (word After) ≡ true = told c.args.s.now (word After) c.eq-2.ensures c.as_slice-2.ensures c.if-eq-2.true in
+    rw (h1, h2)
 
-pub returns-then-same-4 : goal.returns-then-same-4
-returns-then-same-4 c = rw ((let h : same_of c.args.s.now (word Before) ≡ false = sym c.same.ensures ∙ c.if-same.false in h), (let h : same_of c.args.s.now (word After) ≡ false = sym c.same-2.ensures ∙ c.if-same-2.false in h), (let h : same_of c.args.s.now (word Both) ≡ false = sym c.same-3.ensures ∙ c.if-same-3.false in h), (let h : same_of c.args.s.now (word None) ≡ true = sym c.same-4.ensures ∙ c.if-same-4.true in h))
+pub returns-then-eq-3 : goal.returns-then-eq-3
+returns-then-eq-3 c =
+    let h1 : same_of c.args.s.now (word Before) ≡ false = told c.args.s.now (word Before) c.eq.ensures c.as_slice.ensures c.if-eq.false in
+    let h2 : same_of c.args.s.now (word After) ≡ false = told c.args.s.now (word After) c.eq-2.ensures c.as_slice-2.ensures c.if-eq-2.false in
+    let h3 : same_of c.args.s.now (word Both) ≡ true = told c.args.s.now (word Both) c.eq-3.ensures c.as_slice-3.ensures c.if-eq-3.true in
+    rw (h1, h2, h3)
+
+pub returns-then-eq-4 : goal.returns-then-eq-4
+returns-then-eq-4 c =
+    let h1 : same_of c.args.s.now (word Before) ≡ false = told c.args.s.now (word Before) c.eq.ensures c.as_slice.ensures c.if-eq.false in
+    let h2 : same_of c.args.s.now (word After) ≡ false = told c.args.s.now (word After) c.eq-2.ensures c.as_slice-2.ensures c.if-eq-2.false in
+    let h3 : same_of c.args.s.now (word Both) ≡ false = told c.args.s.now (word Both) c.eq-3.ensures c.as_slice-3.ensures c.if-eq-3.false in
+    let h4 : same_of c.args.s.now (word None) ≡ true = told c.args.s.now (word None) c.eq-4.ensures c.as_slice-4.ensures c.if-eq-4.true in
+    rw (h1, h2, h3, h4)
 
 pub returns : goal.returns
-returns c = rw ((let h : same_of c.args.s.now (word Before) ≡ false = sym c.same.ensures ∙ c.if-same.false in h), (let h : same_of c.args.s.now (word After) ≡ false = sym c.same-2.ensures ∙ c.if-same-2.false in h), (let h : same_of c.args.s.now (word Both) ≡ false = sym c.same-3.ensures ∙ c.if-same-3.false in h), (let h : same_of c.args.s.now (word None) ≡ false = sym c.same-4.ensures ∙ c.if-same-4.false in h))
+returns c =
+    let h1 : same_of c.args.s.now (word Before) ≡ false = told c.args.s.now (word Before) c.eq.ensures c.as_slice.ensures c.if-eq.false in
+    let h2 : same_of c.args.s.now (word After) ≡ false = told c.args.s.now (word After) c.eq-2.ensures c.as_slice-2.ensures c.if-eq-2.false in
+    let h3 : same_of c.args.s.now (word Both) ≡ false = told c.args.s.now (word Both) c.eq-3.ensures c.as_slice-3.ensures c.if-eq-3.false in
+    let h4 : same_of c.args.s.now (word None) ≡ false = told c.args.s.now (word None) c.eq-4.ensures c.as_slice-4.ensures c.if-eq-4.false in
+    rw (h1, h2, h3, h4)

@@ -86,12 +86,12 @@ loop-start-smaller-then-missed c = omega (arith, (let h : (c.loop-start.i < c.ar
 pub loop-start-preserved-then-missed : goal.loop-start-preserved-then-missed
 unfolding passes
 loop-start-preserved-then-missed c =
-    turn-missed c.requires c.loop-start.invariant c.loop-start-test.true c.sooner-from.result (sym ((let c : let l = c.loop-start in
+    turn-missed c.requires c.loop-start.invariant c.loop-start-test.true c.min-from.result (sym ((let c : let l = c.loop-start in
     let a = c.args in
     c.here-missed.result ≡ (ltb 0 (clip 0 (a.last + 1) l.start (get_or a.lens.now l.i 0)) && not (meets a.mask (get_or a.sets.now l.i 0))) = let l = c.loop-start in
     let a = c.args in
     c.here-missed.ensures ∙ ap (λ (b : Bool). b && not (meets a.mask (get_or a.sets.now l.i 0))) (some-asked a.last l.start (get_or a.lens.now l.i 0) c.loop-start-test.true) in c)) ∙ c.if-missed.true)
-    c.sooner-from.ensures
+    c.min-from.ensures
 
 pub loop-start-smaller : goal.loop-start-smaller
 loop-start-smaller c = omega (arith, (let h : (c.loop-start.i < c.args.n) × (c.args.n ≤ length c.args.lens.now) × (c.args.n ≤ length c.args.sets.now) = (in-turn c.requires c.loop-start.invariant c.loop-start-test.true, c.requires.look.lens_n, c.requires.look.sets_n) in h))

@@ -44,7 +44,6 @@ module _ {test : ℕ → Bool} {lens sets : List ℕ} {n from k start : ℕ} (ca
   turn e =
       let z = inv.begun in
       record {
-        within = omega arith;
         begun = omega (arith, total_more lens sets k);
         clear = λ p a h.
             elim (dec_lt p start) [
@@ -55,13 +54,11 @@ module _ {test : ℕ → Bool} {lens sets : List ℕ} {n from k start : ℕ} (ca
             ];
       }
 
-at-end : {test : ℕ → Bool} {lens sets : List ℕ} {n from k start : ℕ} → CanScan lens sets n from → Sought test lens sets n from k start → n ≤ k
+at-end : {test : ℕ → Bool} {lens sets : List ℕ} {n from k start : ℕ} → CanScan lens sets n from → Sought test lens sets n from k start → k ≡ n
     → start ≡ seek_from (λ p. test (set_at (runs lens sets n) p)) from (total (runs lens sets n) - from)
-at-end {test} {lens} {sets} {n} {from} {k} {start} can inv h =
-    let w = inv.within in
+at-end {test} {lens} {sets} {n} {from} {k} {start} can inv e =
     let z = inv.begun in
     let r = can.reach in
-    let e : k ≡ n = omega arith in
     let t = ap (λ (x : ℕ). total (runs lens sets x)) e in
     sym
     (seek_is (λ p. test (set_at (runs lens sets n) p)) from (total (runs lens sets n) - from) start (omega arith) (omega arith)
@@ -69,14 +66,14 @@ at-end {test} {lens} {sets} {n} {from} {k} {start} can inv h =
 
 pub loop-j-init : goal.loop-j-init
 unfolding runs total
-loop-j-init c = record { within = omega arith; begun = refl; clear = λ p a h. absurd (omega arith) }
+loop-j-init c = record { begun = refl; clear = λ p a h. absurd (omega arith) }
 
 pub overflow_add-end : goal.overflow_add-end
 overflow_add-end c = omega (arith, turn_end _ _ _ c.loop-j.invariant.begun (omega arith) c.requires.look.small)
 
 pub returns-then-here : goal.returns-then-here
 returns-then-here c =
-    c.later.ensures ∙ turn-found c.requires c.loop-j.invariant (omega arith) (sym ((let c : let l = c.loop-j in
+    c.max.ensures ∙ turn-found c.requires c.loop-j.invariant (omega arith) (sym ((let c : let l = c.loop-j in
     let a = c.args in
     c.here.result ≡ (ltb 0 (part a.from l.start a.lens.now l.j) && passes a.test (get_or a.sets.now l.j 0)) = let a = c.args in
     c.here.ensures ∙ ap (λ (x : ℕ). ltb 0 x && passes a.test (get_or a.sets.now c.loop-j.j 0)) c.clip-len.ensures in c)) ∙ c.if-here.true)

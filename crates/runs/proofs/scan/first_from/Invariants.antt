@@ -1,5 +1,5 @@
 -- `scan::first_from` meets its contract. The invariant: no position before run k passes.
-use Prim.Native.Nat.{ℕ, ◌-◌, ◌≤◌, ◌<◌}
+use Prim.Native.Nat.{ℕ, ◌≤◌, ◌<◌}
 use mathlib.Core.Path.{◌≡◌}
 use mathlib.Core.Bool.{Bool, false}
 use mathlib.Core.List.{List}
@@ -8,12 +8,8 @@ use Rattle.runs.specs.Scan.{passes}
 use Rattle.runs.proofs.scan.first_from.Given as goal
 
 pub record Sought (test : ℕ → Bool) (lens sets : List ℕ) (n from k start : ℕ) : Type 0 where
-  pub within : k ≤ n
   pub begun : start ≡ total (runs lens sets k)
   pub clear : (p : ℕ) → from ≤ p → p < start → test (set_at (runs lens sets n) p) ≡ false
 
 abbrev pub invariant-loop-j : goal.invariant-loop-j
 invariant-loop-j l = Sought (passes l.test) l.lens l.sets l.n l.from l.j l.start
-
-abbrev pub decreases-loop-j : goal.decreases-loop-j
-decreases-loop-j l = l.n - l.j

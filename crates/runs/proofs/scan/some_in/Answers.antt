@@ -30,7 +30,6 @@ module _ {test : ℕ → Bool} {lens sets : List ℕ} {n from to k start : ℕ} 
   turn : (ltb 0 (clip from to start (get_or lens k 0)) && test (get_or sets k 0)) ≡ false → Scanned test lens sets n from to (k + 1) (start + get_or lens k 0)
   turn e =
       record {
-        within = omega arith;
         begun = omega (arith, total_more lens sets k);
         clear = λ p a b h.
             elim (dec_lt p start) [
@@ -41,16 +40,15 @@ module _ {test : ℕ → Bool} {lens sets : List ℕ} {n from to k start : ℕ} 
             ];
       }
 
-at-end : {test : ℕ → Bool} {lens sets : List ℕ} {n from to k start : ℕ} → CanScan lens sets n to → Scanned test lens sets n from to k start → n ≤ k
+at-end : {test : ℕ → Bool} {lens sets : List ℕ} {n from to k start : ℕ} → CanScan lens sets n to → Scanned test lens sets n from to k start → k ≡ n
     → any_at (λ p. test (set_at (runs lens sets n) p)) from to ≡ false
-at-end {test} {lens} {sets} {n} {from} {to} {k} can inv h =
-    let e : k ≡ n = omega arith in
+at-end {test} {lens} {sets} {n} {from} {to} {k} can inv e =
     let t = ap (λ (x : ℕ). total (runs lens sets x)) e in
     any_no (λ p. test (set_at (runs lens sets n) p)) from to (λ p a b. inv.clear p a b (omega arith))
 
 pub loop-k-init : goal.loop-k-init
 unfolding runs total
-loop-k-init c = record { within = omega arith; begun = refl; clear = λ p a b h. absurd (omega arith) }
+loop-k-init c = record { begun = refl; clear = λ p a b h. absurd (omega arith) }
 
 pub overflow_add-end : goal.overflow_add-end
 overflow_add-end c = omega (arith, turn_end _ _ _ c.loop-k.invariant.begun (omega arith) c.requires.look.small)

@@ -29,33 +29,31 @@ pub loop-i-init : goal.loop-i-init
 loop-i-init c =
     let k = c.keep_sets.ensures in
     let a = c.args in
-    (omega arith, renumber_self _ a.n _ (λ j h. kept_whole c.width-i.result a.mask (get_or a.sets.now j 0) (get_or c.keep_sets.new.sets j 0) c.width-i.ensures.1 (k.front j h)))
+    renumber_self _ a.n _ (λ j h. kept_whole c.width-i.result a.mask (get_or a.sets.now j 0) (get_or c.keep_sets.new.sets j 0) c.width-i.ensures.1 (k.front j h))
 
 pub loop-i-preserved-then-mask-i-eq0 : goal.loop-i-preserved-then-mask-i-eq0
 loop-i-preserved-then-mask-i-eq0 c =
-    let a = c.args in (
-      omega arith,
-      renumber_then (λ x y z e g. down-clear a.mask c.loop-i.i x y z (omega arith) c.loop-i.invariant.0 c.if-mask-i-eq0.true e g)
-          c.loop-i.invariant.1
-          c.close_sets.ensures,
-    )
+    let a = c.args in
+    let most = c.width-i.ensures.0 in
+    renumber_then (λ x y z e g. down-clear a.mask c.loop-i.i x y z (omega arith) (omega arith) c.if-mask-i-eq0.true e g)
+    c.loop-i.invariant
+    c.close_sets.ensures
 
 pub loop-i-preserved : goal.loop-i-preserved
 loop-i-preserved c =
     let a = c.args in
-    let s = c.loop-i.invariant.1 in (
-      omega arith,
-      record {
-        front = λ j h. down-set a.mask c.loop-i.i _ _ (omega arith) c.loop-i.invariant.0 c.if-mask-i-eq0.false (s.front j h);
-        rest = s.rest;
-        kept = s.kept;
-      },
-    )
+    let s = c.loop-i.invariant in
+    let most = c.width-i.ensures.0 in
+    record {
+      front = λ j h. down-set a.mask c.loop-i.i _ _ (omega arith) (omega arith) c.if-mask-i-eq0.false (s.front j h);
+      rest = s.rest;
+      kept = s.kept;
+    }
 
 pub shape_of-sets : goal.shape_of-sets
 shape_of-sets c =
     let k = c.keep_sets.ensures in
-    c.loop-i.invariant.1.kept ∙ k.kept
+    c.loop-i.invariant.kept ∙ k.kept
 
 pub returns : goal.returns
 returns c =
@@ -63,4 +61,4 @@ returns c =
     let k = c.keep_sets.ensures in
     let l = c.loop-i in
     let e : l.i ≡ 0 = omega arith in
-    renumber_then (λ x y z f g. subst (Squeezed a.mask x) (sym (g ∙ rw (e, f))) (partly_all a.mask x (omega arith))) k l.invariant.1
+    renumber_then (λ x y z f g. subst (Squeezed a.mask x) (sym (g ∙ rw (e, f))) (partly_all a.mask x (omega arith))) k l.invariant

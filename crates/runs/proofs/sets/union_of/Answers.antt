@@ -9,12 +9,12 @@ use Rattle.runs.proofs.sets.union_of.Goals as goal
 
 pub loop-k-init : goal.loop-k-init
 unfolding runs gather
-loop-k-init c = (omega arith, λ lens. refl)
+loop-k-init c = λ lens. refl
 
 pub loop-k-preserved : goal.loop-k-preserved
-loop-k-preserved c = (omega arith, λ lens. ap (bit_or (get_or c.args.sets.now c.loop-k.k 0)) (c.loop-k.invariant.1 lens) ∙ sym (gather_more lens _ _))
+loop-k-preserved c = λ lens. ap (bit_or (get_or c.args.sets.now c.loop-k.k 0)) (c.loop-k.invariant lens) ∙ sym (gather_more lens _ _)
 
 pub returns : goal.returns
 returns c lens =
     let e : c.loop-k.k ≡ c.args.n = omega arith in
-    rw (← e) (c.loop-k.invariant.1 lens)
+    rw (← e) (c.loop-k.invariant lens)

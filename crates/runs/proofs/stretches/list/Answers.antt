@@ -41,7 +41,6 @@ module _ {lens sets : List ℕ} {n from to least : ℕ} {out₀ out : List ℕ} 
       → Listed lens sets n from to least out₀ out' (k + 1) (start + get_or lens k 0) at'
   turn out' at' e g =
       record {
-        within = omega arith;
         begun = omega (arith, total_more lens sets k);
         place = omega (arith, clipped_length least from to lens sets k inv.begun);
         done =
@@ -51,13 +50,13 @@ module _ {lens sets : List ℕ} {n from to least : ℕ} {out₀ out : List ℕ} 
       }
 
 kept : {lens sets : List ℕ} {n from to least : ℕ} {out₀ out : List ℕ} {k start at : ℕ} → Fits least from to lens sets n out₀
-    → Listed lens sets n from to least out₀ out k start at → length out ≡ length out₀
-kept {lens} {sets} {n} {from} {to} {least} {out₀} {k = k} can inv =
-    ap length inv.done ∙ front_length (clipped_list least from to lens sets k) out₀ (omega (arith, clipped_grows least from to lens sets k n inv.within))
+    → Listed lens sets n from to least out₀ out k start at → k ≤ n → length out ≡ length out₀
+kept {lens} {sets} {n} {from} {to} {least} {out₀} {k = k} can inv h =
+    ap length inv.done ∙ front_length (clipped_list least from to lens sets k) out₀ (omega (arith, clipped_grows least from to lens sets k n h))
 
 pub loop-k-init : goal.loop-k-init
 unfolding runs total clipped as_numbers
-loop-k-init c = record { within = omega arith; begun = refl; place = refl; done = refl }
+loop-k-init c = record { begun = refl; place = refl; done = refl }
 
 pub overflow_add-end : goal.overflow_add-end
 overflow_add-end c = omega (arith, turn_end _ _ _ c.loop-k.invariant.begun (omega arith) (fits_of c.requires).look.small)
@@ -69,7 +68,7 @@ pub loop-k-preserved : goal.loop-k-preserved
 loop-k-preserved c = turn (fits_of c.requires) c.loop-k.invariant (omega arith) _ _ c.write_part-at.ensures.out_after c.write_part-at.ensures.value
 
 pub shape_of-out : goal.shape_of-out
-shape_of-out c = kept (fits_of c.requires) c.loop-k.invariant
+shape_of-out c = kept (fits_of c.requires) c.loop-k.invariant (omega arith)
 
 pub returns : goal.returns
 returns c =

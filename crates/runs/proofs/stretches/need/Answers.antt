@@ -22,14 +22,13 @@ module _ {lens sets : List ℕ} {n from to least k start count : ℕ} (can : Can
       → Needed lens sets n from to least (k + 1) (start + get_or lens k 0) (count + more)
   turn more e =
       record {
-        within = omega arith;
         begun = omega (arith, total_more lens sets k);
         place = omega (arith, clipped_length least from to lens sets k inv.begun);
       }
 
 pub loop-k-init : goal.loop-k-init
 unfolding runs total clipped as_numbers
-loop-k-init c = record { within = omega arith; begun = refl; place = refl }
+loop-k-init c = record { begun = refl; place = refl }
 
 pub overflow_add-end : goal.overflow_add-end
 overflow_add-end c = omega (arith, turn_end _ _ _ c.loop-k.invariant.begun (omega arith) c.requires.0.look.small)

@@ -14,23 +14,23 @@ returns-in_default c = begun.version_wrong c.args.bytes.now (sym c.in_default.is
 pub pairs_lines-p-requires : goal.pairs_lines-p-requires
 pairs_lines-p-requires c =
     let a = c.args in
-    let version_known = sym c.in-Number.is ∙ c.number.ensures in
-    (omega arith, taken_inside version_name (decimal_from 1 newest) a.bytes.now 0 c.in-Number.version c.in-Number.start (sym version_known))
+    let version_known = sym c.in-Some.is ∙ c.number.ensures in
+    (omega arith, taken_inside version_name (decimal_from 1 newest) a.bytes.now 0 c.in-Some.version c.in-Some.start (sym version_known))
 
 pub returns-then-p-gt0 : goal.returns-then-p-gt0
 returns-then-p-gt0 c =
     let a = c.args in
-    let version_known = sym c.in-Number.is ∙ c.number.ensures in
-    begun.settings_wrong a.bytes.now c.in-Number.version c.in-Number.start version_known c.pairs_lines-p.result c.pairs_lines-p.ensures c.if-p-gt0.true c.nothing_opened-then-p-gt0.result c.nothing_opened-then-p-gt0.ensures.0 c.nothing_opened-then-p-gt0.ensures.1
+    let version_known = sym c.in-Some.is ∙ c.number.ensures in
+    begun.settings_wrong a.bytes.now c.in-Some.version c.in-Some.start version_known c.pairs_lines-p.result c.pairs_lines-p.ensures c.if-p-gt0.true c.nothing_opened-then-p-gt0.result c.nothing_opened-then-p-gt0.ensures.0 c.nothing_opened-then-p-gt0.ensures.1
 
 pub returns-then-o-gt0 : goal.returns-then-o-gt0
 returns-then-o-gt0 c =
     let a = c.args in
-    let version_known = sym c.in-Number.is ∙ c.number.ensures in
-    begun.shares_wrong a.bytes.now c.in-Number.version c.in-Number.start version_known c.pairs_lines-p.result c.pairs_lines-p.ensures c.if-p-gt0.false c.open-o.result c.open-o.ensures c.if-o-gt0.true c.nothing_opened-then-o-gt0.result c.nothing_opened-then-o-gt0.ensures.0 c.nothing_opened-then-o-gt0.ensures.1
+    let version_known = sym c.in-Some.is ∙ c.number.ensures in
+    begun.shares_wrong a.bytes.now c.in-Some.version c.in-Some.start version_known c.pairs_lines-p.result c.pairs_lines-p.ensures c.if-p-gt0.false c.open-o.result c.open-o.ensures c.if-o-gt0.true c.nothing_opened-then-o-gt0.result c.nothing_opened-then-o-gt0.ensures.0 c.nothing_opened-then-o-gt0.ensures.1
 
 pub returns : goal.returns
 returns c =
     let a = c.args in
-    let version_known = sym c.in-Number.is ∙ c.number.ensures in
-    begun.begun a.bytes.now c.in-Number.version c.in-Number.start version_known c.pairs_lines-p.result c.pairs_lines-p.ensures c.if-p-gt0.false c.open-o.result c.open-o.ensures c.if-o-gt0.false
+    let version_known = sym c.in-Some.is ∙ c.number.ensures in
+    begun.begun a.bytes.now c.in-Some.version c.in-Some.start version_known c.pairs_lines-p.result c.pairs_lines-p.ensures c.if-p-gt0.false c.open-o.result c.open-o.ensures c.if-o-gt0.false

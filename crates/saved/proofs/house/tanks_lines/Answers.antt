@@ -1,4 +1,5 @@
 use native.Mathlib.Omega.{arith}
+use Rattle.refusal.proofs.NumberLaws.{positive}
 use Rattle.tanks.proofs.SettingLaws as rule
 use Rattle.saved.proofs.Restoring.{filling_none, tank_wrong, sum_wrong, tank_more, filling_done}
 use Rattle.saved.proofs.house.tanks_lines.Goals as goal
@@ -26,20 +27,20 @@ returns-then-r-gt0 c =
     let a = c.args in
     rw c.filled_to.ensures (tank_wrong a.version a.start.settings a.bytes.now a.from l.tanks l.at l.lines l.t l.invariant c.loop-t-test.true c.limit_of.result c.limit_of.ensures c.tank_lines-r.result c.tank_lines-r.ensures c.if-r-gt0.true)
 
-pub put-p-requires : goal.put-p-requires
-put-p-requires c = (c.loop-t.invariant.sound, c.loop-t-test.true, c.tank_lines-r.ensures.formed (omega (arith, c.if-r-gt0.false)))
+pub put-requires : goal.put-requires
+put-requires c = (c.loop-t.invariant.sound, c.loop-t-test.true, c.tank_lines-r.ensures.formed (omega (arith, c.if-r-gt0.false)))
 
-pub returns-then-p-gt0 : goal.returns-then-p-gt0
-returns-then-p-gt0 c =
+pub returns-in-Err : goal.returns-in-Err
+returns-in-Err c =
     let l = c.loop-t in
     let a = c.args in
-    rw c.filled_to-then-p-gt0.ensures (sum_wrong a.version a.start.settings a.bytes.now a.from l.tanks l.at l.lines l.t l.invariant c.loop-t-test.true c.limit_of.result c.limit_of.ensures c.tank_lines-r.result c.tank_lines-r.ensures c.if-r-gt0.false c.put-p.result.number c.put-p.result.tanks c.put-p.ensures c.if-p-gt0.true)
+    rw c.filled_to-in-Err.ensures (sum_wrong a.version a.start.settings a.bytes.now a.from l.tanks l.at l.lines l.t l.invariant c.loop-t-test.true c.limit_of.result c.limit_of.ensures c.tank_lines-r.result c.tank_lines-r.ensures c.if-r-gt0.false _ c.put.new.self c.in-Err.ensures (positive _))
 
 pub loop-t-preserved : goal.loop-t-preserved
 loop-t-preserved c =
     let l = c.loop-t in
     let a = c.args in
-    tank_more a.version a.start.settings a.bytes.now a.from l.tanks l.at l.lines l.t l.invariant c.loop-t-test.true c.limit_of.result c.limit_of.ensures c.tank_lines-r.result c.tank_lines-r.ensures c.if-r-gt0.false c.put-p.result.number c.put-p.result.tanks c.put-p.ensures c.if-p-gt0.false
+    tank_more a.version a.start.settings a.bytes.now a.from l.tanks l.at l.lines l.t l.invariant c.loop-t-test.true c.limit_of.result c.limit_of.ensures c.tank_lines-r.result c.tank_lines-r.ensures c.if-r-gt0.false 0 c.put.new.self c.in-Ok.ensures (omega arith)
 
 pub returns : goal.returns
 returns c =

@@ -1,10 +1,6 @@
 -- Tank after tank: t of them are put in, and the rest is fresh.
-use Prim.Native.Nat.{◌-◌}
 use Rattle.saved.proofs.Restoring.{Filling}
 use Rattle.saved.proofs.house.tanks_lines.Given as goal
 
 abbrev pub invariant-loop-t : goal.invariant-loop-t
 invariant-loop-t l = Filling l.version l.initial.tanks.settings l.bytes l.from l.tanks l.at l.lines l.t
-
-abbrev pub decreases-loop-t : goal.decreases-loop-t
-decreases-loop-t l = 8 - l.t

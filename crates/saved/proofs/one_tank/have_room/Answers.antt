@@ -24,7 +24,7 @@ returns c =
     let a = c.args in
     let plants = mask_count (is_of Plant) _ _ _ c.party_bits.ensures c.count-plant.ensures.0 in
     let labs = mask_count (is_of Lab) _ _ _ c.party_bits-2.ensures c.count-lab.ensures.0 in
-    let p : c.larger.result ≡ max (marks_of Plant (take a.n a.table)) 32 = c.larger.ensures ∙ ap (λ (x : ℕ). max x 32) plants in
-    let q : c.larger-2.result ≡ max (marks_of Lab (take a.n a.table)) 16 = c.larger-2.ensures ∙ ap (λ (x : ℕ). max x 16) labs in
+    let p : c.max.result ≡ max (marks_of Plant (take a.n a.table)) 32 = c.max.ensures ∙ ap (λ (x : ℕ). max x 32) plants in
+    let q : c.max-2.result ≡ max (marks_of Lab (take a.n a.table)) 16 = c.max-2.ensures ∙ ap (λ (x : ℕ). max x 16) labs in
     rw (ne_eqb (marks_of Lab (take a.n a.table)) 0 (λ e. c.if-lab-eq0.false (labs ∙ e)))
     (ap₂ (λ (x y : ℕ). leb (x + y) 64) p q)

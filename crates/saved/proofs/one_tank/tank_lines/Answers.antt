@@ -1,10 +1,10 @@
 -- The tank as far as its runs, the runs, and the sums.
+use Rattle.std.specs.Prelude.{Some}
 use mathlib.Core.Path.{◌≡◌, sym, ◌∙◌, subst}
 use Prim.Native.Nat.{ℕ, ◌+◌, ◌-◌, ◌^◌, ◌≤◌}
 use native.Mathlib.Omega.{arith}
 use lib.Dec.{eqb}
 use Rattle.text.specs.Bytes.{bytes}
-use Rattle.text_lines.specs.declared.Taken.{Taken}
 use Rattle.text_lines.specs.Lines.{taken_by, decimal_from}
 use Rattle.text_lines.proofs.Laws.{taken_inside}
 use Rattle.saved.specs.Saying.{least_runs, most_runs}
@@ -40,24 +40,24 @@ pub runs_lines-r-requires : goal.runs_lines-r-requires
 runs_lines-r-requires c =
     let a = c.args in (
       omega (arith, (let c : c.tank_head-h.result.lines ≤ c.args.n + 516 = omega (arith, c.tank_head-h.ensures.lines_most, c.tank_head-h.ensures.few) in c), c.requires.0),
-      (let c : c.in-Number.j ≤ 512 = omega (
+      (let c : c.in-Some.j ≤ 512 = omega (
         arith,
-        (let c : (let a = c.args in c.in-Number.j ≤ most_runs c.tank_head-h.result.flag a.limit) = let a = c.args in
-            (taken_within (bytes "runs=") (least_runs c.tank_head-h.result.flag) (most_runs c.tank_head-h.result.flag a.limit) a.bytes.now c.tank_head-h.result.at c.in-Number.j c.in-Number.a ((let c : (let a = c.args in
-            Taken.Number c.in-Number.j c.in-Number.a ≡ taken_by (bytes "runs=") (decimal_from (least_runs c.tank_head-h.result.flag) (most_runs c.tank_head-h.result.flag a.limit)) a.bytes.now c.tank_head-h.result.at) = sym c.in-Number.is ∙ c.count_line.ensures in c))).1 in c),
+        (let c : (let a = c.args in c.in-Some.j ≤ most_runs c.tank_head-h.result.flag a.limit) = let a = c.args in
+            (taken_within (bytes "runs=") (least_runs c.tank_head-h.result.flag) (most_runs c.tank_head-h.result.flag a.limit) a.bytes.now c.tank_head-h.result.at c.in-Some.j c.in-Some.a ((let c : (let a = c.args in
+            Some (c.in-Some.j, c.in-Some.a) ≡ taken_by (bytes "runs=") (decimal_from (least_runs c.tank_head-h.result.flag) (most_runs c.tank_head-h.result.flag a.limit)) a.bytes.now c.tank_head-h.result.at) = sym c.in-Some.is ∙ c.count_line.ensures in c))).1 in c),
         tanks.cond_most (eqb c.tank_head-h.result.flag 1) c.args.limit 1 512 c.requires.3 (omega arith),
       ) in c),
-      taken_inside (bytes "runs=") (decimal_from (least_runs c.tank_head-h.result.flag) (most_runs c.tank_head-h.result.flag a.limit)) a.bytes.now c.tank_head-h.result.at c.in-Number.j c.in-Number.a (sym ((let c : (let a = c.args in
-          Taken.Number c.in-Number.j c.in-Number.a ≡ taken_by (bytes "runs=") (decimal_from (least_runs c.tank_head-h.result.flag) (most_runs c.tank_head-h.result.flag a.limit)) a.bytes.now c.tank_head-h.result.at) = sym c.in-Number.is ∙ c.count_line.ensures in c))),
+      taken_inside (bytes "runs=") (decimal_from (least_runs c.tank_head-h.result.flag) (most_runs c.tank_head-h.result.flag a.limit)) a.bytes.now c.tank_head-h.result.at c.in-Some.j c.in-Some.a (sym ((let c : (let a = c.args in
+          Some (c.in-Some.j, c.in-Some.a) ≡ taken_by (bytes "runs=") (decimal_from (least_runs c.tank_head-h.result.flag) (most_runs c.tank_head-h.result.flag a.limit)) a.bytes.now c.tank_head-h.result.at) = sym c.in-Some.is ∙ c.count_line.ensures in c))),
     )
 
 pub returns-then-r-gt0 : goal.returns-then-r-gt0
 returns-then-r-gt0 c =
     let a = c.args in
-    tanks.runs_wrong a.version a.limit a.bytes.now a.from a.t a.n c.tank_head-h.result c.tank_head-h.ensures c.if-h-gt0.false c.in-Number.j c.in-Number.a ((let c : (let a = c.args in
-    Taken.Number c.in-Number.j c.in-Number.a ≡ taken_by (bytes "runs=") (decimal_from (least_runs c.tank_head-h.result.flag) (most_runs c.tank_head-h.result.flag a.limit)) a.bytes.now c.tank_head-h.result.at) = sym c.in-Number.is ∙ c.count_line.ensures in c)) c.runs_lines-r.result ((let c : (let a = c.args in
-    ReadsRuns (2 ^ c.tank_head-h.result.marks - 1) a.bytes.now c.in-Number.a (c.tank_head-h.result.lines + 1) c.in-Number.j c.runs_lines-r.result) = let a = c.args in
-    subst (λ (x : ℕ). ReadsRuns x a.bytes.now c.in-Number.a (c.tank_head-h.result.lines + 1) c.in-Number.j c.runs_lines-r.result) c.all_of-all.ensures c.runs_lines-r.ensures in c)) c.if-r-gt0.true c.wrong_tank-then-r-gt0.result c.wrong_tank-then-r-gt0.ensures.0 c.wrong_tank-then-r-gt0.ensures.1 c.wrong_tank-then-r-gt0.ensures.2
+    tanks.runs_wrong a.version a.limit a.bytes.now a.from a.t a.n c.tank_head-h.result c.tank_head-h.ensures c.if-h-gt0.false c.in-Some.j c.in-Some.a ((let c : (let a = c.args in
+    Some (c.in-Some.j, c.in-Some.a) ≡ taken_by (bytes "runs=") (decimal_from (least_runs c.tank_head-h.result.flag) (most_runs c.tank_head-h.result.flag a.limit)) a.bytes.now c.tank_head-h.result.at) = sym c.in-Some.is ∙ c.count_line.ensures in c)) c.runs_lines-r.result ((let c : (let a = c.args in
+    ReadsRuns (2 ^ c.tank_head-h.result.marks - 1) a.bytes.now c.in-Some.a (c.tank_head-h.result.lines + 1) c.in-Some.j c.runs_lines-r.result) = let a = c.args in
+    subst (λ (x : ℕ). ReadsRuns x a.bytes.now c.in-Some.a (c.tank_head-h.result.lines + 1) c.in-Some.j c.runs_lines-r.result) c.all_of-all.ensures c.runs_lines-r.ensures in c)) c.if-r-gt0.true c.wrong_tank-then-r-gt0.result c.wrong_tank-then-r-gt0.ensures.0 c.wrong_tank-then-r-gt0.ensures.1 c.wrong_tank-then-r-gt0.ensures.2
 
 pub overflow_add-last : goal.overflow_add-last
 overflow_add-last c = record { fits = omega (arith, (let c : c.tank_head-h.result.lines ≤ c.args.n + 516 = omega (arith, c.tank_head-h.ensures.lines_most, c.tank_head-h.ensures.few) in c), c.requires.0) }
@@ -67,11 +67,11 @@ overflow_mul-last c =
     record {
       fits = omega (
         arith,
-        (let c : c.in-Number.j ≤ 512 = omega (
+        (let c : c.in-Some.j ≤ 512 = omega (
           arith,
-          (let c : (let a = c.args in c.in-Number.j ≤ most_runs c.tank_head-h.result.flag a.limit) = let a = c.args in
-              (taken_within (bytes "runs=") (least_runs c.tank_head-h.result.flag) (most_runs c.tank_head-h.result.flag a.limit) a.bytes.now c.tank_head-h.result.at c.in-Number.j c.in-Number.a ((let c : (let a = c.args in
-              Taken.Number c.in-Number.j c.in-Number.a ≡ taken_by (bytes "runs=") (decimal_from (least_runs c.tank_head-h.result.flag) (most_runs c.tank_head-h.result.flag a.limit)) a.bytes.now c.tank_head-h.result.at) = sym c.in-Number.is ∙ c.count_line.ensures in c))).1 in c),
+          (let c : (let a = c.args in c.in-Some.j ≤ most_runs c.tank_head-h.result.flag a.limit) = let a = c.args in
+              (taken_within (bytes "runs=") (least_runs c.tank_head-h.result.flag) (most_runs c.tank_head-h.result.flag a.limit) a.bytes.now c.tank_head-h.result.at c.in-Some.j c.in-Some.a ((let c : (let a = c.args in
+              Some (c.in-Some.j, c.in-Some.a) ≡ taken_by (bytes "runs=") (decimal_from (least_runs c.tank_head-h.result.flag) (most_runs c.tank_head-h.result.flag a.limit)) a.bytes.now c.tank_head-h.result.at) = sym c.in-Some.is ∙ c.count_line.ensures in c))).1 in c),
           tanks.cond_most (eqb c.tank_head-h.result.flag 1) c.args.limit 1 512 c.requires.3 (omega arith),
         ) in c),
       );
@@ -84,11 +84,11 @@ overflow_add-last-2 c =
         arith,
         (let c : c.tank_head-h.result.lines ≤ c.args.n + 516 = omega (arith, c.tank_head-h.ensures.lines_most, c.tank_head-h.ensures.few) in c),
         c.requires.0,
-        (let c : c.in-Number.j ≤ 512 = omega (
+        (let c : c.in-Some.j ≤ 512 = omega (
           arith,
-          (let c : (let a = c.args in c.in-Number.j ≤ most_runs c.tank_head-h.result.flag a.limit) = let a = c.args in
-              (taken_within (bytes "runs=") (least_runs c.tank_head-h.result.flag) (most_runs c.tank_head-h.result.flag a.limit) a.bytes.now c.tank_head-h.result.at c.in-Number.j c.in-Number.a ((let c : (let a = c.args in
-              Taken.Number c.in-Number.j c.in-Number.a ≡ taken_by (bytes "runs=") (decimal_from (least_runs c.tank_head-h.result.flag) (most_runs c.tank_head-h.result.flag a.limit)) a.bytes.now c.tank_head-h.result.at) = sym c.in-Number.is ∙ c.count_line.ensures in c))).1 in c),
+          (let c : (let a = c.args in c.in-Some.j ≤ most_runs c.tank_head-h.result.flag a.limit) = let a = c.args in
+              (taken_within (bytes "runs=") (least_runs c.tank_head-h.result.flag) (most_runs c.tank_head-h.result.flag a.limit) a.bytes.now c.tank_head-h.result.at c.in-Some.j c.in-Some.a ((let c : (let a = c.args in
+              Some (c.in-Some.j, c.in-Some.a) ≡ taken_by (bytes "runs=") (decimal_from (least_runs c.tank_head-h.result.flag) (most_runs c.tank_head-h.result.flag a.limit)) a.bytes.now c.tank_head-h.result.at) = sym c.in-Some.is ∙ c.count_line.ensures in c))).1 in c),
           tanks.cond_most (eqb c.tank_head-h.result.flag 1) c.args.limit 1 512 c.requires.3 (omega arith),
         ) in c),
       );
@@ -100,19 +100,19 @@ have_room-requires c = c.tank_head-h.ensures.few
 pub returns-then-adds_up : goal.returns-then-adds_up
 returns-then-adds_up c =
     let a = c.args in
-    tanks.tank_read a.version a.limit a.bytes.now a.from a.t a.n c.tank_head-h.result c.tank_head-h.ensures c.if-h-gt0.false c.in-Number.j c.in-Number.a ((let c : (let a = c.args in
-    Taken.Number c.in-Number.j c.in-Number.a ≡ taken_by (bytes "runs=") (decimal_from (least_runs c.tank_head-h.result.flag) (most_runs c.tank_head-h.result.flag a.limit)) a.bytes.now c.tank_head-h.result.at) = sym c.in-Number.is ∙ c.count_line.ensures in c)) c.runs_lines-r.result ((let c : (let a = c.args in
-    ReadsRuns (2 ^ c.tank_head-h.result.marks - 1) a.bytes.now c.in-Number.a (c.tank_head-h.result.lines + 1) c.in-Number.j c.runs_lines-r.result) = let a = c.args in
-    subst (λ (x : ℕ). ReadsRuns x a.bytes.now c.in-Number.a (c.tank_head-h.result.lines + 1) c.in-Number.j c.runs_lines-r.result) c.all_of-all.ensures c.runs_lines-r.ensures in c)) c.if-r-gt0.false c.all_of-all.result c.all_of-all.ensures c.have_room.result c.have_room.ensures
-    (sym c.adds_up.ensures ∙ c.if-adds_up.true) c.requires.1 c.requires.2 c.requires.3 ((let c : (let a = c.args in c.in-Number.j ≤ most_runs c.tank_head-h.result.flag a.limit) = let a = c.args in
-    (taken_within (bytes "runs=") (least_runs c.tank_head-h.result.flag) (most_runs c.tank_head-h.result.flag a.limit) a.bytes.now c.tank_head-h.result.at c.in-Number.j c.in-Number.a ((let c : (let a = c.args in
-    Taken.Number c.in-Number.j c.in-Number.a ≡ taken_by (bytes "runs=") (decimal_from (least_runs c.tank_head-h.result.flag) (most_runs c.tank_head-h.result.flag a.limit)) a.bytes.now c.tank_head-h.result.at) = sym c.in-Number.is ∙ c.count_line.ensures in c))).1 in c)) c.tank_with.result c.tank_with.ensures
+    tanks.tank_read a.version a.limit a.bytes.now a.from a.t a.n c.tank_head-h.result c.tank_head-h.ensures c.if-h-gt0.false c.in-Some.j c.in-Some.a ((let c : (let a = c.args in
+    Some (c.in-Some.j, c.in-Some.a) ≡ taken_by (bytes "runs=") (decimal_from (least_runs c.tank_head-h.result.flag) (most_runs c.tank_head-h.result.flag a.limit)) a.bytes.now c.tank_head-h.result.at) = sym c.in-Some.is ∙ c.count_line.ensures in c)) c.runs_lines-r.result ((let c : (let a = c.args in
+    ReadsRuns (2 ^ c.tank_head-h.result.marks - 1) a.bytes.now c.in-Some.a (c.tank_head-h.result.lines + 1) c.in-Some.j c.runs_lines-r.result) = let a = c.args in
+    subst (λ (x : ℕ). ReadsRuns x a.bytes.now c.in-Some.a (c.tank_head-h.result.lines + 1) c.in-Some.j c.runs_lines-r.result) c.all_of-all.ensures c.runs_lines-r.ensures in c)) c.if-r-gt0.false c.all_of-all.result c.all_of-all.ensures c.have_room.result c.have_room.ensures
+    (sym c.adds_up.ensures ∙ c.if-adds_up.true) c.requires.1 c.requires.2 c.requires.3 ((let c : (let a = c.args in c.in-Some.j ≤ most_runs c.tank_head-h.result.flag a.limit) = let a = c.args in
+    (taken_within (bytes "runs=") (least_runs c.tank_head-h.result.flag) (most_runs c.tank_head-h.result.flag a.limit) a.bytes.now c.tank_head-h.result.at c.in-Some.j c.in-Some.a ((let c : (let a = c.args in
+    Some (c.in-Some.j, c.in-Some.a) ≡ taken_by (bytes "runs=") (decimal_from (least_runs c.tank_head-h.result.flag) (most_runs c.tank_head-h.result.flag a.limit)) a.bytes.now c.tank_head-h.result.at) = sym c.in-Some.is ∙ c.count_line.ensures in c))).1 in c)) c.tank_with.result c.tank_with.ensures
 
 pub returns : goal.returns
 returns c =
     let a = c.args in
-    tanks.sums_wrong a.version a.limit a.bytes.now a.from a.t a.n c.tank_head-h.result c.tank_head-h.ensures c.if-h-gt0.false c.in-Number.j c.in-Number.a ((let c : (let a = c.args in
-    Taken.Number c.in-Number.j c.in-Number.a ≡ taken_by (bytes "runs=") (decimal_from (least_runs c.tank_head-h.result.flag) (most_runs c.tank_head-h.result.flag a.limit)) a.bytes.now c.tank_head-h.result.at) = sym c.in-Number.is ∙ c.count_line.ensures in c)) c.runs_lines-r.result ((let c : (let a = c.args in
-    ReadsRuns (2 ^ c.tank_head-h.result.marks - 1) a.bytes.now c.in-Number.a (c.tank_head-h.result.lines + 1) c.in-Number.j c.runs_lines-r.result) = let a = c.args in
-    subst (λ (x : ℕ). ReadsRuns x a.bytes.now c.in-Number.a (c.tank_head-h.result.lines + 1) c.in-Number.j c.runs_lines-r.result) c.all_of-all.ensures c.runs_lines-r.ensures in c)) c.if-r-gt0.false c.all_of-all.result c.all_of-all.ensures c.have_room.result c.have_room.ensures
+    tanks.sums_wrong a.version a.limit a.bytes.now a.from a.t a.n c.tank_head-h.result c.tank_head-h.ensures c.if-h-gt0.false c.in-Some.j c.in-Some.a ((let c : (let a = c.args in
+    Some (c.in-Some.j, c.in-Some.a) ≡ taken_by (bytes "runs=") (decimal_from (least_runs c.tank_head-h.result.flag) (most_runs c.tank_head-h.result.flag a.limit)) a.bytes.now c.tank_head-h.result.at) = sym c.in-Some.is ∙ c.count_line.ensures in c)) c.runs_lines-r.result ((let c : (let a = c.args in
+    ReadsRuns (2 ^ c.tank_head-h.result.marks - 1) a.bytes.now c.in-Some.a (c.tank_head-h.result.lines + 1) c.in-Some.j c.runs_lines-r.result) = let a = c.args in
+    subst (λ (x : ℕ). ReadsRuns x a.bytes.now c.in-Some.a (c.tank_head-h.result.lines + 1) c.in-Some.j c.runs_lines-r.result) c.all_of-all.ensures c.runs_lines-r.ensures in c)) c.if-r-gt0.false c.all_of-all.result c.all_of-all.ensures c.have_room.result c.have_room.ensures
     (sym c.adds_up.ensures ∙ c.if-adds_up.false) c.wrong_tank-2.result c.wrong_tank-2.ensures.0 c.wrong_tank-2.ensures.1 c.wrong_tank-2.ensures.2

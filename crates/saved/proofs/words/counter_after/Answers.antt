@@ -1,6 +1,6 @@
 -- What stands behind the name is read; a line that does not begin with it is wrong.
+use Rattle.std.specs.Prelude.{ℤ, Option}
 use mathlib.Core.Path.{sym, ap, ◌∙◌}
-use Rattle.text.specs.declared.Signed32.{Signed32}
 use Rattle.text.specs.Bytes.{bytes}
 use Rattle.text.specs.Signed.{signed32_of}
 use Rattle.text.proofs.Prefix.{rest_part, starts_length}
@@ -20,7 +20,7 @@ pub returns-then-starts : goal.returns-then-starts
 returns-then-starts c =
     let a = c.args in
     c.counter_at.ensures
-    ∙ ap (λ (p : Signed32). counter_at a.lines a.place (counter_said p)) (c.integer32.ensures ∙ ap signed32_of (rest_part 4 a.line.now))
+    ∙ ap (λ (p : Option ℤ). counter_at a.lines a.place (counter_said p)) (c.integer32.ensures ∙ ap signed32_of (rest_part 4 a.line.now))
     ∙ ap (counter_at a.lines a.place) (sym (named_here (bytes "cnt=") counter_way a.line.now (sym c.starts.ensures ∙ c.if-starts.true)))
 
 pub returns : goal.returns

@@ -1,9 +1,10 @@
 -- What stands behind the name is read; a line that does not begin with it is wrong.
+use Rattle.std.specs.Prelude.{Option}
 use mathlib.Core.Path.{sym, ap, ◌∙◌}
 use Rattle.text.specs.Bytes.{bytes}
 use Rattle.text.proofs.Prefix.{rest_part, starts_length}
 use Rattle.text_lines.proofs.Laws.{named_here}
-use Rattle.script.specs.declared.ReadValue.{ReadValue}
+use Rattle.styles.specs.declared.Value.{Value}
 use Rattle.script.specs.Reading.{value_of}
 use Rattle.saved.specs.Saying.{value_said}
 use Rattle.saved.specs.Reads.{value_at}
@@ -20,7 +21,7 @@ pub returns-then-starts : goal.returns-then-starts
 returns-then-starts c =
     let a = c.args in
     c.value_at.ensures
-    ∙ ap (λ (p : ReadValue). value_at a.place (value_said p)) (c.value_of.ensures ∙ ap (value_of a.kind) (rest_part 6 a.line.now))
+    ∙ ap (λ (p : Option Value). value_at a.place (value_said p)) (c.value_of.ensures ∙ ap (value_of a.kind) (rest_part 6 a.line.now))
     ∙ ap (value_at a.place) (sym (named_here (bytes "value=") (value_way a.kind) a.line.now (sym c.starts.ensures ∙ c.if-starts.true)))
 
 pub returns : goal.returns

@@ -13,21 +13,20 @@ use Rattle.saved.proofs.writing.lay_marks.Goals as goal
 
 pub loop-j-init : goal.loop-j-init
 unfolding marks_text FitsMarks
-loop-j-init c = (omega arith, refl, lays_none, tt)
+loop-j-init c = (refl, lays_none, tt)
 
 pub loop-j-preserved : goal.loop-j-preserved
 loop-j-preserved c =
     let w = c.loop-j in
     let a = c.args in
     let l = c.lay_mark-k.ensures in (
-      omega arith,
       search rules,
-      lays_more (omega arith) (lays_as (marks_more newest a.table w.j (omega arith)) (lays_then w.invariant.2 l.lays)),
-      fits_more a.table w.j (omega arith) w.invariant.3 l.fits_mark,
+      lays_more (omega arith) (lays_as (marks_more newest a.table w.j (omega arith)) (lays_then w.invariant.1 l.lays)),
+      fits_more a.table w.j (omega arith) w.invariant.2 l.fits_mark,
     )
 
 pub returns : goal.returns
 returns c =
     let w = c.loop-j in
     let a = c.args in
-    let e : w.j ≡ a.n = omega arith in record { lays = lays_more (omega arith) (lays_as (ap (λ (i : ℕ). marks_text newest (take i a.table)) e) w.invariant.2); fits_marks = subst (λ (i : ℕ). FitsMarks (take i a.table)) e w.invariant.3 }
+    let e : w.j ≡ a.n = omega arith in record { lays = lays_more (omega arith) (lays_as (ap (λ (i : ℕ). marks_text newest (take i a.table)) e) w.invariant.1); fits_marks = subst (λ (i : ℕ). FitsMarks (take i a.table)) e w.invariant.2 }

@@ -1,5 +1,5 @@
 -- A mark to a turn.
-use Prim.Native.Nat.{◌*◌, ◌-◌, ◌≤◌}
+use Prim.Native.Nat.{◌*◌}
 use mathlib.Core.Path.{◌≡◌}
 use lib.ListN.{length, take}
 use Rattle.saved.specs.Saved.{marks_text}
@@ -8,7 +8,4 @@ use Rattle.saved.specs.Writes.{Lays, FitsMarks}
 use Rattle.saved.proofs.writing.lay_marks.Given as goal
 
 abbrev pub invariant-loop-j : goal.invariant-loop-j
-invariant-loop-j l = (l.j ≤ l.n) × (length l.out ≡ length l.initial.out) × Lays l.initial.out l.at (marks_text newest (take l.j l.table)) (195 * l.j) l.k l.out × FitsMarks (take l.j l.table)
-
-abbrev pub decreases-loop-j : goal.decreases-loop-j
-decreases-loop-j l = l.n - l.j
+invariant-loop-j l = (length l.out ≡ length l.initial.out) × Lays l.initial.out l.at (marks_text newest (take l.j l.table)) (195 * l.j) l.k l.out × FitsMarks (take l.j l.table)

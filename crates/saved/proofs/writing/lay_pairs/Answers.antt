@@ -9,7 +9,7 @@ use Rattle.saved.proofs.writing.lay_pairs.Goals as goal
 
 pub loop-t-init : goal.loop-t-init
 unfolding pairs_text
-loop-t-init c = (omega arith, refl, lays_none)
+loop-t-init c = (refl, lays_none)
 
 pub lay_pair-k-requires : goal.lay_pair-k-requires
 lay_pair-k-requires c = (omega arith, omega arith)
@@ -18,10 +18,10 @@ pub loop-t-preserved : goal.loop-t-preserved
 loop-t-preserved c =
     let w = c.loop-t in
     let a = c.args in
-    (omega arith, search rules, lays_more (omega arith) (lays_as (pairs_more a.settings w.t (omega arith)) (lays_then w.invariant.2 c.lay_pair-k.ensures)))
+    (search rules, lays_more (omega arith) (lays_as (pairs_more a.settings w.t (omega arith)) (lays_then w.invariant.1 c.lay_pair-k.ensures)))
 
 pub returns : goal.returns
 returns c =
     let w = c.loop-t in
     let a = c.args in
-    lays_more (omega arith) (lays_as (ap (pairs_text 0) (take_all w.t a.settings (omega arith))) w.invariant.2)
+    lays_more (omega arith) (lays_as (ap (pairs_text 0) (take_all w.t a.settings (omega arith))) w.invariant.1)

@@ -1,5 +1,5 @@
 -- A pair to a turn.
-use Prim.Native.Nat.{◌*◌, ◌-◌, ◌≤◌}
+use Prim.Native.Nat.{◌*◌}
 use mathlib.Core.Path.{◌≡◌}
 use lib.ListN.{length, take}
 use Rattle.settings_text.specs.Text.{pairs_text}
@@ -7,7 +7,4 @@ use Rattle.saved.specs.Writes.{Lays}
 use Rattle.saved.proofs.writing.lay_pairs.Given as goal
 
 abbrev pub invariant-loop-t : goal.invariant-loop-t
-invariant-loop-t l = (l.t ≤ 8) × (length l.out ≡ length l.initial.out) × Lays l.initial.out l.at (pairs_text 0 (take l.t l.settings)) (56 * l.t) l.k l.out
-
-abbrev pub decreases-loop-t : goal.decreases-loop-t
-decreases-loop-t l = 8 - l.t
+invariant-loop-t l = (length l.out ≡ length l.initial.out) × Lays l.initial.out l.at (pairs_text 0 (take l.t l.fn.settings)) (56 * l.t) l.k l.out

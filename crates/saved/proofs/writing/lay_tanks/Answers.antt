@@ -16,7 +16,7 @@ use Rattle.saved.proofs.writing.lay_tanks.Goals as goal
 
 pub loop-t-init : goal.loop-t-init
 unfolding tanks_text
-loop-t-init c = (omega arith, refl, lays_none, λ u h. absurd (omega arith))
+loop-t-init c = (refl, lays_none, λ u h. absurd (omega arith))
 
 pub lay_tank-k-requires : goal.lay_tank-k-requires
 lay_tank-k-requires c = (omega arith, c.take-x.ensures.sound.formed)
@@ -28,12 +28,11 @@ loop-t-preserved c =
     let x = c.take-x in
     let l = c.lay_tank-k.ensures in
     let text = tanks_more newest (meaning s).tanks w.t (view x.result) (omega (arith, tanks_eight s)) x.ensures.is in (
-      omega arith,
       search rules,
-      lays_more (omega arith) (lays_as text (lays_then w.invariant.2 l.lays)),
-      below_more (λ (u : ℕ). FitsMarks (carried (tank_at (meaning s) u))) w.t w.invariant.3 (subst (λ (v : View). FitsMarks (carried v)) x.ensures.is l.fits_marks),
+      lays_more (omega arith) (lays_as text (lays_then w.invariant.1 l.lays)),
+      below_more (λ (u : ℕ). FitsMarks (carried (tank_at (meaning s) u))) w.t w.invariant.2 (subst (λ (v : View). FitsMarks (carried v)) x.ensures.is l.fits_marks),
     )
 
 pub returns : goal.returns
 unfolding FitsHouse
-returns c = let w = c.loop-t in record { lays = lays_more (omega arith) (lays_as (tanks_all newest c.args.s w.t (omega arith)) w.invariant.2); fits_house = λ u h. w.invariant.3 u (omega arith) }
+returns c = let w = c.loop-t in record { lays = lays_more (omega arith) (lays_as (tanks_all newest c.args.s w.t (omega arith)) w.invariant.1); fits_house = λ u h. w.invariant.2 u (omega arith) }

@@ -1,5 +1,5 @@
 -- A tank to a turn.
-use Prim.Native.Nat.{ℕ, ◌*◌, ◌-◌, ◌≤◌, ◌<◌}
+use Prim.Native.Nat.{ℕ, ◌*◌, ◌<◌}
 use mathlib.Core.Path.{◌≡◌}
 use mathlib.Core.List.{map}
 use lib.ListN.{length, take}
@@ -13,10 +13,6 @@ use Rattle.saved.proofs.writing.lay_tanks.Given as goal
 
 abbrev pub invariant-loop-t : goal.invariant-loop-t
 invariant-loop-t l =
-    (l.t ≤ 8)
-    × (length l.out ≡ length l.initial.out)
+    (length l.out ≡ length l.initial.out)
     × Lays l.initial.out l.at (tanks_text newest 0 (map saved_of (take l.t (meaning l.s).tanks))) (36260 * l.t) l.k l.out
     × ((u : ℕ) → u < l.t → FitsMarks (carried (tank_at (meaning l.s) u)))
-
-abbrev pub decreases-loop-t : goal.decreases-loop-t
-decreases-loop-t l = 8 - l.t

@@ -1,4 +1,4 @@
-use mathlib.Core.Path.{◌≡◌, refl, sym, ap, ap₂, ◌∙◌}
+use mathlib.Core.Path.{◌≡◌, sym, ap, ap₂, ◌∙◌}
 use mathlib.Core.Bool.{cond}
 use mathlib.Core.List.{List}
 use Prim.Native.Nat.{ℕ, suc, ◌+◌, ◌≤◌, ◌<◌}
@@ -6,10 +6,11 @@ use native.Mathlib.Omega.{arith}
 use lib.Dec.{eqb}
 use lib.ListN.{length, drop, get_or, drop_of_length-le}
 use lib.Seq.{drop-cons}
-use borrow.Author.Rules.{rules}
+use borrow.Author.Tests.{eq-eqb, ne_eqb}
 use Rattle.script.specs.Lines.{counted_of}
 use Rattle.script.specs.Bodies.{counted_in}
 use Rattle.script.proofs.bodies.counted_in.Goals as goal
+use Rattle.script.proofs.bodies.counted_in.Goals.{then-byte-eq10, else-byte-eq10}
 
 -- one byte more
 one_more : (part : List ℕ) (i n k : ℕ) → i < length part → k ≡ cond (eqb (get_or part i 0) 10) (counted_of n) n → counted_in n (drop i part) ≡ counted_in k (drop (i + 1) part)
@@ -23,13 +24,15 @@ all-counted : (part : List ℕ) (i n : ℕ) → length part ≤ i → counted_in
 unfolding counted_in
 all-counted part i n h = ap (counted_in n) (drop_of_length-le part {i = i} h)
 
-pub loop-i-init : goal.loop-i-init
-loop-i-init c = (search rules, refl)
-
-pub loop-i-preserved : goal.loop-i-preserved
-loop-i-preserved c =
-    let w = c.loop-i in
-    (search rules, w.invariant.1 ∙ one_more c.args.part.now w.i w.count _ c.loop-i-test.true c.counted_byte-count.ensures)
+pub loop-byte-preserved : goal.loop-byte-preserved
+loop-byte-preserved c =
+    let w = c.loop-byte in
+    let n : c.if-byte-eq10.count ≡ cond (eqb (get_or c.args.part.now w.byte-index 0) 10) (counted_of w.count) w.count =
+    elim c.if-byte-eq10.branch [
+      | then-byte-eq10 b ↦ rw (eq-eqb _ _ b.if-byte-eq10.true) (b.count-is ∙ b.counted-count.ensures)
+      | else-byte-eq10 b ↦ rw (ne_eqb _ _ b.if-byte-eq10.false) b.count-is
+    ] in
+    w.invariant ∙ one_more c.args.part.now w.byte-index w.count _ c.loop-byte-test.true n
 
 pub returns : goal.returns
-returns c = let w = c.loop-i in sym (w.invariant.1 ∙ all-counted c.args.part.now w.i w.count c.loop-i-test.false)
+returns c = let w = c.loop-byte in sym (w.invariant ∙ all-counted c.args.part.now w.byte-index w.count c.loop-byte-test.false)

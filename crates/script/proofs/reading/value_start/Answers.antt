@@ -1,8 +1,8 @@
 -- The line begins with the name, and what stands behind it is as far in as the name is long.
+use Rattle.std.specs.Prelude.{Some}
 use mathlib.Core.Path.{sym, ap, ◌∙◌}
 use mathlib.Core.Bool.{true, false}
 use Rattle.text.specs.Bytes.{starts_of}
-use Rattle.script.specs.declared.Start.{Start}
 use Rattle.script.specs.Reading.{start_of}
 use Rattle.script.proofs.Tables.{by_name}
 use Rattle.script.proofs.LineLaws.{name_spells, name_length, name_fits}
@@ -15,7 +15,7 @@ pub returns-then-begins : goal.returns-then-begins
 unfolding start_of
 returns-then-begins c =
     let name = c.field_name-n.ensures in
-    ap Start.At (name_length _ name) ∙ by_name (starts_of _) _ _ _ _ true (name_spells _ name) (sym c.if-begins.true ∙ c.begins.ensures)
+    ap Some (name_length _ name) ∙ by_name (starts_of _) _ _ _ _ true (name_spells _ name) (sym c.if-begins.true ∙ c.begins.ensures)
 
 pub returns : goal.returns
 unfolding start_of

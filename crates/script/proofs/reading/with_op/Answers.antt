@@ -5,4 +5,4 @@ pub returns-in_default : goal.returns-in_default
 returns-in_default c = rw c.in_default.is c.bad.ensures
 
 pub returns : goal.returns
-returns c = rw (c.in-Row.is, c.fresh-next.ensures, c.progress-stands.ensures, c.field_holds.ensures, c.field_at.ensures)
+returns c = rw (c.in-Some.is, c.fresh-next.ensures, c.progress-stands.ensures, c.field_holds.ensures, c.field_at.ensures)

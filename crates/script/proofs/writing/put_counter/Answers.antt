@@ -8,5 +8,5 @@ use Rattle.script.proofs.writing.put_counter.Goals as goal
 
 pub returns : goal.returns
 returns c =
-    let number = puts_as (ap signed_text (widened c.args.cnt c.ranges.cnt c.wide_signed.ensures)) (puts_few c.put_integer-b.ensures) in
+    let number = puts_as (ap signed_text (widened c.args.cnt c.ranges.cnt c.from.ensures)) (puts_few c.put_integer-b.ensures) in
     puts_more (omega arith) (puts_then (omega arith) (puts_then (omega arith) (puts_all c.put-a.ensures) number) (puts_all c.put.ensures))

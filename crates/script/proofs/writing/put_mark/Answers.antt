@@ -9,5 +9,5 @@ use Rattle.script.proofs.writing.put_mark.Goals as goal
 pub returns : goal.returns
 unfolding mark_text
 returns c =
-    let flags = puts_as (ap (field_text (bytes "flags=")) c.wide8.ensures.0) c.put_field-b.ensures in
+    let flags = puts_as (ap (field_text (bytes "flags=")) c.from.ensures) c.put_field-b.ensures in
     puts_then (omega arith) (puts_then (omega arith) c.put_origin-a.ensures flags) c.put_value.ensures

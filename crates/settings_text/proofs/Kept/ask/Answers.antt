@@ -41,13 +41,13 @@ module _ (k : Kept) (n last : ℕ) (is : last ≡ k.number) where
       rw (le-leb 1 n h) (rw (le-leb n k.number a) (rw (le-ltb (k.number - n) 4 b)))
 
 pub returns-then-n-lt1 : goal.returns-then-n-lt1
-returns-then-n-lt1 c = c.nothing.ensures ∙ no_number _ _ _ c.wide32-last.ensures c.if-n-lt1.true
+returns-then-n-lt1 c = c.nothing.ensures ∙ no_number _ _ _ c.from-last.ensures c.if-n-lt1.true
 
 pub returns-then-n-last : goal.returns-then-n-last
-returns-then-n-last c = c.nothing-then-n-last.ensures ∙ not_yet _ _ _ c.wide32-last.ensures c.if-n-lt1.false c.if-n-last.true
+returns-then-n-last c = c.nothing-then-n-last.ensures ∙ not_yet _ _ _ c.from-last.ensures c.if-n-lt1.false c.if-n-last.true
 
 pub returns-then-age-lt4 : goal.returns-then-age-lt4
-returns-then-age-lt4 c = there _ _ _ c.wide32-last.ensures c.if-n-lt1.false c.if-n-last.false c.if-age-lt4.true
+returns-then-age-lt4 c = there _ _ _ c.from-last.ensures c.if-n-lt1.false c.if-n-last.false c.if-age-lt4.true
 
 pub returns : goal.returns
-returns c = c.nothing-2.ensures ∙ no_more _ _ _ c.wide32-last.ensures c.if-n-lt1.false c.if-n-last.false c.if-age-lt4.false
+returns c = c.nothing-2.ensures ∙ no_more _ _ _ c.from-last.ensures c.if-n-lt1.false c.if-n-last.false c.if-age-lt4.false

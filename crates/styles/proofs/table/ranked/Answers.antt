@@ -1,8 +1,7 @@
 -- The j-th mark picked is the table's at the j-th set bit, and the ones of a set within the table are as many as its marks.
-use Rattle.std.proofs.Common.{◌≡◌, ℕ, ◌^◌, ◌<◌, ◌≤◌, List, length, get_or, take, sym, ap, ◌∙◌, arith, length-take, get_or-take, pow_mono, rules}
+use Rattle.std.proofs.Common.{◌≡◌, ℕ, ◌^◌, ◌<◌, ◌≤◌, List, length, get_or, None, Some, take, sym, ap, ◌∙◌, arith, length-take, get_or-take, pow_mono, rules}
 use lib.Count.{ones}
 use Rattle.styles.specs.declared.Mark.{Mark}
-use Rattle.styles.specs.declared.Ranked.TheVariants.{Found, Nothing}
 use Rattle.styles.specs.Marks.{blank}
 use Rattle.styles.specs.Bits.{pick, NthBit}
 use Rattle.styles.specs.Answers.{rank_of}
@@ -21,14 +20,14 @@ module _ (t : List Mark) (n s j i : ℕ) (long : length t ≡ 64) (few : n ≤ 6
   fits : s < 2 ^ 64
   fits = omega (arith, pow_mono {i = n} {j = 64} few)
 
-  here : i < 64 → Found (get_or t i blank) ≡ rank_of (pick (take n t) s) j
+  here : i < 64 → Some (get_or t i blank) ≡ rank_of (pick (take n t) s) j
   here h =
       let a = nth_of s j i nth h in
       let k = nth_within n s j i within a in
-      ap Found (sym (pick_nth (take n t) s j i blank (omega (arith, full)) a ∙ get_or-take n t i blank k))
+      ap Some (sym (pick_nth (take n t) s j i blank (omega (arith, full)) a ∙ get_or-take n t i blank k))
       ∙ sym (rank_here (pick (take n t) s) j blank (omega (arith, held, nth_held s j i a)))
 
-  past : 64 ≤ i → Nothing ≡ rank_of (pick (take n t) s) j
+  past : 64 ≤ i → None ≡ rank_of (pick (take n t) s) j
   past h = sym (rank_past (pick (take n t) s) j (omega (arith, held, nth_none s j i fits nth h)))
 
 pub returns-then-i-lt64 : goal.returns-then-i-lt64

@@ -11,6 +11,3 @@ invariant-loop-w l =
     × (ones l.s + l.w ≡ l.held)
     × (pick (take l.n l.table) l.s ≡ drop l.w (pick (take l.n l.table) l.set))
     × (l.marks ≡ take l.w (pick (take l.n l.table) l.set) ++ replicate (64 - l.w) blank)
-
-abbrev pub decreases-loop-w : goal.decreases-loop-w
-decreases-loop-w l = l.held - l.w

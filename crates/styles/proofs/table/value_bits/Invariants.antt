@@ -1,11 +1,8 @@
 -- From the last mark down: a bit for each.
-use Rattle.std.proofs.Common.{◌≡◌, ◌≤◌, take, drop}
+use Rattle.std.proofs.Common.{◌≡◌, take, drop}
 use Rattle.styles.specs.Marks.{value_is}
 use Rattle.styles.proofs.Built.{mask_of}
 use Rattle.styles.proofs.table.value_bits.Given as goal
 
 abbrev pub invariant-loop-i : goal.invariant-loop-i
-invariant-loop-i l = (l.i ≤ l.n) × (l.out ≡ mask_of (value_is l.value) (drop l.i (take l.n l.table)))
-
-abbrev pub decreases-loop-i : goal.decreases-loop-i
-decreases-loop-i l = l.i
+invariant-loop-i l = l.out ≡ mask_of (value_is l.value) (drop l.i (take l.n l.table))

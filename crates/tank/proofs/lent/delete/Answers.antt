@@ -9,16 +9,16 @@ use Rattle.tank.proofs.LentLaws.{kept_leaves, plain_leaves}
 use Rattle.tank.proofs.lent.delete.Goals as goal
 
 pub returns-then-is_lab : goal.returns-then-is_lab
-returns-then-is_lab c = kept_leaves {h = c.args.h} c.kept.ensures (refused_16 c.requires.sound c.args.who c.args.start c.args.end (sym c.is_lab.ensures ∙ c.if-is_lab.true)) refl refl
+returns-then-is_lab c = kept_leaves {h = c.args.h} refl (refused_16 c.requires.sound c.args.who c.args.start c.args.end (sym c.is_lab.ensures ∙ c.if-is_lab.true)) refl refl
 
 pub returns-then-end-start : goal.returns-then-end-start
-returns-then-end-start c = kept_leaves {h = c.args.h} c.kept-then-end-start.ensures (refused_3 c.requires.sound c.args.who (sym c.is_lab.ensures ∙ c.if-is_lab.false) c.args.start c.args.end c.if-end-start.true) refl refl
+returns-then-end-start c = kept_leaves {h = c.args.h} refl (refused_3 c.requires.sound c.args.who (sym c.is_lab.ensures ∙ c.if-is_lab.false) c.args.start c.args.end c.if-end-start.true) refl refl
 
 pub returns-then-h-end : goal.returns-then-h-end
-returns-then-h-end c = kept_leaves {h = c.args.h} c.kept-then-h-end.ensures (refused_4 c.requires.sound c.args.who (sym c.is_lab.ensures ∙ c.if-is_lab.false) c.args.start c.args.end c.if-end-start.false c.if-h-end.true) refl refl
+returns-then-h-end c = kept_leaves {h = c.args.h} refl (refused_4 c.requires.sound c.args.who (sym c.is_lab.ensures ∙ c.if-is_lab.false) c.args.start c.args.end c.if-end-start.false c.if-h-end.true) refl refl
 
 pub returns-then-not-h : goal.returns-then-not-h
-returns-then-not-h c = kept_leaves {h = c.args.h} c.kept-then-not-h.ensures (untouched c.requires.sound c.args.who (sym c.is_lab.ensures ∙ c.if-is_lab.false) c.args.start c.args.end c.if-end-start.false c.if-h-end.false (not-true _ c.if-not-h.true)) refl refl
+returns-then-not-h c = kept_leaves {h = c.args.h} c.kept.ensures (untouched c.requires.sound c.args.who (sym c.is_lab.ensures ∙ c.if-is_lab.false) c.args.start c.args.end c.if-end-start.false c.if-h-end.false (not-true _ c.if-not-h.true)) refl refl
 
 pub delete-n-requires : goal.delete-n-requires
 delete-n-requires c = (c.requires.sound.formed.laid.canon, cut_can c.args.start c.args.end (can_cut c.requires.sound c.args.who (sym c.is_lab.ensures ∙ c.if-is_lab.false) c.args.start c.args.end c.if-end-start.false c.if-h-end.false (not-false _ c.if-not-h.false)) _ _ c.requires.olens_514 c.requires.osets_514)

@@ -12,27 +12,27 @@ use Rattle.tank.proofs.lent.insert.Goals as goal
 pub returns-then-is_lab : goal.returns-then-is_lab
 returns-then-is_lab c =
     let q = insert_kept 16 (λ r. insert_16 c.requires.sound c.args.who c.args.pos c.args.len {r = r} (sym c.is_lab.ensures ∙ c.if-is_lab.true)) in
-    kept_leaves {h = c.args.h} c.kept.ensures q.0 q.1 refl
+    kept_leaves {h = c.args.h} refl q.0 q.1 refl
 
 pub returns-then-len-eq0 : goal.returns-then-len-eq0
 returns-then-len-eq0 c =
     let q = insert_kept 3 (λ r. insert_3 c.requires.sound c.args.who (sym c.is_lab.ensures ∙ c.if-is_lab.false) c.args.pos c.args.len {r = r} c.if-len-eq0.true) in
-    kept_leaves {h = c.args.h} c.kept-then-len-eq0.ensures q.0 q.1 refl
+    kept_leaves {h = c.args.h} refl q.0 q.1 refl
 
 pub returns-then-h-pos : goal.returns-then-h-pos
 returns-then-h-pos c =
     let q = insert_kept 4 (λ r. insert_4 c.requires.sound c.args.who (sym c.is_lab.ensures ∙ c.if-is_lab.false) c.args.pos c.args.len c.if-len-eq0.false {r = r} c.if-h-pos.true) in
-    kept_leaves {h = c.args.h} c.kept-then-h-pos.ensures q.0 q.1 refl
+    kept_leaves {h = c.args.h} refl q.0 q.1 refl
 
 pub returns-then-not-h : goal.returns-then-not-h
 returns-then-not-h c =
     let q = insert_kept 0 (λ r. insert_untouched c.requires.sound c.args.who (sym c.is_lab.ensures ∙ c.if-is_lab.false) c.args.pos c.args.len c.if-len-eq0.false c.if-h-pos.false (not-true _ c.if-not-h.true) {r = r}) in
-    kept_leaves {h = c.args.h} c.kept-then-not-h.ensures q.0 q.1 refl
+    kept_leaves {h = c.args.h} c.kept.ensures q.0 q.1 refl
 
 pub returns-then-h-len : goal.returns-then-h-len
 returns-then-h-len c =
     let q = insert_kept 5 (λ r. insert_5 c.requires.sound c.args.who (sym c.is_lab.ensures ∙ c.if-is_lab.false) c.args.pos c.args.len c.if-len-eq0.false c.if-h-pos.false (not-false _ c.if-not-h.false) {r = r} c.if-h-len.true) in
-    kept_leaves {h = c.args.h} c.kept-then-h-len.ensures q.0 q.1 refl
+    kept_leaves {h = c.args.h} refl q.0 q.1 refl
 
 pub common_at-set-requires : goal.common_at-set-requires
 common_at-set-requires c = can_find c.requires.sound.formed.laid

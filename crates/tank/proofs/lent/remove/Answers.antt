@@ -1,9 +1,8 @@
 -- `lent::remove` meets its contract: an identity that the table has not is nowhere; else its bit's stretch is its stretch.
-use mathlib.Core.Path.{refl, sym, ap, ◌∙◌}
+use mathlib.Core.Path.{refl, sym, ◌∙◌}
 use native.Mathlib.Omega.{arith}
-use borrow.Author.Tests.{not-true, not-false}
-use Rattle.styles.specs.declared.Place.{Place}
 use Rattle.styles.specs.Bits.{with_bit}
+use Rattle.styles.proofs.TableLaws.{placed_there, placed_not}
 use Rattle.runs.specs.Runs.{changing}
 use Rattle.runs.proofs.BehindLaws.{spare_behind}
 use Rattle.tank.proofs.AlterLaws.{alter_can}
@@ -16,38 +15,36 @@ use Rattle.tank.proofs.lent.remove.Goals as goal
 pub returns-then-h-last : goal.returns-then-h-last
 returns-then-h-last c =
     let g = remove_4 c.requires.sound c.args.id c.args.last c.if-h-last.true in
-    kept_leaves {h = c.args.h} c.kept.ensures g.0 refl g.1
+    kept_leaves {h = c.args.h} refl g.0 refl g.1
 
-pub returns-then-not-place : goal.returns-then-not-place
-returns-then-not-place c =
-    let q = remove_none c.requires.sound c.args.id c.args.last c.if-h-last.false (sym (ap (λ (p : Place). p.there) c.placed-place.ensures) ∙ not-true _ c.if-not-place.true) in
-    kept_leaves {h = c.args.h} c.kept-then-not-place.ensures q.0 refl q.1
+pub returns-in_default : goal.returns-in_default
+returns-in_default c =
+    let (at, gone) = placed_not c.args.id _ _ (sym c.in_default.is ∙ c.placed.ensures) in
+    let q = remove_none c.requires.sound c.args.id c.args.last c.if-h-last.false gone in
+    kept_leaves {h = c.args.h} c.kept.ensures q.0 refl q.1
 
 pub back-first-requires : goal.back-first-requires
 back-first-requires c =
-    let at = ap (λ (p : Place). p.at) c.placed-place.ensures in
-    let there = sym (ap (λ (p : Place). p.there) c.placed-place.ensures) ∙ not-false _ c.if-not-place.false in
+    let (at, there) = placed_there c.args.id _ _ c.in-Ok.ensures in
     can_scan c.requires.sound c.args.id c.args.last c.if-h-last.false _ at there
 
 pub alter-n-requires : goal.alter-n-requires
 alter-n-requires c =
-    let at = ap (λ (p : Place). p.at) c.placed-place.ensures in
-    let there = sym (ap (λ (p : Place). p.there) c.placed-place.ensures) ∙ not-false _ c.if-not-place.false in
+    let (at, there) = placed_there c.args.id _ _ c.in-Ok.ensures in
     let few = c.requires.sound.formed.laid.few in
-    let bit = bit_is c.placed-place.result.at (omega (arith, place_inside c.requires.sound c.args.id c.args.last c.if-h-last.false _ at there)) c.with_bit-bit.ensures in
+    let bit = bit_is c.in-Ok.place (omega (arith, place_inside c.requires.sound c.args.id c.args.last c.if-h-last.false _ at there)) c.with_bit-bit.ensures in
     let from = rw bit at c.back-first.ensures in
     let can = can_strip c.requires.sound c.args.id c.args.last c.if-h-last.false _ at there _ from in
     rw bit (
       c.requires.sound.formed.laid.canon,
-      alter_can can.range (changing 0 (with_bit c.placed-place.result.at 0)) _ _ c.requires.olens_514 c.requires.osets_514,
+      alter_can can.range (changing 0 (with_bit c.in-Ok.place 0)) _ _ c.requires.olens_514 c.requires.osets_514,
     )
 
 pub trim-requires : goal.trim-requires
 trim-requires c =
-    let at = ap (λ (p : Place). p.at) c.placed-place.ensures in
-    let there = sym (ap (λ (p : Place). p.there) c.placed-place.ensures) ∙ not-false _ c.if-not-place.false in
+    let (at, there) = placed_there c.args.id _ _ c.in-Ok.ensures in
     let few = c.requires.sound.formed.laid.few in
-    let bit = bit_is c.placed-place.result.at (omega (arith, place_inside c.requires.sound c.args.id c.args.last c.if-h-last.false _ at there)) c.with_bit-bit.ensures in
+    let bit = bit_is c.in-Ok.place (omega (arith, place_inside c.requires.sound c.args.id c.args.last c.if-h-last.false _ at there)) c.with_bit-bit.ensures in
     let from = rw bit at c.back-first.ensures in
     let can = can_strip c.requires.sound c.args.id c.args.last c.if-h-last.false _ at there _ from in
     let l = c.alter-n in
@@ -59,10 +56,9 @@ trim-requires c =
 
 pub returns : goal.returns
 returns c =
-    let at = ap (λ (p : Place). p.at) c.placed-place.ensures in
-    let there = sym (ap (λ (p : Place). p.there) c.placed-place.ensures) ∙ not-false _ c.if-not-place.false in
+    let (at, there) = placed_there c.args.id _ _ c.in-Ok.ensures in
     let few = c.requires.sound.formed.laid.few in
-    let bit = bit_is c.placed-place.result.at (omega (arith, place_inside c.requires.sound c.args.id c.args.last c.if-h-last.false _ at there)) c.with_bit-bit.ensures in
+    let bit = bit_is c.in-Ok.place (omega (arith, place_inside c.requires.sound c.args.id c.args.last c.if-h-last.false _ at there)) c.with_bit-bit.ensures in
     let from = rw bit at c.back-first.ensures in
     let can = can_strip c.requires.sound c.args.id c.args.last c.if-h-last.false _ at there _ from in
     let l = c.alter-n in

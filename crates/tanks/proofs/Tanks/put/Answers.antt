@@ -1,6 +1,8 @@
 use native.Mathlib.Omega.{arith}
 use Prim.Native.Nat.{ℕ}
 use mathlib.Core.Path.{◌≡◌, refl, sym, ap, ◌∙◌}
+use Rattle.std.proofs.lemmas.Result.{err_from_is_err_and}
+use Rattle.refusal.proofs.NumberLaws.{positive}
 use Rattle.tank.specs.declared.Tank.{Tank}
 use Rattle.tank.specs.State as state
 use Rattle.tank.proofs.Unique.{runs_held_lem}
@@ -15,6 +17,7 @@ use Rattle.tanks.proofs.SettingLaws.{sound_held, sound_judged}
 use Rattle.tanks.proofs.MeaningLaws.{Tail, tail_refused, tail_done, judged_is}
 use Rattle.tanks.proofs.WriteLaws.{with_pool, run_step, read_kept, part_all, run_own, run_behind, run_blank, inside, put_at_last}
 use Rattle.tanks.proofs.Tanks.put.Goals as goal
+use Rattle.tanks.proofs.Tanks.put.Goals.{then-j-m, else-j-m+then-j-s, else-j-m+else-j-s}
 
 put_of : (s : Tanks) (t : ℕ) (x : Tank) (v : ℕ) (next : Tanks) → Sound s → state.Formed x → Tail s t 0 x v next → PutAt s t x v next
 put_of s t x v next ok f tail = record {
@@ -23,73 +26,59 @@ put_of s t x v next ok f tail = record {
   sound = tail.sound;
 }
 
-pub verdict-number-requires : goal.verdict-number-requires
-verdict-number-requires c = record { t_bound = c.requires.1; judged = sound_judged c.args.self c.requires.0 }
+pub judge-requires : goal.judge-requires
+judge-requires c = record { t_bound = c.requires.1; judged = sound_judged c.args.self.now c.requires.0 }
 
-pub returns-then-number-gt0 : goal.returns-then-number-gt0
-returns-then-number-gt0 c = put_of c.args.self c.args.t c.args.x c.verdict-number.result c.args.self c.requires.0 c.requires.2 (tail_refused c.args.self c.args.t 0 c.args.x c.verdict-number.result c.requires.0 c.verdict-number.ensures c.if-number-gt0.true)
+pub returns-in_err-judge : goal.returns-in_err-judge
+returns-in_err-judge c =
+    let s = c.args.self.now in
+    let p = err_from_is_err_and c.from_residual.result c.from_residual.ensures.1 in
+    rw (p.1, p.2) (put_of s c.args.t c.args.x _ s c.requires.0 c.requires.2 (tail_refused s c.args.t 0 c.args.x _ c.requires.0 c.in_err-judge.ensures (positive _)))
 
 pub spots-s-requires : goal.spots-s-requires
-spots-s-requires c = (c.requires.1, c.requires.2.laid.most, sound_held c.args.self c.requires.0)
+spots-s-requires c = (c.requires.1, c.requires.2.laid.most, sound_held c.args.self.now c.requires.0)
 
 pub loop-k-init : goal.loop-k-init
 unfolding laid
 loop-k-init c =
-    let z : c.verdict-number.result ≡ 0 = omega (arith, c.if-number-gt0.false) in
-    (omega arith, inside c.args.self c.args.t 0 c.args.x c.requires.0 c.requires.1 c.requires.2 (sym c.verdict-number.ensures ∙ z) _ c.spots-s.ensures, refl)
-
-pub loop-k-preserved-then-j-m : goal.loop-k-preserved-then-j-m
-loop-k-preserved-then-j-m c =
-    let s = c.args.self in
-    let q = c.spots-s.result in
-    let l = c.loop-k in
-    let x = c.args.x in
-    let j = c.turn-j in (
-      omega arith,
-      l.invariant.1,
-      run_step s l.self s.pool q.at (run_from s.pool x q.from q.full) q.grows q.count l.k j.result _
-          (omega arith) j.ensures.0 l.invariant.2
-          (run_own s.pool x q.from q.full j.result (omega arith)),
-    )
-
-pub loop-k-preserved-then-j-s : goal.loop-k-preserved-then-j-s
-loop-k-preserved-then-j-s c =
-    let s = c.args.self in
-    let q = c.spots-s.result in
-    let l = c.loop-k in
-    let x = c.args.x in
-    let j = c.turn-j in (
-      omega arith,
-      l.invariant.1,
-      run_step s l.self s.pool q.at (run_from s.pool x q.from q.full) q.grows q.count l.k j.result _
-          (omega arith) j.ensures.0 l.invariant.2
-          (read_kept s l.self q.at (run_from s.pool x q.from q.full) q.grows q.from x.runs q.count l.k j.result l.invariant.1.back (omega arith) j.ensures.0 (omega arith) l.invariant.2
-          ∙ run_behind s.pool x q.from q.full j.result (omega arith) (omega arith)),
-    )
+    (inside c.args.self.now c.args.t 0 c.args.x c.requires.0 c.requires.1 c.requires.2 (sym c.in_ok-judge.ensures) _ c.spots-s.ensures, refl)
 
 pub loop-k-preserved : goal.loop-k-preserved
 loop-k-preserved c =
-    let s = c.args.self in
+    let s = c.args.self.now in
     let q = c.spots-s.result in
     let l = c.loop-k in
     let x = c.args.x in
     let j = c.turn-j in (
-      omega arith,
-      l.invariant.1,
-      run_step s l.self s.pool q.at (run_from s.pool x q.from q.full) q.grows q.count l.k j.result _
-          (omega arith) j.ensures.0 l.invariant.2
-          (run_blank s.pool x q.from q.full j.result (omega arith) (omega arith)),
+      l.invariant.0,
+      elim c.if-j-m.branch [
+        | then-j-m w ↦
+            w.self-is
+            ∙ run_step s l.self s.pool q.at (run_from s.pool x q.from q.full) q.grows q.count l.k j.result _
+            (omega arith) j.ensures.0 l.invariant.1
+            (run_own s.pool x q.from q.full j.result (omega arith))
+        | else-j-m+then-j-s w ↦
+            w.self-is
+            ∙ run_step s l.self s.pool q.at (run_from s.pool x q.from q.full) q.grows q.count l.k j.result _
+            (omega arith) j.ensures.0 l.invariant.1
+            (read_kept s l.self q.at (run_from s.pool x q.from q.full) q.grows q.from x.runs q.count l.k j.result l.invariant.0.back (omega arith) j.ensures.0 (omega arith) l.invariant.1
+            ∙ run_behind s.pool x q.from q.full j.result (omega arith) (omega arith))
+        | else-j-m+else-j-s w ↦
+            w.self-is
+            ∙ run_step s l.self s.pool q.at (run_from s.pool x q.from q.full) q.grows q.count l.k j.result _
+            (omega arith) j.ensures.0 l.invariant.1
+            (run_blank s.pool x q.from q.full j.result (omega arith) (omega arith))
+      ],
     )
 
 pub returns : goal.returns
 returns c =
-    let s = c.args.self in
+    let s = c.args.self.now in
     let l = c.loop-k in
     let q = c.spots-s.result in
     let x = c.args.x in
-    let z : c.verdict-number.result ≡ 0 = omega (arith, c.if-number-gt0.false) in
     let all : l.k ≡ q.count = omega arith in
     let g : l.self ≡ with_pool s (laid s.pool q.at (run_from s.pool x q.from q.full) q.count) =
-    (rw all at l.invariant.2) ∙ ap (with_pool s) (part_all s.pool q.at _ q.grows q.count) in
+    (rw all at l.invariant.1) ∙ ap (with_pool s) (part_all s.pool q.at _ q.grows q.count) in
     rw (put_at_last s l.self c.args.t x q _ _ c.spots-s.ensures c.head_of.ensures c.table_in.ensures g)
-    (put_of s c.args.t x 0 _ c.requires.0 c.requires.2 (tail_done s c.args.t 0 x c.requires.0 c.requires.1 c.requires.2 (sym c.verdict-number.ensures ∙ z)))
+    (put_of s c.args.t x 0 _ c.requires.0 c.requires.2 (tail_done s c.args.t 0 x c.requires.0 c.requires.1 c.requires.2 (sym c.in_ok-judge.ensures)))

@@ -1,5 +1,4 @@
 -- The tank is put in run by run, as after an edit.
-use Prim.Native.Nat.{◌-◌, ◌≤◌}
 use mathlib.Core.Path.{◌≡◌}
 use Rattle.tanks.proofs.Put.{run_from}
 use Rattle.tanks.proofs.WriteLaws.{with_pool, part, lowest, Inside}
@@ -7,9 +6,5 @@ use Rattle.tanks.proofs.Tanks.put.Given as goal
 
 abbrev pub invariant-loop-k : goal.invariant-loop-k
 invariant-loop-k l =
-    (l.k ≤ l.s.count)
-    × Inside l.x l.m l.s.at l.s.from l.s.full l.s.count l.s.grows
+    Inside l.x l.m l.s.at l.s.from l.s.full l.s.count l.s.grows
     × (l.self ≡ with_pool l.initial.self (part l.initial.self.pool l.s.at (run_from l.initial.self.pool l.x l.s.from l.s.full) (lowest l.s.grows l.s.count l.k) l.k))
-
-abbrev pub decreases-loop-k : goal.decreases-loop-k
-decreases-loop-k l = l.s.count - l.k

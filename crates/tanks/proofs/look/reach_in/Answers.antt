@@ -9,6 +9,7 @@ use Rattle.tanks.proofs.LookLaws.{walk_fits, walk_on, walk_begins}
 use Rattle.tanks.proofs.RangeLaws.{from_in, some_from, walked_all, walked_within}
 use Rattle.tanks.proofs.ReachLaws.{first_is, last_is, level_begins, level_on, level_new, level_ends}
 use Rattle.tanks.proofs.look.reach_in.Goals as goal
+use Rattle.tanks.proofs.look.reach_in.Goals.{then-bits-one+else-pos-begun, else-bits-one}
 
 pub start-at-requires : goal.start-at-requires
 start-at-requires c = let p = c.requires.0 in (omega (arith, p.inside), p.room)
@@ -36,19 +37,19 @@ returns-then-pos-begun c =
           ∙ ap (λ (rs : List Run). last_of (alike_by a.own rs) (total rs) a.pos) e,
     )
 
-pub loop-i-preserved-then-bits-one : goal.loop-i-preserved-then-bits-one
-loop-i-preserved-then-bits-one c =
-    let a = c.args in
-    let v = c.loop-i.invariant in
-    let long = some_from a.heads a.pool a.t c.start-at.ensures c.requires.0 c.loop-i.i c.loop-i-test.true in
-    (walk_on v.0 c.loop-i-test.true, c.if-pos-begun.false, omega arith, level_new v.0 c.loop-i-test.true long a.own v.3 c.if-bits-one.true)
-
 pub loop-i-preserved : goal.loop-i-preserved
 loop-i-preserved c =
     let a = c.args in
     let v = c.loop-i.invariant in
     let long = some_from a.heads a.pool a.t c.start-at.ensures c.requires.0 c.loop-i.i c.loop-i-test.true in
-    (walk_on v.0 c.loop-i-test.true, v.1, omega (arith, v.2), level_on v.0 c.loop-i-test.true long a.own v.3 v.2 c.if-bits-one.false)
+    elim c.if-bits-one.branch [
+      | then-bits-one+else-pos-begun w ↦
+          rw (w.first-is, w.one-is)
+          (walk_on v.0 c.loop-i-test.true, w.if-pos-begun.false, omega arith, level_new v.0 c.loop-i-test.true long a.own v.3 w.if-bits-one.true)
+      | else-bits-one w ↦
+          rw (w.first-is, w.one-is)
+          (walk_on v.0 c.loop-i-test.true, v.1, omega (arith, v.2), level_on v.0 c.loop-i-test.true long a.own v.3 v.2 w.if-bits-one.false)
+    ]
 
 pub overflow_sub-result-2 : goal.overflow_sub-result-2
 overflow_sub-result-2 c =

@@ -1,4 +1,4 @@
--- `spots` meets its contract: a tank's runs end no later than those of all eight, so no difference is below 0, and each field is the definition's.
+-- `spots` meets its contract: a tank's runs end no later than those of all eight, so no difference is below 0.
 use native.Mathlib.Omega.{arith}
 use Rattle.runs.proofs.SumLaws.{sum_next}
 use Rattle.tanks.specs.Pool.{runs_in}
@@ -10,17 +10,5 @@ overflow_add-from c = omega (arith, sum_next (runs_in c.args.heads) c.args.t 8 c
 pub overflow_sub-left : goal.overflow_sub-left
 overflow_sub-left c = omega (arith, sum_next (runs_in c.args.heads) c.args.t 8 c.requires.0, c.start-at.ensures, c.start-all.ensures)
 
-pub overflow_add-count : goal.overflow_add-count
-overflow_add-count c = omega (arith, sum_next (runs_in c.args.heads) c.args.t 8 c.requires.0, c.start-at.ensures, c.start-all.ensures, c.larger.ensures)
-
-pub overflow_add-result : goal.overflow_add-result
-overflow_add-result c = omega (arith, sum_next (runs_in c.args.heads) c.args.t 8 c.requires.0, c.start-at.ensures, c.start-all.ensures)
-
-pub behind-requires : goal.behind-requires
-behind-requires c = omega (arith, c.larger.ensures)
-
 pub overflow_add-result-2 : goal.overflow_add-result-2
 overflow_add-result-2 c = omega (arith, sum_next (runs_in c.args.heads) c.args.t 8 c.requires.0, c.start-at.ensures, c.start-all.ensures)
-
-pub returns : goal.returns
-returns c = simp (c.behind.ensures, c.larger.ensures, c.start-all.ensures, c.start-at.ensures)

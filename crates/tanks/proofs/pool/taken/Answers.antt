@@ -13,10 +13,10 @@ use Rattle.tanks.proofs.SliceLaws.{own_stored}
 use Rattle.tanks.proofs.pool.taken.Goals as goal
 
 pub loop-i-init : goal.loop-i-init
-loop-i-init c = (omega arith, omega (arith, c.start-at.ensures, sum_next (runs_in c.args.heads) c.args.t 8 c.requires.0, c.requires.1), refl, refl)
+loop-i-init c = (omega (arith, c.start-at.ensures, sum_next (runs_in c.args.heads) c.args.t 8 c.requires.0, c.requires.1), refl, refl)
 
 pub loop-i-preserved : goal.loop-i-preserved
-loop-i-preserved c = let l = c.loop-i in (omega arith, l.invariant.1, rw (l.invariant.2, add-one l.i), rw (l.invariant.3, add-one l.i))
+loop-i-preserved c = let l = c.loop-i in (l.invariant.0, rw (l.invariant.1, add-one l.i), rw (l.invariant.2, add-one l.i))
 
 pub returns : goal.returns
 unfolding tank_in
@@ -31,6 +31,6 @@ returns c =
     let inside : runs_below hs t + runs_in hs t ≤ length pool = omega (arith, sum_next (runs_in hs) t 8 c.requires.0, c.requires.1, long) in
     let few : runs_in hs t ≤ 514 = omega (arith, inside, long) in
     tank_eq _ (tank_in hs pool c.args.table t) refl refl refl refl
-    (l.invariant.2 ∙ (λ j. stored (λ k. (get_or pool (s j + k) no_run).len) (replicate 514 0) (e j)) ∙ own_stored hs pool t inside (λ (r : Run). r.len) few)
-    (l.invariant.3 ∙ (λ j. stored (λ k. (get_or pool (s j + k) no_run).set) (replicate 514 0) (e j)) ∙ own_stored hs pool t inside (λ (r : Run). r.set) few)
+    (l.invariant.1 ∙ (λ j. stored (λ k. (get_or pool (s j + k) no_run).len) (replicate 514 0) (e j)) ∙ own_stored hs pool t inside (λ (r : Run). r.len) few)
+    (l.invariant.2 ∙ (λ j. stored (λ k. (get_or pool (s j + k) no_run).set) (replicate 514 0) (e j)) ∙ own_stored hs pool t inside (λ (r : Run). r.set) few)
     refl

@@ -8,6 +8,7 @@ use Rattle.tanks.specs.Pool.{runs_in}
 use Rattle.tanks.proofs.LookLaws.{walk_fits}
 use Rattle.tanks.proofs.Closing.{in_begins, in_same, in_new, told_length, told_none, told_all}
 use Rattle.tanks.proofs.stretches.count_in.Goals as goal
+use Rattle.tanks.proofs.stretches.count_in.Goals.{then-bits-one, else-bits-one}
 
 pub start-at-requires : goal.start-at-requires
 start-at-requires c = let p = c.requires.walk in (omega (arith, p.inside), p.room)
@@ -28,19 +29,21 @@ overflow_add-count c =
     let w = c.loop-i.invariant.0.walked in
     omega (arith, c.loop-i.invariant.2, w.within, w.inside, c.part_width-count.ensures, entry_most a.least (max a.from c.loop-i.first) (min a.to c.loop-i.end) (ones c.loop-i.one))
 
-pub loop-i-preserved-then-bits-one : goal.loop-i-preserved-then-bits-one
-loop-i-preserved-then-bits-one c =
-    let a = c.args in
-    let v = c.loop-i.invariant in (
-      in_new c.requires.walk c.start-at.ensures a.own v.0 c.loop-i-test.true c.if-bits-one.true,
-      omega (arith, v.1, c.part_width-count.ensures, told_length v.0 a.least a.from a.to),
-      omega (arith, v.2, c.part_width-count.ensures, entry_most a.least (max a.from c.loop-i.first) (min a.to c.loop-i.end) (ones c.loop-i.one)),
-    )
-
 pub loop-i-preserved : goal.loop-i-preserved
 loop-i-preserved c =
+    let a = c.args in
     let v = c.loop-i.invariant in
-    (in_same c.requires.walk c.start-at.ensures c.args.own v.0 c.loop-i-test.true c.if-bits-one.false, v.1, omega (arith, v.2))
+    elim c.if-bits-one.branch [
+      | then-bits-one w ↦
+          rw (w.first-is, w.one-is, w.count-is) (
+            in_new c.requires.walk c.start-at.ensures a.own v.0 c.loop-i-test.true w.if-bits-one.true,
+            omega (arith, v.1, w.part_width-count.ensures, told_length v.0 a.least a.from a.to),
+            omega (arith, v.2, w.part_width-count.ensures, entry_most a.least (max a.from c.loop-i.first) (min a.to c.loop-i.end) (ones c.loop-i.one)),
+          )
+      | else-bits-one w ↦
+          rw (w.first-is, w.one-is, w.count-is)
+          (in_same c.requires.walk c.start-at.ensures a.own v.0 c.loop-i-test.true w.if-bits-one.false, v.1, omega (arith, v.2))
+    ]
 
 pub overflow_add-result : goal.overflow_add-result
 overflow_add-result c =

@@ -12,6 +12,7 @@ use Rattle.tanks.specs.Masked.{masked_list, CanList}
 use Rattle.tanks.proofs.LookLaws.{walk_fits}
 use Rattle.tanks.proofs.Closing.{In, told_to, in_begins, in_same, in_new, told_more, told_length, told_none, told_within, told_all, placed, kept}
 use Rattle.tanks.proofs.stretches.list_in.Goals as goal
+use Rattle.tanks.proofs.stretches.list_in.Goals.{then-bits-one, else-bits-one}
 
 -- a stretch closed: there is room for its numbers, and they stand behind those told
 module _ {hs : List Head} {pool : List Run} {t at to : ℕ} (can : CanList hs pool t to) (e : at ≡ runs_below hs t) (own least from : ℕ) (out₀ : List ℕ) {out : List ℕ}
@@ -54,19 +55,21 @@ write_part-filled-requires c =
     let v = c.loop-i.invariant in
     room c.requires.0 c.start-at.ensures c.args.own c.args.least c.args.from c.args.out.now c.requires.1 v.0 v.1 v.2
 
-pub loop-i-preserved-then-bits-one : goal.loop-i-preserved-then-bits-one
-loop-i-preserved-then-bits-one c =
-    let a = c.args in
-    let v = c.loop-i.invariant in (
-      in_new c.requires.0.walk c.start-at.ensures a.own v.0 c.loop-i-test.true c.if-bits-one.true,
-      moved c.requires.0 c.start-at.ensures a.own a.least a.from a.out.now c.requires.1 v.0 v.1 v.2 c.write_part-filled.ensures.value,
-      closed c.requires.0 c.start-at.ensures a.own a.least a.from a.out.now c.requires.1 v.0 v.1 v.2 c.write_part-filled.ensures.out_after,
-    )
-
 pub loop-i-preserved : goal.loop-i-preserved
 loop-i-preserved c =
+    let a = c.args in
     let v = c.loop-i.invariant in
-    (in_same c.requires.0.walk c.start-at.ensures c.args.own v.0 c.loop-i-test.true c.if-bits-one.false, v.1, v.2)
+    elim c.if-bits-one.branch [
+      | then-bits-one w ↦
+          rw (w.first-is, w.one-is, w.filled-is, w.out-is) (
+            in_new c.requires.0.walk c.start-at.ensures a.own v.0 c.loop-i-test.true w.if-bits-one.true,
+            moved c.requires.0 c.start-at.ensures a.own a.least a.from a.out.now c.requires.1 v.0 v.1 v.2 w.write_part-filled.ensures.value,
+            closed c.requires.0 c.start-at.ensures a.own a.least a.from a.out.now c.requires.1 v.0 v.1 v.2 w.write_part-filled.ensures.out_after,
+          )
+      | else-bits-one w ↦
+          rw (w.first-is, w.one-is, w.filled-is, w.out-is)
+          (in_same c.requires.0.walk c.start-at.ensures a.own v.0 c.loop-i-test.true w.if-bits-one.false, v.1, v.2)
+    ]
 
 pub write_part-requires : goal.write_part-requires
 write_part-requires c =
