@@ -211,8 +211,7 @@ fn all(
     let mut from = 0;
     let mut to = 0;
     let mut good = true;
-    let mut turns: u64 = 18446744073709551615;
-    while turns > 0 {
+    for _ in 0..u64::MAX {
         let spot = next_part(input, good, buf, from, to, inlet.left);
         let stand = clerk::fresh(inlet, side);
         let e = turn_at(buf, spot, tanks, stand, body, out, &mut good);
@@ -228,7 +227,6 @@ fn all(
         }
         from = spot.end;
         to = spot.to;
-        turns -= 1;
     }
     clerk::standing(tanks, inlet, side, 0, false)
 }

@@ -44,46 +44,26 @@ fn range(s: Tanks, tank: u64, start: u64, end: u64, out: &mut [u64])
     say(b"\n");
 }
 
-fn range_in_3(s: Tanks, tank: u64, start: u64, end: u64)
-    requires { Sound s }
-{
-    let mut out = [7u64; 3];
-    range(s, tank, start, end, &mut out);
-}
-
-fn range_in_11(s: Tanks, tank: u64, start: u64, end: u64)
-    requires { Sound s }
-{
-    let mut out = [7u64; 11];
-    range(s, tank, start, end, &mut out);
-}
-
-fn range_in_12(s: Tanks, tank: u64, start: u64, end: u64)
-    requires { Sound s }
-{
-    let mut out = [7u64; 12];
-    range(s, tank, start, end, &mut out);
-}
-
-fn range_in_16(s: Tanks, tank: u64, start: u64, end: u64)
-    requires { Sound s }
+fn range_in(room: usize, s: Tanks, tank: u64, start: u64, end: u64)
+    requires sound { Sound s }
+    requires room_bound { room ≤ 16 }
 {
     let mut out = [7u64; 16];
-    range(s, tank, start, end, &mut out);
+    range(s, tank, start, end, &mut out[..room]);
 }
 
 // Four stretches of tank 0 take 12 places, the three of tank 2 take 9, one takes 3.
 pub(crate) fn ranges(s: Tanks)
     requires { Sound s }
 {
-    range_in_12(s, 0, 12, 40);
-    range_in_16(s, 0, 12, 40);
-    range_in_11(s, 0, 12, 40);
-    range_in_3(s, 1, 5, 6);
-    range_in_11(s, 2, 2, 6);
-    range_in_3(s, 2, 2, 6);
-    range_in_12(s, 3, 2, 6);
-    range_in_12(s, 8, 12, 40);
+    range_in(12, s, 0, 12, 40);
+    range_in(16, s, 0, 12, 40);
+    range_in(11, s, 0, 12, 40);
+    range_in(3, s, 1, 5, 6);
+    range_in(11, s, 2, 2, 6);
+    range_in(3, s, 2, 2, 6);
+    range_in(12, s, 3, 2, 6);
+    range_in(12, s, 8, 12, 40);
 }
 
 fn say_whole_answer(s: Tanks, tank: u64, room: usize)
@@ -120,37 +100,24 @@ fn whole(s: Tanks, tank: u64, out: &mut [u64])
     say(b"\n");
 }
 
-fn whole_in_3(s: Tanks, tank: u64)
-    requires { Sound s }
+fn whole_in(room: usize, s: Tanks, tank: u64)
+    requires sound { Sound s }
+    requires room_bound { room ≤ 16 }
 {
-    let mut out = [7u64; 3];
-    whole(s, tank, &mut out);
-}
-
-fn whole_in_9(s: Tanks, tank: u64)
-    requires { Sound s }
-{
-    let mut out = [7u64; 9];
-    whole(s, tank, &mut out);
-}
-
-fn whole_in_12(s: Tanks, tank: u64)
-    requires { Sound s }
-{
-    let mut out = [7u64; 12];
-    whole(s, tank, &mut out);
+    let mut out = [7u64; 16];
+    whole(s, tank, &mut out[..room]);
 }
 
 // The marked stretches of tanks 0 and 2 take 9 places, that of tank 1 takes 3, tank 3 has none.
 pub(crate) fn wholes(s: Tanks)
     requires { Sound s }
 {
-    whole_in_9(s, 0);
-    whole_in_12(s, 0);
-    whole_in_3(s, 0);
-    whole_in_3(s, 1);
-    whole_in_12(s, 1);
-    whole_in_9(s, 2);
-    whole_in_3(s, 3);
-    whole_in_12(s, 8);
+    whole_in(9, s, 0);
+    whole_in(12, s, 0);
+    whole_in(3, s, 0);
+    whole_in(3, s, 1);
+    whole_in(12, s, 1);
+    whole_in(9, s, 2);
+    whole_in(3, s, 3);
+    whole_in(12, s, 8);
 }
