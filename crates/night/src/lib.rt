@@ -99,11 +99,11 @@ pub struct Plan {
     pub ranges: [Range; 32],
 }
 
-// What applying a plan hands back: 0 or the refusal's number, and the next state.
+// What applying a plan hands back: the next state, and 0 or the refusal's number. (The state first: a copy of it is quicker where it begins at a multiple of 64.)
 #[derive(Clone, Copy)]
 pub struct Applied {
-    pub number: u64,
     pub tanks: Tanks,
+    pub number: u64,
 }
 
 // The ranges of a plan deleted, the last first, so that each is still in the numbering before the first deletion.

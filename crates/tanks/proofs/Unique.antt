@@ -15,6 +15,7 @@ use Rattle.styles.specs.declared.Identity.{Identity}
 use Rattle.styles.specs.declared.Party.{Party}
 use Rattle.styles.specs.declared.Styles.{Styles}
 use Rattle.styles.specs.Answers.{styles_of}
+use Rattle.styles.specs.Bits.{pick}
 use Rattle.styles.proofs.AnswerLaws.{styles_inj}
 use Rattle.styles.proofs.SameLaws.{pick_inj}
 use Rattle.tank.specs.Rules.{fresh_view, Edit, inserting, removing}
@@ -22,13 +23,17 @@ use Rattle.tank.proofs.Unique.{same_tank}
 use Rattle.std.specs.Prelude.{Result, []}
 use Rattle.refusal.specs.declared.Refusal.{Refusal}
 use Rattle.refusal.specs.Answers.{number_in, given_or}
-use Rattle.refusal.proofs.NumberLaws.{one_answer}
+use Rattle.refusal.proofs.NumberLaws.{one_answer, positive}
+use Rattle.refusal.proofs.NumberLaws as refusals
 use Rattle.tanks.specs.declared.Tanks.{Tanks}
 use Rattle.tanks.specs.declared.Opened.{Opened}
+use Rattle.tanks.specs.declared.Done.{Done}
+use Rattle.tanks.specs.declared.Shown.{Shown}
+use Rattle.tanks.specs.declared.Parts.{Parts}
 use Rattle.tanks.specs.declared.Table.{Table}
 use Rattle.tanks.specs.House.{House, inserted_set_at, removed_first_at}
 use Rattle.tanks.specs.Pool.{no_head, no_run, no_table, runs_in, runs_below, tank_in, tank_of, head_of, table_in, meaning, Sound}
-use Rattle.tanks.specs.Promises.{Parting, Coming, Opens, CalledAt, place_of, PartsOfSome, done_with, EditsParts, DoneAt, Taken}
+use Rattle.tanks.specs.Promises.{Parting, Coming, coming_to, coming_by, Fits, AppliedAt, parted, Opens, CalledAt, place_of, PartsOfSome, done_with, EditsParts, DoneAt, Taken}
 use Rattle.tanks.proofs.SliceLaws.{array_at}
 use Rattle.tanks.proofs.MeaningLaws.{tank_at_lem}
 use Rattle.tanks.proofs.CallLaws.{after_refused}
@@ -135,33 +140,108 @@ pub one_remove : (s : Tanks) (t : ℕ) (id : Identity) (last : ℕ) (r r' : Resu
     → CalledAt s t (removing id last) (number_in r') x' → given_or 0 r' ≡ removed_first_at (meaning s) t id last → (r ≡ r') × (x ≡ x')
 one_remove s t id last r r' x x' p a q b = (one_answer 0 r r' (one_number p q) (a ∙ sym b), one_next p q)
 
--- whichever edit it is
-pub one_done : (s : Tanks) (t : ℕ) (e : Edit) (r r' : Coming) → DoneAt s t e r → DoneAt s t e r' → r ≡ r'
-one_done s t e r r' p q =
+-- what whichever edit comes to
+pub one_coming : (s : Tanks) (t : ℕ) (e : Edit) (r r' : Coming) → DoneAt s t e r → DoneAt s t e r' → r ≡ r'
+one_coming s t e r r' p q =
     let f = p.styles_are ∙ sym q.styles_are in
     let g = p.first_is ∙ sym q.first_is in
     λ i. record { number = one_number p.called q.called i; styles = f i; first = g i; tanks = one_next p.called q.called i }
 
--- the parts that an edit leaves
-pub one_parts : (t : ℕ) (e : Edit) (st : List Setting) (hs : List Head) (pool : List Run) (table : Table) (p q : Parting) → PartsOfSome (place_of t) st hs pool table
+-- what stands for an accepted edit's answer beside a refusal
+done_none : Done
+done_none = record { styles = styles_of []; first = 0 }
+
+coming_number : (x : Tanks) (r : Result Done Refusal) → (coming_to x r).number ≡ number_in r
+coming_number x (Result.Ok d) = refl
+coming_number x (Result.Err f) = refl
+
+coming_next : (x : Tanks) (r : Result Done Refusal) → (coming_to x r).tanks ≡ x
+coming_next x (Result.Ok d) = refl
+coming_next x (Result.Err f) = refl
+
+coming_done : (x : Tanks) (r : Result Done Refusal) → given_or done_none r ≡ record { styles = (coming_to x r).styles; first = (coming_to x r).first }
+unfolding done_none
+coming_done x (Result.Ok d) = refl
+coming_done x (Result.Err f) = refl
+
+-- what the code answers of whichever edit
+pub one_done : (s : Tanks) (t : ℕ) (e : Edit) (r r' : Result Done Refusal) (x x' : Tanks) → DoneAt s t e (coming_to x r) → DoneAt s t e (coming_to x' r') → (r ≡ r') × (x ≡ x')
+one_done s t e r r' x x' p q =
+    let c = one_coming s t e (coming_to x r) (coming_to x' r') p q in
+    let number = sym (coming_number x r) ∙ ap (λ (z : Coming). z.number) c ∙ coming_number x' r' in
+    let gives = coming_done x r ∙ ap given c ∙ sym (coming_done x' r') in
+    (one_answer done_none r r' number gives, sym (coming_next x r) ∙ ap (λ (z : Coming). z.tanks) c ∙ coming_next x' r')
+  where
+    given : Coming → Done
+    given z = record { styles = z.styles; first = z.first }
+
+-- the marks that two bits pick of a tank's table
+module _ {s : Tanks} {u : ℕ} (sound : Sound s) (h : u < 8) where
+  bits_inj : (a b : ℕ) → a < 2 ^ (get_or s.heads u no_head).marks → b < 2 ^ (get_or s.heads u no_head).marks
+      → styles_of (pick (take (get_or s.heads u no_head).marks (get_or s.tables u no_table).marks) a) ≡ styles_of (pick (take (get_or s.heads u no_head).marks (get_or s.tables u no_table).marks) b) → a ≡ b
+  unfolding tank_of tank_in
+  bits_inj a b f g e =
+      let own = (sound.each u h).laid in
+      let n = (get_or s.heads u no_head).marks in
+      let ms = take n (get_or s.tables u no_table).marks in
+      let long : length ms ≡ n = omega (arith, length-take n (get_or s.tables u no_table).marks, own.few, own.table_64) in
+      pick_inj ms a b own.sorted (rw long f) (rw long g) (styles_inj _ _ e)
+
+-- the same with the set by its bits
+pub one_applied : (s : Tanks) (t : ℕ) (e : Edit) (r r' : Result Shown Refusal) (x x' : Tanks) → Sound s → AppliedAt s t e x r → AppliedAt s t e x' r' → (r ≡ r') × (x ≡ x')
+one_applied s t e r r' x x' sound p q =
+    let c = one_coming s t e (coming_by s t x r) (coming_by s t x' r') p.done q.done in
+    (alike r r' p.fits q.fits c, sym (next_by x r) ∙ ap (λ (z : Coming). z.tanks) c ∙ next_by x' r')
+  where
+    next_by : (y : Tanks) (a : Result Shown Refusal) → (coming_by s t y a).tanks ≡ y
+    next_by y (Result.Ok d) = refl
+    next_by y (Result.Err f) = refl
+
+    alike : (a b : Result Shown Refusal) → Fits s t a → Fits s t b → coming_by s t x a ≡ coming_by s t x' b → a ≡ b
+    alike (Result.Ok a) (Result.Ok b) f g c =
+        let bits = bits_inj {s = s} {u = place_of t} sound (place_below t) a.bits b.bits f g (ap (λ (z : Coming). z.styles) c) in
+        let first = ap (λ (z : Coming). z.first) c in
+        ap Result.Ok (λ i. record { bits = bits i; first = first i })
+    alike (Result.Ok a) (Result.Err b) f g c = let n = ap (λ (z : Coming). z.number) c in absurd (omega (arith, n, positive b))
+    alike (Result.Err a) (Result.Ok b) f g c = let n = ap (λ (z : Coming). z.number) c in absurd (omega (arith, n, positive a))
+    alike (Result.Err a) (Result.Err b) f g c = ap Result.Err (refusals.one_number a b (ap (λ (z : Coming). z.number) c))
+
+-- what an edit makes of the parts
+pub one_parting : (t : ℕ) (e : Edit) (st : List Setting) (hs : List Head) (pool : List Run) (table : Table) (p q : Parting) → PartsOfSome (place_of t) st hs pool table
     → EditsParts st hs pool table t e p → EditsParts st hs pool table t e q → p ≡ q
-unfolding tank_of tank_in
-one_parts t e st hs pool table p q some l r =
+one_parting t e st hs pool table p q some l r =
     let s = some.state in
     let u = place_of t in
     let h : u < 8 = place_below t in
-    let d = one_done s t e (done_with s u p) (done_with s u q) (l.done s some.sound some.parts) (r.done s some.sound some.parts) in
+    let d = one_coming s t e (done_with s u p) (done_with s u q) (l.done s some.sound some.parts) (r.done s some.sound some.parts) in
     let a = ap (λ (x : Coming). get_or x.tanks.heads u no_head) d in
     let b = ap (λ (x : Coming). get_or x.tanks.tables u no_table) d in
     let head = sym (get_or-set_same s.heads u p.head no_head (omega (arith, some.sound.heads_8))) ∙ a ∙ get_or-set_same s.heads u q.head no_head (omega (arith, some.sound.heads_8)) in
     let marks = sym (get_or-set_same s.tables u p.table no_table (omega (arith, some.sound.tables_8))) ∙ b ∙ get_or-set_same s.tables u q.table no_table (omega (arith, some.sound.tables_8)) in
-    let own = (some.sound.each u h).laid in
-    let n = (get_or s.heads u no_head).marks in
-    let ms = take n (get_or s.tables u no_table).marks in
-    let long : length ms ≡ n = omega (arith, length-take n (get_or s.tables u no_table).marks, own.few, own.table_64) in
-    let small : (x : ℕ) → x < 2 ^ (get_or hs u no_head).marks → x < 2 ^ length ms = λ x b. rw (long, some.parts.heads_are) b in
-    let shown = pick_inj ms p.shown q.shown own.sorted (small p.shown l.fits) (small q.shown r.fits) (styles_inj _ _ (ap (λ (x : Coming). x.styles) d)) in
+    let small : (x : ℕ) → x < 2 ^ (get_or hs u no_head).marks → x < 2 ^ (get_or s.heads u no_head).marks = λ x b. rw some.parts.heads_are b in
+    let shown = bits_inj {s = s} {u = u} some.sound h p.shown q.shown (small p.shown l.fits) (small q.shown r.fits) (ap (λ (x : Coming). x.styles) d) in
     λ i. record { pool = (d i).tanks.pool; table = marks i; head = head i; number = (d i).number; shown = shown i; first = (d i).first }
+
+-- the parts that the code answers an edit with
+pub one_parts : (t : ℕ) (e : Edit) (st : List Setting) (hs : List Head) (pool : List Run) (table : Table) (p q : Result Parts Refusal) → PartsOfSome (place_of t) st hs pool table
+    → EditsParts st hs pool table t e (parted hs pool table t p) → EditsParts st hs pool table t e (parted hs pool table t q) → p ≡ q
+one_parts t e st hs pool table p q some l r =
+    let c = one_parting t e st hs pool table (parted hs pool table t p) (parted hs pool table t q) some l r in
+    one_answer none p q (sym (numbered p) ∙ ap (λ (z : Parting). z.number) c ∙ numbered q) (leaves p ∙ ap left c ∙ sym (leaves q))
+  where
+    left : Parting → Parts
+    left z = record { pool = z.pool; head = z.head; first = z.first; shown = z.shown; table = z.table }
+
+    none : Parts
+    none = record { pool = pool; head = get_or hs (place_of t) no_head; first = 0; shown = 0; table = table }
+
+    numbered : (a : Result Parts Refusal) → (parted hs pool table t a).number ≡ number_in a
+    numbered (Result.Ok x) = refl
+    numbered (Result.Err f) = refl
+
+    leaves : (a : Result Parts Refusal) → given_or none a ≡ left (parted hs pool table t a)
+    leaves (Result.Ok x) = refl
+    leaves (Result.Err f) = refl
 
 -- a tank taken out
 pub one_taken : (s : Tanks) (t : ℕ) (x x' : Tank) → Taken s t x → Taken s t x' → x ≡ x'

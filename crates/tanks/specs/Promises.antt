@@ -116,7 +116,7 @@ pub record AppliedAt (s : Tanks) (t : ℕ) (e : Edit) (next : Tanks) (r : Result
   pub done : DoneAt s t e (coming_by s t next r)
   pub fits : Fits s t r
 
--- ---- edit_parts, which log and clerk call on the parts of the state that they hold
+-- ---- edit_parts, which `apply` calls on the parts of the state
 -- the parts of a state that an edit with a head and a table at place u has to do with
 pub record PartsOf (s : Tanks) (u : ℕ) (st : List Setting) (hs : List Head) (pool : List Run) (table : Table) : Type 0 where
   pub settings_are : s.settings ≡ st

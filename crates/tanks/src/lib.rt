@@ -78,7 +78,7 @@ pub struct Table {
 }
 
 // In the pool stand the runs of tank 0, then those of tank 1, and so on, and blanks behind them. A crate above reads it where a call for each run
-// would copy the pool each time, and writes what `edit_parts` hands back to where it was read; the rest it asks for.
+// would copy the pool each time; the rest it asks for, and edits by `apply`.
 #[derive(Clone, Copy)]
 pub struct Tanks {
     pub settings: [Setting; 8],

@@ -1,5 +1,4 @@
 -- The edit's parts are taken out of the state and put back.
-use mathlib.Core.Path.{ap}
 use Rattle.std.proofs.lemmas.Result.{err_from_is_err_and}
 use Rattle.tanks.specs.Promises.{edit_of}
 use Rattle.tanks.proofs.PartsLaws.{parts_some, parts_applied, parts_kept}
