@@ -1,8 +1,8 @@
 // Bodies between the lines: behind some calls come as many bytes as their line says, whatever they are.
-ghost use Rattle.std.specs.Prelude.{◌≡◌, ◌+◌, ◌≤◌, ◌<◌, length};
+ghost use Rattle.std.specs.Prelude.{◌≡◌, cond, ◌+◌, ◌≤◌, ◌<◌, eqb, length};
 ghost use Rattle.script.specs.Grammar.{most_body};
 ghost use Rattle.script.specs.Reading.{fresh_of};
-ghost use Rattle.script.specs.Lines.{reader_at, state_of};
+ghost use Rattle.script.specs.Lines.{reader_at, state_of, counted_of};
 ghost use Rattle.script.specs.Bodies.{body_of, counted_in, ending_in, Fits, resting, end_taken, part_taken, Takes};
 
 use super::lines::{begin, counted, ended, feed, least};
@@ -114,15 +114,23 @@ fn after_part(reader: Reader, call: Call, have: usize, left: usize, at: usize) -
     in_body(reader, call, have, left, at)
 }
 
+// A newline counts.
+fn counted_byte(n: u64, byte: u8) -> u64
+    ensures { result ≡ cond (eqb byte 10) (counted_of n) n }
+{
+    if byte == b'\n' {
+        return counted(n);
+    }
+    n
+}
+
 // The newlines of a part of a body, counted on from n.
 fn counted_in(n: u64, part: &[u8]) -> u64
     ensures { result ≡ counted_in n part.now }
 {
     let mut count = n;
     for byte in part {
-        if *byte == b'\n' {
-            count = counted(count);
-        }
+        count = counted_byte(count, *byte);
     }
     count
 }

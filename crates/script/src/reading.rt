@@ -25,7 +25,8 @@ pub fn value_in<'a>(f: u8, line: &'a [u8]) -> Option<&'a [u8]>
     ensures { MatchOption result (NoValue (field_of f) line.now) (λ t. HasValue (field_of f) line.now t.now) }
 {
     let k = value_start(f, line)?;
-    Some(&line[k..])
+    let value = &line[k..];
+    Some(value)
 }
 
 // A number that is at most so much.

@@ -1,4 +1,4 @@
--- Option ℤ numbers as text: a minus in front of a decimal that is not 0.
+-- Signed numbers as text: a minus in front of a decimal that is not 0.
 use Rattle.std.specs.Prelude.{List, ◌∷◌, cond, ℕ, suc, ◌-◌, ◌^◌, ltb, eqb, ℤ, pos, negsuc, get_or, drop, Option, Some, None}
 use Rattle.text.specs.Number.{decimal_of, decimal_text}
 

@@ -6,11 +6,9 @@ use native.Mathlib.Omega.{arith}
 use lib.Dec.{eqb}
 use lib.ListN.{length, drop, get_or, drop_of_length-le}
 use lib.Seq.{drop-cons}
-use borrow.Author.Tests.{eq-eqb, ne_eqb}
 use Rattle.script.specs.Lines.{counted_of}
 use Rattle.script.specs.Bodies.{counted_in}
 use Rattle.script.proofs.bodies.counted_in.Goals as goal
-use Rattle.script.proofs.bodies.counted_in.Goals.{then-byte-eq10, else-byte-eq10}
 
 -- one byte more
 one_more : (part : List ℕ) (i n k : ℕ) → i < length part → k ≡ cond (eqb (get_or part i 0) 10) (counted_of n) n → counted_in n (drop i part) ≡ counted_in k (drop (i + 1) part)
@@ -27,12 +25,7 @@ all-counted part i n h = ap (counted_in n) (drop_of_length-le part {i = i} h)
 pub loop-byte-preserved : goal.loop-byte-preserved
 loop-byte-preserved c =
     let w = c.loop-byte in
-    let n : c.if-byte-eq10.count ≡ cond (eqb (get_or c.args.part.now w.byte-index 0) 10) (counted_of w.count) w.count =
-    elim c.if-byte-eq10.branch [
-      | then-byte-eq10 b ↦ rw (eq-eqb _ _ b.if-byte-eq10.true) (b.count-is ∙ b.counted-count.ensures)
-      | else-byte-eq10 b ↦ rw (ne_eqb _ _ b.if-byte-eq10.false) b.count-is
-    ] in
-    w.invariant ∙ one_more c.args.part.now w.byte-index w.count _ c.loop-byte-test.true n
+    w.invariant ∙ one_more c.args.part.now w.byte-index w.count _ c.loop-byte-test.true c.counted_byte-count.ensures
 
 pub returns : goal.returns
 returns c = let w = c.loop-byte in sym (w.invariant ∙ all-counted c.args.part.now w.byte-index w.count c.loop-byte-test.false)
